@@ -1,0 +1,49 @@
+-- Decisions.
+use Rattle.std.proofs.Common.{◌≡◌, ◌⊎◌, ℕ, zero, suc, ◌<◌, List, [], ◌∷◌, inl, inr, subst, sym, arith}
+use Rattle.std.specs.List.{AllByRecursion}
+use native.Mathlib.Decide.{ℕ_discrete}
+
+-- of facts that say the same
+pub dec_map : {A B : Type 0} → (A → B) → (B → A) → Dec A → Dec B
+dec_map f g (yes a) = yes (f a)
+dec_map f g (no n) = no (λ b. n (g b))
+
+-- of two facts
+pub dec_and : {A B : Type 0} → Dec A → Dec B → Dec (A × B)
+dec_and (yes a) (yes b) = yes (a, b)
+dec_and (yes a) (no n) = no (λ h. n h.1)
+dec_and (no n) d = no (λ h. n h.0)
+
+-- of one of two facts
+pub dec_or : {A B : Type 0} → Dec A → Dec B → Dec (A ⊎ B)
+dec_or (yes a) d = yes (inl a)
+dec_or (no n) (yes b) = yes (inr b)
+dec_or {A} {B} (no n) (no m) = no neither
+  where
+    neither : A ⊎ B → ⊥
+    neither (inl a) = n a
+    neither (inr b) = m b
+
+-- of a denial
+pub dec_not : {A : Type 0} → Dec A → Dec (¬ A)
+dec_not (yes a) = no (λ n. n a)
+dec_not (no n) = yes n
+
+-- P for each number below n
+pub dec_below : (P : ℕ → Type 0) → ((k : ℕ) → Dec (P k)) → (n : ℕ) → Dec ((k : ℕ) → k < n → P k)
+dec_below P d zero = yes (λ k h. absurd (omega (arith, h)))
+dec_below P d (suc n) = go (d n) (dec_below P d n)
+  where
+    go : Dec (P n) → Dec ((k : ℕ) → k < n → P k) → Dec ((k : ℕ) → k < suc n → P k)
+    go (no m) r = no (λ f. m (f n (omega arith)))
+    go (yes p) (no m) = no (λ f. m (λ k h. f k (omega (arith, h))))
+    go (yes p) (yes f) = yes (λ k h. at_k k h (ℕ_discrete k n))
+      where
+        at_k : (k : ℕ) → k < suc n → Dec (k ≡ n) → P k
+        at_k k h (yes e) = subst P (sym e) p
+        at_k k h (no e) = f k (omega (arith, h, e))
+
+-- P for each element
+pub dec_all : {X : Type 0} (P : X → Type 0) → ((x : X) → Dec (P x)) → (xs : List X) → Dec (AllByRecursion P xs)
+dec_all P d [] = yes tt
+dec_all P d (x ∷ xs) = dec_and (d x) (dec_all P d xs)

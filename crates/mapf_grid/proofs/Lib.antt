@@ -1,0 +1,24 @@
+mod Neighbours
+pub mod Orders
+pub mod Decide
+pub mod Steps
+pub mod Lists
+mod LineCuts
+mod DigitSteps
+mod Parting
+mod RowCuts
+mod RowFaults
+mod BlankEnds
+mod FileFaults
+mod AgentRows
+mod AgentFaults
+mod InstanceOnly
+mod MapFaultOrder
+mod MapFileSteps
+mod RowCells
+mod MapFileLaws
+mod RowNames
+mod MapFaultRanks
+mod ScenFaultRanks
+mod InstanceFaultRanks
+pub mod Unique

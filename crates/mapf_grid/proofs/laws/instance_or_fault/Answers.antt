@@ -1,0 +1,5 @@
+use Rattle.mapf_grid.proofs.Unique.{instance_or_fault}
+use Rattle.mapf_grid.proofs.laws.instance_or_fault.Goals as goal
+
+pub returns : goal.returns
+returns c = instance_or_fault

@@ -1,0 +1,5 @@
+use Rattle.mapf_grid.proofs.Unique.{one_map}
+use Rattle.mapf_grid.proofs.laws.one_map.Goals as goal
+
+pub returns : goal.returns
+returns c = one_map

@@ -1,0 +1,13 @@
+pub mod Least
+pub mod Grid
+pub mod Sides
+pub mod Lines
+pub mod Cuts
+pub mod MapFile
+pub mod MapReading
+pub mod ScenarioFile
+pub mod RowFields
+pub mod Instance
+pub mod NewAgent
+pub mod InstanceLaws
+pub mod Unique

@@ -1,0 +1,19 @@
+//! Maps, scenarios and instances in the MovingAI formats.
+#![tactic(auto)]
+
+mod bytes;
+mod cell;
+mod fault;
+mod instance;
+pub mod laws;
+mod lines;
+mod map;
+mod scenario;
+mod words;
+
+pub use bytes::Bytes;
+pub use cell::Cell;
+pub use fault::{InstanceFault, MapFault, NoMemory, ScenFault};
+pub use instance::Instance;
+pub use map::Map;
+pub use scenario::{Row, Scenario};

@@ -1,0 +1,156 @@
+ghost use Rattle.std.specs.Prelude.{◌≡◌, ◌≢◌, ℕ, ◌+◌, ◌*◌, ◌/◌, ◌%◌, ◌<◌, ◌≤◌, ◌↔◌, [], IsTrue, Some, SomeIff, Contains};
+ghost use Rattle.std.specs.List.Sorted.{IsStrictlyIncreasing};
+ghost use Rattle.smallvec.specs.SmallVec.{HasRoomFor};
+
+mod header;
+mod reader;
+#[cfg(test)]
+mod tests;
+
+use crate::Cell;
+use smallvec::SmallVec;
+use std::marker::Model;
+
+/// A map of the MovingAI format: which cells of a grid are free.
+#[derive(Drop)]
+pub struct Map {
+    width: u32,
+    height: u32,
+    free: Vec<bool>,
+}
+
+impl Model for Map {
+    ghost use Rattle.mapf_grid.specs.Grid.{Grid, HasSizes};
+
+    ghost Value = { Grid };
+
+    ghost view = { λ m. record { width = m.width; height = m.height; free = m.free.items } };
+
+    ghost invariant = { λ m. HasSizes (record { width = m.width; height = m.height; free = m.free.items }) };
+}
+
+impl Map {
+    ghost use Rattle.mapf_grid.specs.Grid.{Grid, cells, IsFree, IsBeside, Next, HasSizes};
+    ghost use Rattle.mapf_grid.specs.Sides.{Offers};
+
+    /// How many columns there are: 1 to 2,048.
+    pub fn width(&self) -> u32
+        ensures width { result ≡ self.now.width }
+        ensures sizes { HasSizes self.now }
+    {
+        self.width
+    }
+
+    /// How many rows there are: 1 to 2,048.
+    pub fn height(&self) -> u32
+        ensures height { result ≡ self.now.height }
+        ensures sizes { HasSizes self.now }
+    {
+        self.height
+    }
+
+    /// The cell in column `x` of row `y`, from 0, the upper left cell being 0,0; none outside the map.
+    pub fn cell(&self, x: u32, y: u32) -> Option<Cell>
+        ensures { SomeIff result ((x < self.now.width) × (y < self.now.height)) (y * self.now.width + x) }
+    {
+        if x < self.width && y < self.height {
+            Some(Cell::of(y * self.width + x))
+        } else {
+            None
+        }
+    }
+
+    /// The column and the row of a cell of the map, from 0.
+    pub fn xy(&self, cell: Cell) -> (u32, u32)
+        requires { cell < cells self.now }
+        ensures column { result.0 ≡ cell % self.now.width }
+        ensures row { result.1 ≡ cell / self.now.width }
+        ensures inside { (result.0 < self.now.width) × (result.1 < self.now.height) }
+    {
+        let number = cell.number();
+        (number % self.width, number / self.width)
+    }
+
+    /// Whether an agent may stand on this cell: never on a number outside the map.
+    pub fn is_free(&self, cell: Cell) -> bool
+        ensures { IsTrue result ↔ IsFree self.now cell }
+    {
+        self.free
+            .get(cell.number() as usize)
+            .copied()
+            .unwrap_or(false)
+    }
+
+    /// The free cells at the four sides of a cell of the map, numbers rising. No memory is taken.
+    pub fn neighbours(&self, cell: Cell) -> SmallVec<Cell, 4>
+        requires { cell < cells self.now }
+        ensures sides { (v : ℕ) → Contains result.items v ↔ (IsFree self.now v × IsBeside self.now cell v) }
+        ensures steps { IsFree self.now cell → (v : ℕ) → Contains result.items v ↔ (Next self.now cell v × (cell ≢ v)) }
+        ensures rising { IsStrictlyIncreasing result.items }
+    {
+        let mut sides = SmallVec::new(*self.free.allocator());
+        self.offer(self.above(cell), &mut sides);
+        self.offer(self.at_left(cell), &mut sides);
+        self.offer(self.at_right(cell), &mut sides);
+        self.offer(self.below(cell), &mut sides);
+        sides
+    }
+
+    /// The cell above, where there is one.
+    fn above(&self, cell: Cell) -> Option<Cell>
+        ensures { (v : ℕ) → (result ≡ Some v) ↔ (cell ≡ v + self.now.width) }
+    {
+        let number = cell.number();
+        if self.width <= number {
+            Some(Cell::of(number - self.width))
+        } else {
+            None
+        }
+    }
+
+    /// The cell at the left in the same row, where there is one.
+    fn at_left(&self, cell: Cell) -> Option<Cell>
+        ensures { (v : ℕ) → (result ≡ Some v) ↔ ((cell ≡ v + 1) × (cell / self.now.width ≡ v / self.now.width)) }
+    {
+        let number = cell.number();
+        if 0 < number % self.width {
+            Some(Cell::of(number - 1))
+        } else {
+            None
+        }
+    }
+
+    /// The cell at the right in the same row, where there is one.
+    fn at_right(&self, cell: Cell) -> Option<Cell>
+        requires { cell < cells self.now }
+        ensures { (v : ℕ) → (result ≡ Some v) ↔ ((v ≡ cell + 1) × (v / self.now.width ≡ cell / self.now.width)) }
+    {
+        let number = cell.number();
+        if number % self.width + 1 < self.width {
+            Some(Cell::of(number + 1))
+        } else {
+            None
+        }
+    }
+
+    /// The number of the cell below, which may lie outside the map.
+    fn below(&self, cell: Cell) -> Option<Cell>
+        requires { cell < cells self.now }
+        ensures { (v : ℕ) → (result ≡ Some v) ↔ (v ≡ cell + self.now.width) }
+    {
+        Some(Cell::of(cell.number() + self.width))
+    }
+
+    /// Adds a cell to the list, if there is one and it is free.
+    fn offer(&self, side: Option<Cell>, sides: &mut SmallVec<Cell, 4>)
+        requires { HasRoomFor sides.old 1 }
+        ensures offers { Offers self.now side sides.old.items sides.new.items }
+        ensures capacity { sides.new.capacity ≡ sides.old.capacity }
+    {
+        if let Some(cell) = side {
+            if self.is_free(cell) {
+                sides.push_reserved(cell);
+            }
+        }
+    }
+}
