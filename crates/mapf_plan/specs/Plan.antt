@@ -1,0 +1,51 @@
+-- Plans and their conflicts (Stern et al. 2019: vertex and swapping conflicts are forbidden, sum of costs).
+use Rattle.std.specs.Prelude.{◌≡◌, ◌≢◌, ℕ, ◌-◌, ◌<◌, ◌≤◌, List, [], ◌∷◌, length, slice_index, slice_index_or, sum_by}
+use Rattle.mapf_grid.specs.Instance.{Instance}
+use Rattle.mapf_grid.specs.Least.{IsLeast}
+use Rattle.mapf_plan.specs.Path.{cost, at, IsPath}
+use Rattle.mapf_plan.specs.declared.conflict.Conflict.{Conflict}
+use Rattle.mapf_plan.specs.declared.conflict.Conflict.TheVariants.{Vertex, Swapping}
+
+abbrev pub path_of : List (List ℕ) → ℕ → List ℕ
+path_of plan i = slice_index_or plan i []
+
+-- where agent i is at a time
+abbrev pub place : List (List ℕ) → ℕ → ℕ → ℕ
+place plan i t = at (path_of plan i) t
+
+abbrev pub IsConflict : List (List ℕ) → Conflict → Type 0
+IsConflict plan (Vertex i j v t) =
+    (i < j) × (j < length plan) × (place plan i t ≡ v) × (place plan j t ≡ v)
+IsConflict plan (Swapping i j u v t) =
+    (i < j) × (j < length plan) × (0 < t) × (u ≢ v)
+    × (place plan i (t - 1) ≡ u) × (place plan i t ≡ v)
+    × (place plan j (t - 1) ≡ v) × (place plan j t ≡ u)
+
+-- by time, vertex before swapping, smaller agent, larger agent
+abbrev pub conflict_rank : Conflict → List ℕ
+conflict_rank (Vertex i j v t) = t ∷ 0 ∷ i ∷ j ∷ []
+conflict_rank (Swapping i j u v t) = t ∷ 1 ∷ i ∷ j ∷ []
+
+-- the conflict that a node of the search branches on
+abbrev pub IsFirstConflict : List (List ℕ) → Conflict → Type 0
+IsFirstConflict plan c = IsLeast conflict_rank (IsConflict plan) c
+
+abbrev pub HasNoConflict : List (List ℕ) → Type 0
+HasNoConflict plan = (c : Conflict) → ¬ IsConflict plan c
+
+-- the sum of costs
+abbrev pub plan_cost : List (List ℕ) → ℕ
+plan_cost plan = sum_by cost plan
+
+-- one path for each agent, and no conflict at any time
+pub record IsValid (inst : Instance) (plan : List (List ℕ)) : Type 0 where
+  pub agents : length plan ≡ length inst.starts
+  pub paths : (i : ℕ) → i < length inst.starts →
+      IsPath inst.grid (slice_index inst.starts i) (slice_index inst.goals i) (path_of plan i)
+  pub apart : HasNoConflict plan
+
+-- a valid plan within the bound that costs least of all valid plans
+pub record IsOptimum (inst : Instance) (bound : ℕ) (plan : List (List ℕ)) : Type 0 where
+  pub valid : IsValid inst plan
+  pub within : plan_cost plan ≤ bound
+  pub least : (other : List (List ℕ)) → IsValid inst other → plan_cost plan ≤ plan_cost other

@@ -1,0 +1,10 @@
+use crate::Plan;
+
+/// What a planner answers.
+#[derive(Debug, Drop)]
+pub enum Answer {
+    /// A plan, and the sum of costs that is stated with it: at most 1,000,000,000.
+    Plan { plan: Plan, stated: u64 },
+    /// There is no plan that costs at most this bound, which is at most 1,000,000.
+    None { bound: u32 },
+}

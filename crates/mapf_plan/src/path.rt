@@ -1,0 +1,63 @@
+ghost use Rattle.std.specs.Prelude.{◌≡◌, ◌<◌, ◌≤◌, length};
+ghost use Rattle.mapf_plan.specs.Path.{at, cost};
+
+mod copy;
+
+use mapf_grid::Cell;
+use std::marker::Model;
+
+/// One agent's cells at the time steps 0, 1, 2 and so on: at least one, at most 1,000,001.
+#[derive(Debug, Drop)]
+pub struct Path {
+    cells: Vec<Cell>,
+}
+
+impl Model for Path {
+    ghost use Rattle.std.specs.Prelude.{ℕ, List, ◌<◌, ◌≤◌, length};
+
+    ghost Value = { List ℕ };
+
+    ghost view = { λ p. p.cells.items };
+
+    ghost invariant = { λ p. (0 < length p.cells.items) × (length p.cells.items ≤ 1000001) };
+}
+
+impl Path {
+    /// The path over these cells.
+    pub fn of(cells: Vec<Cell>) -> Self
+        requires some { 0 < length cells.items }
+        requires few { length cells.items ≤ 1000001 }
+        ensures { result ≡ cells.items }
+    {
+        Path { cells }
+    }
+
+    /// The cells, in order of time.
+    pub fn cells(&self) -> &[Cell]
+        ensures cells { result.now ≡ self.now }
+        ensures some { 0 < length self.now }
+        ensures few { length self.now ≤ 1000001 }
+    {
+        self.cells.as_slice()
+    }
+
+    /// The number of steps, waits among them: the number of cells less one.
+    pub fn cost(&self) -> u32
+        ensures cost { result ≡ cost self.now }
+        ensures small { result ≤ 1000000 }
+    {
+        (self.cells.len() - 1) as u32
+    }
+
+    /// Where the agent is at a time step: it stays on the last cell.
+    pub fn at(&self, time: u32) -> Cell
+        ensures { result ≡ at self.now time }
+    {
+        let place = time as usize;
+        if place < self.cells.len() {
+            self.cells[place]
+        } else {
+            self.cells[self.cells.len() - 1]
+        }
+    }
+}

@@ -1,0 +1,65 @@
+ghost use Rattle.std.specs.Prelude.{◌≡◌, ◌<◌, ◌≤◌, length, map};
+ghost use Rattle.mapf_plan.specs.Plan.{place, plan_cost};
+
+mod copy;
+mod first_conflict;
+
+use crate::Path;
+use mapf_grid::Cell;
+use std::marker::Model;
+
+/// One path for each agent, agent 0 first: at least one, at most 1,000.
+#[derive(Debug, Drop)]
+pub struct Plan {
+    paths: Vec<Path>,
+}
+
+impl Model for Plan {
+    ghost use Rattle.std.specs.Prelude.{ℕ, List, ◌<◌, ◌≤◌, length};
+
+    ghost Value = { List (List ℕ) };
+
+    ghost view = { λ p. p.paths.items };
+
+    ghost invariant = { λ p. (0 < length p.paths.items) × (length p.paths.items ≤ 1000) };
+}
+
+impl Plan {
+    /// The plan of these paths.
+    pub fn of(paths: Vec<Path>) -> Self
+        requires some { 0 < length paths.items }
+        requires few { length paths.items ≤ 1000 }
+        ensures { result ≡ paths.items }
+    {
+        Plan { paths }
+    }
+
+    /// The agents' paths, agent 0 first.
+    pub fn paths(&self) -> &[Path]
+        ensures paths { result.now ≡ self.now }
+        ensures some { 0 < length self.now }
+        ensures few { length self.now ≤ 1000 }
+    {
+        self.paths.as_slice()
+    }
+
+    /// The sum of costs: the costs of all paths, added up.
+    pub fn cost(&self) -> u64
+        ensures cost { result ≡ plan_cost self.now }
+        ensures small { result ≤ 1000000000 }
+    {
+        let mut sum = 0;
+        for path in &self.paths {
+            sum += u64::from(path.cost());
+        }
+        sum
+    }
+
+    /// Where an agent is at a time step: it stays on its path's last cell.
+    pub fn at(&self, agent: usize, time: u32) -> Cell
+        requires { agent < length self.now }
+        ensures { result ≡ place self.now agent time }
+    {
+        self.paths[agent].at(time)
+    }
+}

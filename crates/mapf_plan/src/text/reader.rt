@@ -1,0 +1,207 @@
+ghost use Rattle.std.specs.Prelude.{◌≡◌, ◌≢◌, ℕ, List, ◌+◌, ◌*◌, ◌<◌, ◌≤◌, ◌⊎◌, ◌++◌, ◌∷◌, [], length, vec_len, MatchOption, MatchResult, IfOk, IfErr, slice_get, Some};
+ghost use Rattle.std.specs.List.{AllZip};
+ghost use Rattle.mapf_plan.specs.ReadText.{IsPlace, IsLine, IsCellAt, IsFirstOutside, IsFirstLine, IsPathLine, ArePlanNumbers, AreLinesOf, IsTextOf, IsTextFault, IsLineFault, HasLinesFault};
+ghost use Rattle.mapf_plan.specs.Head.{IsHead};
+ghost use Rattle.mapf_plan.specs.declared.answer.Answer.{Answer as AnswerValue};
+ghost use Rattle.mapf_plan.specs.declared.text.reader.Head.{Head as HeadValue};
+
+use super::TextFault;
+use super::cut::cut_at;
+use super::number::number;
+use crate::{Answer, Path, Plan};
+use mapf_grid::{Cell, Map};
+use std::alloc::Global;
+
+const MOST_AGENTS: u64 = 1_000;
+
+const MOST_COST: u64 = 1_000_000_000;
+
+const MOST_BOUND: u64 = 1_000_000;
+
+const MOST_POSITIONS: usize = 1_000_001;
+// A column or a row has at most nine digits.
+const MOST_COORDINATE: u64 = 999_999_999;
+
+// What the first line says.
+enum Head {
+    Plan { agents: usize, cost: u64 },
+    None { bound: u32 },
+}
+
+/// The answer whose text on this map these bytes are: what [`write`](super::write) would give for it,
+/// byte by byte.
+pub fn read_answer(alloc: Global, bytes: &[u8], map: &Map) -> Result<Answer, TextFault>
+    ensures read { IfOk result (IsTextOf map.now bytes.now) }
+    ensures fault { IfErr result (λ fault. (fault ≡ TextFault.NoMemory) ⊎ IsTextFault map.now bytes.now fault) }
+    ensures only { (a : AnswerValue) → IsTextOf map.now bytes.now a → MatchResult result (λ b. b ≡ a) (λ fault. fault ≡ TextFault.NoMemory) }
+{
+    // The proof of `only` takes from this call that the map is no larger than a map may be.
+    let _ = map.width();
+    let Some((line, rest)) = cut_at(bytes, b'\n') else {
+        return Err(TextFault::Head);
+    };
+    let Some(head) = read_head(line) else {
+        return Err(TextFault::Head);
+    };
+    match head {
+        Head::Plan { agents, cost } => {
+            let plan = read_plan(alloc, rest, agents, map)?;
+            Ok(Answer::Plan { plan, stated: cost })
+        }
+        Head::None { bound } => {
+            expect_end(rest, 2)?;
+            Ok(Answer::None { bound })
+        }
+    }
+}
+
+// The first line, without its LF.
+fn read_head(line: &[u8]) -> Option<Head>
+    ensures { MatchOption result ((head : HeadValue) → ¬ IsHead line.now head) (IsHead line.now) }
+{
+    if let Some(numbers) = behind(line, b"plan ") {
+        let (agents, cost) = read_plan_numbers(numbers)?;
+        return Some(Head::Plan { agents, cost });
+    }
+    let bound = number(behind(line, b"none ")?, MOST_BOUND)?;
+    Some(Head::None {
+        bound: bound as u32,
+    })
+}
+
+// What stands behind this front, where the line begins with it.
+fn behind<'a>(line: &'a [u8], front: &[u8]) -> Option<&'a [u8]>
+    ensures { MatchOption result ((rest : List ℕ) → line.now ≢ front.now ++ rest) (λ rest. line.now ≡ front.now ++ rest.now) }
+{
+    if line.starts_with(front) {
+        Some(&line[front.len()..])
+    } else {
+        None
+    }
+}
+
+// The number of agents and the cost.
+fn read_plan_numbers(numbers: &[u8]) -> Option<(usize, u64)>
+    ensures { MatchOption result ((pair : ℕ × ℕ) → ¬ ArePlanNumbers numbers.now pair) (ArePlanNumbers numbers.now) }
+{
+    let (agents, cost) = cut_at(numbers, b' ')?;
+    let agents = number(agents, MOST_AGENTS)?;
+    let cost = number(cost, MOST_COST)?;
+    if agents == 0 {
+        return None;
+    }
+    Some((agents as usize, cost))
+}
+
+// The lines of the agents, from line 2 on, and nothing behind them.
+fn read_plan(alloc: Global, bytes: &[u8], agents: usize, map: &Map) -> Result<Plan, TextFault>
+    requires some { 0 < agents }
+    requires few { agents ≤ 1000 }
+    ensures agents { IfOk result (λ plan. length plan ≡ agents) }
+    ensures lines { IfOk result (AreLinesOf map.now bytes.now) }
+    ensures fault { IfErr result (λ fault. (fault ≡ TextFault.NoMemory) ⊎ HasLinesFault map.now bytes.now agents fault) }
+{
+    let mut paths = Vec::new(alloc);
+    let mut rest = bytes;
+    for agent in 0..agents {
+        let (path, after) = read_line(alloc, rest, agent + 2, map)?;
+        paths.push(path)?;
+        rest = after;
+    }
+    expect_end(rest, agents + 2)?;
+    Ok(Plan::of(paths))
+}
+
+// Nothing stands at the line of this number.
+fn expect_end(rest: &[u8], line: usize) -> Result<(), TextFault>
+    ensures { MatchResult result (λ _. rest.now ≡ []) (λ fault. (rest.now ≢ []) × (fault ≡ TextFault.Line line)) }
+{
+    if rest.is_empty() {
+        Ok(())
+    } else {
+        Err(TextFault::Line { line })
+    }
+}
+
+// One agent's path, and what stands behind its line.
+fn read_line<'a>(
+    alloc: Global,
+    bytes: &'a [u8],
+    number: usize,
+    map: &Map,
+) -> Result<(Path, &'a [u8]), TextFault>
+    ensures read { IfOk result (λ found. (line : List ℕ) × IsFirstLine bytes.now line found.1.now × IsPathLine map.now line found.0) }
+    ensures fault { IfErr result (IsLineFault map.now bytes.now number) }
+{
+    let Some((line, rest)) = cut_at(bytes, b'\n') else {
+        return Err(TextFault::Line { line: number });
+    };
+    let places = read_places(alloc, line, number)?;
+    let cells = cells_of(alloc, &places, number, map)?;
+    Ok((Path::of(cells), rest))
+}
+
+// The columns and rows that a line spells, parted by single spaces.
+fn read_places(alloc: Global, line: &[u8], number: usize) -> Result<Vec<(u32, u32)>, TextFault>
+    ensures places { IfOk result (λ places. IsLine line.now places.items) }
+    ensures fault { IfErr result (λ fault. (fault ≡ TextFault.NoMemory)
+        ⊎ ((fault ≡ TextFault.Line number) × ((places : List (ℕ × ℕ)) → ¬ IsLine line.now places))) }
+{
+    let mut places = Vec::new(alloc);
+    let mut rest = line;
+    while let Some((word, after)) = cut_at(rest, b' ') {
+        push_place(&mut places, word, number)?;
+        rest = after;
+    }
+    push_place(&mut places, rest, number)?;
+    Ok(places)
+}
+
+// Appends the column and the row that a word spells.
+fn push_place(places: &mut Vec<(u32, u32)>, word: &[u8], number: usize) -> Result<(), TextFault>
+    ensures pushed { IfOk result (λ _. (place : ℕ × ℕ) × IsPlace word.now place
+        × (places.new.items ≡ places.old.items ++ place ∷ []) × (length places.old.items < 1000001)) }
+    ensures fault { IfErr result (λ fault. (fault ≡ TextFault.NoMemory) ⊎ ((fault ≡ TextFault.Line number)
+        × ((1000001 ≤ length places.old.items) ⊎ ((place : ℕ × ℕ) → ¬ IsPlace word.now place)))) }
+{
+    let fault = TextFault::Line { line: number };
+    if places.len() >= MOST_POSITIONS {
+        return Err(fault);
+    }
+    places.push(read_place(word).ok_or(fault)?)?;
+    Ok(())
+}
+
+// The column and the row that a word spells.
+fn read_place(word: &[u8]) -> Option<(u32, u32)>
+    ensures { MatchOption result ((place : ℕ × ℕ) → ¬ IsPlace word.now place) (IsPlace word.now) }
+{
+    let (column, row) = cut_at(word, b',')?;
+    let x = number(column, MOST_COORDINATE)?;
+    let y = number(row, MOST_COORDINATE)?;
+    Some((x as u32, y as u32))
+}
+
+// The cells at these columns and rows, all of them on the map.
+fn cells_of(
+    alloc: Global,
+    places: &[(u32, u32)],
+    number: usize,
+    map: &Map,
+) -> Result<Vec<Cell>, TextFault>
+    ensures cells { IfOk result (λ cells. AllZip (IsCellAt map.now) places.now cells.items) }
+    ensures fault { IfErr result (λ fault. (fault ≡ TextFault.NoMemory)
+        ⊎ ((place : ℕ) × (fault ≡ TextFault.Outside number place) × IsFirstOutside map.now places.now place)) }
+{
+    let mut cells = Vec::new(alloc);
+    for (place, (x, y)) in places.iter().enumerate() {
+        let Some(cell) = map.cell(*x, *y) else {
+            return Err(TextFault::Outside {
+                line: number,
+                place,
+            });
+        };
+        cells.push(cell)?;
+    }
+    Ok(cells)
+}
