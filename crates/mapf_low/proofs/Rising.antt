@@ -1,0 +1,167 @@
+-- Layers as rising lists, and what the cells of a layer are.
+use Rattle.std.proofs.Common.{◌≡◌, ◌⊎◌, ◌↔◌, ℕ, ◌<◌, ◌≤◌, ◌==◌, Bool, true, false, List, [], ◌∷◌, ◌++◌, length, get_or, take, Result, Ok, Err, MatchResult, Option, IfOk, IsTrue, Contains, IsPermutation, eqb, inl, inr, subst, sym, refl, ap, ◌∙◌, arith}
+use Rattle.std.specs.Result.{is_ok}
+use Rattle.std.specs.Ordering.{nat_cmp}
+use Rattle.std.specs.List.{dedup, list_any}
+use Rattle.std.specs.List.Sorted.{IsStrictlyIncreasing, IsBinarySearchResult}
+use Rattle.std.proofs.lemmas.Bool.{cases_lt}
+use Rattle.mapf_plan.proofs.Cuts.{eqb-refl}
+use Rattle.std.proofs.lemmas.List.{get_or_default}
+use Rattle.std.proofs.lemmas.List.Folds.{list_any_at}
+use Rattle.std.proofs.lemmas.List.Kept.{AllPairs-from_increasing, Contains-dedup_nat, Contains-from_dedup}
+use Rattle.std.proofs.lemmas.List.Sorted.{searched, Contains-permutation, IsPermutation-sym}
+use Rattle.mapf_grid.specs.Grid.{Grid, IsFree, IsBeside, Next}
+use Rattle.mapf_grid.specs.declared.fault.NoMemory.{NoMemory}
+use Rattle.mapf_low.specs.declared.constraint.Constraint.{Constraint}
+use Rattle.mapf_low.specs.declared.constraint.Constraint.TheVariants.{Vertex, Edge}
+use Rattle.mapf_low.specs.Times.{time_of}
+use Rattle.mapf_low.specs.Layers.{IsOpen, MayStep, MayEnter, ComesFrom, IsNextLayer}
+use Rattle.mapf_low.proofs.Growing.{members_push, all_in_front, Grown}
+use Rattle.mapf_low.proofs.LevelSearch.{Next_back}
+use Rattle.mapf_low.proofs.Bests.{IsSmallest, smallest_same}
+
+-- a search in a rising list tells whether the number is there
+pub rising_has : (xs : List ℕ) (x : ℕ) (r : Result ℕ ℕ) (b : Bool) → IsStrictlyIncreasing xs → b ≡ is_ok r → IsBinarySearchResult (λ y. nat_cmp y x) xs r → IsTrue b ↔ Contains xs x
+rising_has xs x r b up e p = go r e (searched xs x r p weakly)
+  where
+    weakly : (i j : ℕ) → i ≤ j → j < length xs → get_or xs i 0 ≤ get_or xs j 0
+    weakly i j h l = pick (cases_lt i j)
+      where
+        pick : (i < j) ⊎ (j ≤ i) → get_or xs i 0 ≤ get_or xs j 0
+        pick (inl m) = let less : get_or xs i 0 < get_or xs j 0 = AllPairs-from_increasing xs up i j 0 m l in omega (arith, less)
+        pick (inr m) = let same : get_or xs i 0 ≡ get_or xs j 0 = ap (λ k. get_or xs k 0) (let n : i ≡ j = omega (arith, h, m) in n) in omega (arith, same)
+
+    go : (r : Result ℕ ℕ) → b ≡ is_ok r → MatchResult r (λ i. (i < length xs) × (get_or xs i 0 ≡ x)) (λ i. (i ≤ length xs) × ((k : ℕ) → k < i → get_or xs k 0 < x) × ((k : ℕ) → i ≤ k → k < length xs → x < get_or xs k 0)) → IsTrue b ↔ Contains xs x
+    go (Ok i) e f = ((λ _. (i, f.0, sym (get_or_default xs i 0 x f.0) ∙ f.1)), (λ _. e))
+    go (Err i) e f = ((λ t. absurd (let n : false ≡ true = sym e ∙ t in cc)), none)
+      where
+        none : Contains xs x → IsTrue b
+        none (k, l, is) = pick (cases_lt k i)
+          where
+            at : get_or xs k 0 ≡ x
+            at = get_or_default xs k 0 x l ∙ is
+
+            pick : (k < i) ⊎ (i ≤ k) → IsTrue b
+            pick (inl m) = absurd (omega (arith, f.1 k m, at))
+            pick (inr m) = absurd (omega (arith, f.2 k m l, at))
+
+-- a list without its repeats has the same members
+pub deduped : (xs sorted new : List ℕ) → IsPermutation xs sorted → new ≡ dedup eqb sorted → (v : ℕ) → Contains new v ↔ Contains xs v
+deduped xs sorted new moved is v =
+    subst (λ ys. Contains ys v ↔ Contains xs v) (sym is) (
+      (λ h. Contains-permutation sorted xs v (IsPermutation-sym xs sorted moved) (Contains-from_dedup eqb sorted v h)),
+      (λ h. Contains-dedup_nat sorted v (Contains-permutation xs sorted v moved h)),
+    )
+
+-- the first layer, where the start is open
+pub first_open : (fits : ℕ → Type 0) (layer cells : List ℕ) (start : ℕ) → ((v : ℕ) → Contains layer v ↔ Contains cells v) → cells ≡ [] ++ start ∷ [] → fits start →
+    (v : ℕ) → Contains layer v ↔ ((v ≡ start) × fits v)
+first_open fits layer cells start h e o v = (λ i. to ((h v).0 i), λ p. (h v).1 (from p))
+  where
+    to : Contains cells v → (v ≡ start) × fits v
+    to i = go ((members_push [] start v).0 (subst (λ xs. Contains xs v) e i))
+      where
+        go : Contains [] v ⊎ (start ≡ v) → (v ≡ start) × fits v
+        go (inl i) = absurd (omega (arith, i.1))
+        go (inr s) = (sym s, subst fits s o)
+
+    from : (v ≡ start) × fits v → Contains cells v
+    from p = subst (λ xs. Contains xs v) (sym e) ((members_push [] start v).1 (inr (sym p.0)))
+
+-- and where it isn't
+pub first_closed : (fits : ℕ → Type 0) (layer cells : List ℕ) (start : ℕ) → ((v : ℕ) → Contains layer v ↔ Contains cells v) → cells ≡ [] → ¬ fits start →
+    (v : ℕ) → Contains layer v ↔ ((v ≡ start) × fits v)
+first_closed fits layer cells start h e n v = ((λ i. absurd (none (subst (λ xs. Contains xs v) e ((h v).0 i)))), (λ p. absurd (n (subst fits p.0 p.1))))
+  where
+    none : Contains {X = ℕ} [] v → ⊥
+    none i = omega (arith, i.1)
+
+-- a list with one more cell, which may be entered
+pub offered : (E : ℕ → Type 0) (old new : List ℕ) (to : ℕ) → new ≡ old ++ to ∷ [] → E to → (v : ℕ) → Contains new v ↔ (Contains old v ⊎ ((to ≡ v) × E v))
+offered E old new to e t v = (λ i. forth ((members_push old to v).0 (subst (λ xs. Contains xs v) e i)), λ p. subst (λ xs. Contains xs v) (sym e) ((members_push old to v).1 (back p)))
+  where
+    forth : Contains old v ⊎ (to ≡ v) → Contains old v ⊎ ((to ≡ v) × E v)
+    forth (inl i) = inl i
+    forth (inr s) = inr (s, subst E s t)
+
+    back : Contains old v ⊎ ((to ≡ v) × E v) → Contains old v ⊎ (to ≡ v)
+    back (inl i) = inl i
+    back (inr s) = inr s.0
+
+-- the free sides and the cell itself are where a step may lead
+pub all_ways : (g : Grid) (cell : ℕ) (sides found : List ℕ) → IsFree g cell → ((v : ℕ) → Contains sides v ↔ (IsFree g v × IsBeside g cell v)) → found ≡ sides ++ cell ∷ [] → (v : ℕ) → Contains found v ↔ Next g cell v
+all_ways g cell sides found free h e v = (λ i. to ((members_push sides cell v).0 (subst (λ xs. Contains xs v) e i)), λ n. subst (λ xs. Contains xs v) (sym e) ((members_push sides cell v).1 (from n)))
+  where
+    to : Contains sides v ⊎ (cell ≡ v) → Next g cell v
+    to (inl i) = let p = (h v).0 i in (free, p.0, inr p.1)
+    to (inr s) = (free, subst (IsFree g) s free, inl s)
+
+    from : Next g cell v → Contains sides v ⊎ (cell ≡ v)
+    from (f, fv, inl s) = inr s
+    from (f, fv, inr b) = inl ((h v).1 (fv, b))
+
+-- what was met among the ways out are the cells that this one may be entered from
+pub met_before : (g : Grid) (cs : List Constraint) (time : ℕ) (layer : List ℕ) (cell : ℕ) (items : List ℕ) (k : ℕ) (o : Option ℕ) → k ≡ length items → ((v : ℕ) → Contains items v ↔ Next g cell v) →
+    IsSmallest (λ u. Contains (take k items) u × (Contains layer u × (¬ Contains cs (Edge u cell time)))) o → IsSmallest (λ u. ComesFrom g cs time layer cell u) o
+met_before g cs time layer cell items k o e ways h =
+    smallest_same (λ u. Contains (take k items) u × (Contains layer u × (¬ Contains cs (Edge u cell time)))) (λ u. ComesFrom g cs time layer cell u) o h
+    (λ u. (
+      (λ c. ((all_in_front items k u e).1 ((ways u).1 (Next_back g u cell c.1.0)), (c.0, c.1.1))),
+      (λ m. (m.1.0, (Next_back g cell u ((ways u).0 ((all_in_front items k u e).0 m.0)), m.1.1))),
+    ))
+
+-- what was added from a free cell and its sides
+pub spread_is : (g : Grid) (table : List (Option ℕ)) (cs : List Constraint) (limit time from : ℕ) (sides old mid new : List ℕ) → IsFree g from → ((v : ℕ) → Contains sides v ↔ (IsFree g v × IsBeside g from v)) →
+    ((v : ℕ) → Contains mid v ↔ (Contains old v ⊎ ((from ≡ v) × MayEnter table cs limit time from v))) → Grown (λ v. MayEnter table cs limit time from v) sides mid new →
+    (v : ℕ) → Contains new v ↔ (Contains old v ⊎ (IsOpen table cs limit time v × MayStep g cs time from v))
+spread_is g table cs limit time from sides old mid new free beside waits h v = (λ i. to ((h v).0 i), λ p. (h v).1 (back p))
+  where
+    stays : Contains old v ⊎ ((from ≡ v) × MayEnter table cs limit time from v) → Contains old v ⊎ (IsOpen table cs limit time v × MayStep g cs time from v)
+    stays (inl i) = inl i
+    stays (inr p) = inr (p.1.0, ((free, subst (IsFree g) p.0 free, inl p.0), p.1.1))
+
+    to : Contains mid v ⊎ (Contains sides v × MayEnter table cs limit time from v) → Contains old v ⊎ (IsOpen table cs limit time v × MayStep g cs time from v)
+    to (inl i) = stays ((waits v).0 i)
+    to (inr p) = let side = (beside v).0 p.0 in inr (p.1.0, ((free, side.0, inr side.1), p.1.1))
+
+    steps : IsOpen table cs limit time v → Next g from v → (¬ Contains cs (Edge from v time)) → Contains mid v ⊎ (Contains sides v × MayEnter table cs limit time from v)
+    steps o (f, fv, inl e) n = inl ((waits v).1 (inr (e, (o, n))))
+    steps o (f, fv, inr b) n = inr ((beside v).1 (fv, b), (o, n))
+
+    back : Contains old v ⊎ (IsOpen table cs limit time v × MayStep g cs time from v) → Contains mid v ⊎ (Contains sides v × MayEnter table cs limit time from v)
+    back (inl i) = inl ((waits v).1 (inl i))
+    back (inr p) = steps p.0 p.1.0 p.1.1
+
+-- a test that failed
+pub not_true : (b : Bool) (P : Type 0) → IsTrue b ↔ P → b ≡ false → ¬ P
+not_true b P h e p = absurd (let n : false ≡ true = sym e ∙ h.1 p in let m : ◌≡◌ {A = ℕ} 0 1 = cc in omega (arith, m))
+
+-- a constraint of the set is of a time that the set has
+has_its_time : (cs : List Constraint) (t : ℕ) (c : Constraint) → list_any (λ c. time_of c == t) cs ≡ false → Contains cs c → time_of c ≡ t → ⊥
+has_its_time cs t c h (k, l, is) e =
+    let same : (time_of (get_or cs k c) == t) ≡ true = subst (λ m. (m == t) ≡ true) (sym (ap time_of is ∙ e)) (eqb-refl t) in
+    let some : list_any (λ c. time_of c == t) cs ≡ true = list_any_at (λ c. time_of c == t) cs k c l same in
+    absurd (let n : false ≡ true = sym h ∙ some in cc)
+
+-- where no constraint is of this time, the layer after one is the same as without constraints
+quiet_layer : (g : Grid) (table : List (Option ℕ)) (cs : List Constraint) (limit t : ℕ) (layer next : List ℕ) → list_any (λ c. time_of c == t) cs ≡ false →
+    IsNextLayer g table [] limit t layer next → IsNextLayer g table cs limit t layer next
+quiet_layer g table cs limit t layer next quiet h v = (λ i. to ((h v).0 i), λ p. (h v).1 (back p))
+  where
+    none : (c : Constraint) → time_of c ≡ t → ¬ Contains cs c
+    none c e i = has_its_time cs t c quiet i e
+
+    never : (c : Constraint) → ¬ Contains [] c
+    never c i = omega (arith, i.1)
+
+    to : IsOpen table [] limit t v × ((u : ℕ) × ComesFrom g [] t layer v u) → IsOpen table cs limit t v × ((u : ℕ) × ComesFrom g cs t layer v u)
+    to (o, (u, (i, (s, _)))) = ((none (Vertex v t) refl, o.1), (u, (i, (s, none (Edge u v t) refl))))
+
+    back : IsOpen table cs limit t v × ((u : ℕ) × ComesFrom g cs t layer v u) → IsOpen table [] limit t v × ((u : ℕ) × ComesFrom g [] t layer v u)
+    back (o, (u, (i, (s, _)))) = ((never (Vertex v t), o.1), (u, (i, (s, never (Edge u v t)))))
+
+-- the same of what was made of it
+pub quiet_made : (g : Grid) (table : List (Option ℕ)) (cs none : List Constraint) (limit t : ℕ) (layer : List ℕ) (r : Result (List ℕ) NoMemory) → list_any (λ c. time_of c == t) cs ≡ false → none ≡ [] →
+    IfOk r (IsNextLayer g table none limit t layer) → IfOk r (IsNextLayer g table cs limit t layer)
+quiet_made g table cs none limit t layer (Ok next) quiet e h = quiet_layer g table cs limit t layer next quiet (subst (λ ds. IsNextLayer g table ds limit t layer next) e h)
+quiet_made g table cs none limit t layer (Err _) quiet e h = tt
