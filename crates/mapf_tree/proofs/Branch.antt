@@ -1,0 +1,57 @@
+-- A valid plan that obeys a pair obeys one of its sides.
+use Rattle.std.proofs.Common.{◌≡◌, ◌⊎◌, ℕ, ◌<◌, List, [], ◌∷◌, length, get_or, set, inl, inr, subst, sym, ap, ◌∙◌, arith, get_or-set_same, get_or-set_other}
+use native.Mathlib.Decide.{ℕ_discrete}
+use Rattle.mapf_grid.specs.Instance.{Instance}
+use Rattle.mapf_plan.specs.declared.conflict.Conflict.{Conflict}
+use Rattle.mapf_plan.specs.declared.conflict.Conflict.TheVariants.{Vertex, Swapping}
+use Rattle.mapf_plan.specs.Plan.{IsConflict, path_of}
+use Rattle.mapf_low.specs.declared.constraint.Constraint.{Constraint}
+use Rattle.mapf_low.specs.Constraints.{Obeys, Breaks}
+use Rattle.mapf_tree.specs.declared.side.Side.{Side}
+use Rattle.mapf_tree.specs.declared.side.Side.TheVariants.{Left, Right}
+use Rattle.mapf_tree.specs.Tree.{Pair, side_of, constraint_on, agent_on}
+use Rattle.mapf_tree.specs.Sides.{ObeysPair, ObeysOneSide}
+use Rattle.mapf_low.proofs.OwnPaths.{dec_breaks}
+
+-- a path obeys one constraint more for agent a, if it keeps that one where it is agent a's
+obeys_set : (cs : List (List Constraint)) (a j : ℕ) (x : Constraint) (p : List ℕ) → a < length cs → (j ≡ a → ¬ Breaks p x) → Obeys (get_or cs j []) p → Obeys (get_or (set cs a (x ∷ get_or cs a [])) j []) p
+obeys_set cs a j x p h new old = go (ℕ_discrete j a)
+  where
+    go : Dec (j ≡ a) → Obeys (get_or (set cs a (x ∷ get_or cs a [])) j []) p
+    go (yes e) =
+        let eq : get_or (set cs a (x ∷ get_or cs a [])) j [] ≡ x ∷ get_or cs j [] =
+        ap (λ k. get_or (set cs a (x ∷ get_or cs a [])) k []) e ∙ get_or-set_same cs a (x ∷ get_or cs a []) [] h ∙ ap (λ k. x ∷ get_or cs k []) (sym e) in
+        subst (λ l. Obeys l p) (sym eq) (new e, old)
+    go (no e) = subst (λ l. Obeys l p) (sym (get_or-set_other cs a j (x ∷ get_or cs a []) [] e)) old
+
+-- a plan that obeys a pair, and keeps the constraint of a side, obeys that side
+obeys_side : (inst : Instance) (pair : Pair) (other : List (List ℕ)) (c : Conflict) (s : Side) → agent_on c s < length pair.constraints → ¬ Breaks (path_of other (agent_on c s)) (constraint_on c s) → ObeysPair inst pair other → ObeysPair inst (side_of pair c s) other
+obeys_side inst pair other c s h keeps obeys i lt =
+    obeys_set pair.constraints (agent_on c s) i (constraint_on c s) (path_of other i) h (λ e b. keeps (subst (λ k. Breaks (path_of other k) (constraint_on c s)) e b)) (obeys i lt)
+
+-- a plan in which both agents break what their sides forbid has the conflict
+both_break : (plan other : List (List ℕ)) (c : Conflict) → length plan ≡ length other → IsConflict plan c → Breaks (path_of other (agent_on c Left)) (constraint_on c Left) → Breaks (path_of other (agent_on c Right)) (constraint_on c Right) → IsConflict other c
+both_break plan other (Vertex i j v t) n h a b = (h.0, subst (λ k. j < k) n h.1, a, b)
+both_break plan other (Swapping i j u v t) n h a b = (h.0, subst (λ k. j < k) n h.1, h.2, h.3, a.1, a.2, b.1, b.2)
+
+-- each side's agent is one of the plan's
+pub agent_below : (plan : List (List ℕ)) (c : Conflict) (s : Side) → IsConflict plan c → agent_on c s < length plan
+agent_below plan (Vertex i j v t) Left h = omega (arith, h.0, h.1)
+agent_below plan (Vertex i j v t) Right h = h.1
+agent_below plan (Swapping i j u v t) Left h = omega (arith, h.0, h.1)
+agent_below plan (Swapping i j u v t) Right h = h.1
+
+-- no valid plan has the conflict, so one of its two agents keeps its side's constraint
+pub obeys_one_side : ObeysOneSide
+obeys_one_side inst pair plan other c nc np is valid obeys = left (dec_breaks _ _)
+  where
+    agent : (s : Side) → agent_on c s < length pair.constraints
+    agent s = subst (λ k. agent_on c s < k) (np ∙ sym nc) (agent_below plan c s is)
+
+    right : Breaks (path_of other (agent_on c Left)) (constraint_on c Left) → Dec (Breaks (path_of other (agent_on c Right)) (constraint_on c Right)) → ObeysPair inst (side_of pair c Left) other ⊎ ObeysPair inst (side_of pair c Right) other
+    right l (no r) = inr (obeys_side inst pair other c Right (agent Right) r obeys)
+    right l (yes r) = absurd (valid.apart c (both_break plan other c (np ∙ sym valid.agents) is l r))
+
+    left : Dec (Breaks (path_of other (agent_on c Left)) (constraint_on c Left)) → ObeysPair inst (side_of pair c Left) other ⊎ ObeysPair inst (side_of pair c Right) other
+    left (no l) = inl (obeys_side inst pair other c Left (agent Left) l obeys)
+    left (yes l) = right l (dec_breaks _ _)

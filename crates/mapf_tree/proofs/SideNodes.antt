@@ -1,0 +1,157 @@
+-- From a search for the agent of one side of a node's conflict to that side of the tree.
+use Rattle.std.proofs.Common.{◌≡◌, ◌⊎◌, ◌↔◌, ℕ, ◌<◌, ◌≤◌, List, [], ◌∷◌, ◌++◌, length, get_or, set, Option, Some, None, inl, inr, subst, sym, ap, ◌∙◌, arith, Contains, get_or-set_same, get_or-set_other}
+use Rattle.std.proofs.lemmas.List.{length-set, get_or_default}
+use native.Mathlib.Decide.{ℕ_discrete}
+use Rattle.mapf_plan.specs.declared.conflict.Conflict.{Conflict}
+use Rattle.mapf_plan.specs.Plan.{IsFirstConflict, path_of, plan_cost}
+use Rattle.mapf_low.specs.declared.constraint.Constraint.{Constraint}
+use Rattle.mapf_low.specs.Constraints.{IsOwnPath}
+use Rattle.mapf_low.proofs.Sets.{own_set, none_set}
+use Rattle.mapf_tree.specs.declared.side.Side.{Side}
+use Rattle.mapf_tree.specs.Problem.{Problem}
+use Rattle.mapf_tree.specs.Tree.{Pair, HasPlan, side, side_of, agent_on, constraint_on, constraints_of}
+use Rattle.mapf_tree.specs.Search.{Planned}
+use Rattle.mapf_tree.specs.Nodes.{Shown, Shows, IsConflictOf, IsSameSet}
+use Rattle.mapf_tree.specs.Family.{IsSide, IsOwn}
+use Rattle.mapf_grid.proofs.Orders.{In}
+use Rattle.mapf_tree.proofs.Branch.{agent_below}
+use Rattle.mapf_tree.proofs.Measure.{grown_all}
+use Rattle.mapf_tree.proofs.Members.{Contains-In, In-Contains}
+use Rattle.mapf_tree.proofs.Plans.{OwnAt, dear_plan}
+
+-- what one set more holds
+abbrev pub IsWith : Constraint → List Constraint → List Constraint → Type 0
+IsWith k old more = (x : Constraint) → Contains more x ↔ ((x ≡ k) ⊎ Contains old x)
+
+-- a list with one element in front is the set with that element more
+IsWith-cons : (k : Constraint) (cs old more : List Constraint) → IsSameSet old cs → IsWith k old more → IsSameSet more (k ∷ cs)
+IsWith-cons k cs old more same is x = ((λ h. forth ((is x).0 h)), (λ h. back (In-Contains (k ∷ cs) x h)))
+  where
+    forth : (x ≡ k) ⊎ Contains old x → Contains (k ∷ cs) x
+    forth (inl e) = Contains-In (k ∷ cs) x (inl (sym e))
+    forth (inr h) = Contains-In (k ∷ cs) x (inr (In-Contains cs x ((same x).0 h)))
+
+    back : (k ≡ x) ⊎ In cs x → Contains more x
+    back (inl e) = (is x).1 (inl (sym e))
+    back (inr h) = (is x).1 (inr ((same x).1 (Contains-In cs x h)))
+
+-- what was searched: agent a under one constraint k more than it had at the node
+pub record IsSearched (p : Problem) (node : Shown) (c : Conflict) (s : Side) (a : ℕ) (k : Constraint) (old more : List Constraint) (found : Option (List ℕ)) : Type 0 where
+  pub agent : a ≡ agent_on c s
+  pub forbidden : k ≡ constraint_on c s
+  pub before : old ≡ get_or node.constraints a old
+  pub after : IsWith k old more
+  pub own : IsOwn p a more found
+
+-- an own path is that of the set of constraints
+IsOwn-set : (p : Problem) (i : ℕ) (xs ys : List Constraint) (found : Option (List ℕ)) → IsSameSet xs ys → IsOwn p i xs found → IsOwn p i ys found
+IsOwn-set p i xs ys None same none = none_set _ _ _ _ xs ys same none
+IsOwn-set p i xs ys (Some path) same own = own_set _ _ _ _ xs ys path same own
+
+module _ (p : Problem) (node : Shown) (m : Planned) (c : Conflict) (s : Side) (shows : Shows p.inst p.bound node m) (is : node.conflict ≡ Some c) where
+  -- the node branches on its plan's first conflict
+  first : IsFirstConflict m.1 c
+  first =
+      let own : IsConflictOf node.plan (Some c) = subst (IsConflictOf node.plan) is shows.conflict in
+      subst (λ plan. IsFirstConflict plan c) shows.plan own
+
+  -- the side's agent is one of the agents
+  agent_inside : agent_on c s < length p.inst.starts
+  agent_inside = subst (λ n. agent_on c s < n) shows.member.plan.agents (agent_below m.1 c s first.member)
+
+  -- the pair on this side
+  abbrev there : Pair
+  there = side_of m.0 c s
+
+  -- the set that the agent has on this side
+  set_there : (old more : List Constraint) → old ≡ get_or node.constraints (agent_on c s) old → IsWith (constraint_on c s) old more → IsSameSet more (constraints_of there (agent_on c s))
+  set_there old more before after =
+      let inside : agent_on c s < length node.constraints = omega (arith, agent_inside, shows.agents) in
+      let in_pair : agent_on c s < length m.0.constraints = omega (arith, agent_inside, (grown_all p.inst p.bound m.0 shows.member.inside).agents) in
+      let at : old ≡ get_or node.constraints (agent_on c s) [] = before ∙ get_or_default node.constraints (agent_on c s) old [] inside in
+      let same : IsSameSet old (constraints_of m.0 (agent_on c s)) = subst (λ xs. IsSameSet xs (constraints_of m.0 (agent_on c s))) (sym at) (shows.sets (agent_on c s) agent_inside) in
+      subst (IsSameSet more) (sym (get_or-set_same m.0.constraints (agent_on c s) (constraint_on c s ∷ constraints_of m.0 (agent_on c s)) [] in_pair))
+      (IsWith-cons (constraint_on c s) (constraints_of m.0 (agent_on c s)) old more same after)
+
+  -- what was found is the own path of the side's agent, or none
+  found_there : (a : ℕ) (k : Constraint) (old more : List Constraint) (found : Option (List ℕ)) → IsSearched p node c s a k old more found → IsOwn p (agent_on c s) (constraints_of there (agent_on c s)) found
+  found_there a k old more found h = IsOwn-set p (agent_on c s) more (constraints_of there (agent_on c s)) found (same h) (subst (λ i. IsOwn p i more found) h.agent h.own)
+    where
+      same : IsSearched p node c s a k old more found → IsSameSet more (constraints_of there (agent_on c s))
+      same h = set_there old more (h.before ∙ ap (λ i. get_or node.constraints i old) h.agent) (subst (λ x. IsWith x old more) h.forbidden h.after)
+
+  -- with that path the plan has the own path of every agent on this side
+  own_there : (path : List ℕ) → IsOwn p (agent_on c s) (constraints_of there (agent_on c s)) (Some path) → (i : ℕ) → i < length p.inst.starts → OwnAt p.inst p.bound there i (path_of (set node.plan (agent_on c s) path) i)
+  own_there path own i h = go (ℕ_discrete i (agent_on c s))
+    where
+      in_plan : agent_on c s < length node.plan
+      in_plan = subst (λ n. agent_on c s < n) (sym (ap length shows.plan ∙ shows.member.plan.agents)) agent_inside
+
+      At : ℕ → List Constraint → List ℕ → Type 0
+      At j cs q = IsOwnPath p.inst.grid (get_or p.inst.starts j 0) (get_or p.inst.goals j 0) p.bound cs q
+
+      go : Dec (i ≡ agent_on c s) → OwnAt p.inst p.bound there i (path_of (set node.plan (agent_on c s) path) i)
+      go (yes e) =
+          let new : path_of (set node.plan (agent_on c s) path) (agent_on c s) ≡ path = get_or-set_same node.plan (agent_on c s) path [] in_plan in
+          subst (λ j. OwnAt p.inst p.bound there j (path_of (set node.plan (agent_on c s) path) j)) (sym e)
+          (subst (At (agent_on c s) (constraints_of there (agent_on c s))) (sym new) own)
+      go (no ne) =
+          let cs : constraints_of there i ≡ constraints_of m.0 i = get_or-set_other m.0.constraints (agent_on c s) i _ [] ne in
+          let q : path_of (set node.plan (agent_on c s) path) i ≡ path_of m.1 i = get_or-set_other node.plan (agent_on c s) i path [] ne ∙ ap (λ l. path_of l i) shows.plan in
+          subst (λ l. At i l (path_of (set node.plan (agent_on c s) path) i)) (sym cs)
+          (subst (At i (constraints_of m.0 i)) (sym q) (shows.member.plan.own i h))
+
+  -- no path for the agent: the side isn't in the tree
+  pub no_side : (a : ℕ) (k : Constraint) (old more : List Constraint) → IsSearched p node c s a k old more None → IsSide p m c s None
+  no_side a k old more h plan has = found_there a k old more None h (path_of plan (agent_on c s)) (has.own (agent_on c s) agent_inside).member
+
+  -- the plan has as many paths as there are agents
+  same_length : (plan : List (List ℕ)) (a : ℕ) (path : List ℕ) → plan ≡ set node.plan a path → length plan ≡ length p.inst.starts
+  same_length plan a path e = ap length e ∙ length-set node.plan a path ∙ ap length shows.plan ∙ shows.member.plan.agents
+
+  module _ (a : ℕ) (k : Constraint) (old more : List Constraint) (path : List ℕ) (plan : List (List ℕ)) (searched : IsSearched p node c s a k old more (Some path)) (is_plan : plan ≡ set node.plan a path) where
+    -- the plan has each agent's own path on this side
+    all_there : (i : ℕ) → i < length p.inst.starts → OwnAt p.inst p.bound there i (path_of plan i)
+    all_there i h =
+        let e : set node.plan (agent_on c s) path ≡ plan = ap (λ j. set node.plan j path) (sym searched.agent) ∙ sym is_plan in
+        subst (λ l. OwnAt p.inst p.bound there i (path_of l i)) e (own_there path (found_there a k old more (Some path) searched) i h)
+
+    -- the plan costs too much: the side isn't in the tree
+    pub dear_side : p.bound < plan_cost plan → IsSide p m c s None
+    dear_side dear other has = dear_plan p.inst p.bound there plan other (same_length plan a path is_plan) all_there dear has
+
+    -- otherwise the new node stands for the side
+    pub side_shown : (new : Shown) → plan_cost plan ≤ p.bound → new.name ≡ node.name ++ s ∷ [] → new.constraints ≡ set node.constraints a more →
+        new.plan ≡ plan → IsConflictOf plan new.conflict → IsSide p m c s (Some new)
+    side_shown new within name constraints shown conflict = (
+      plan,
+      record {
+        member = record { inside = side s shows.member.inside shows.member.plan first has; plan = has };
+        name = name ∙ ap (λ l. l ++ s ∷ []) shows.name;
+        plan = shown;
+        agents = ap length constraints ∙ length-set node.constraints a more ∙ shows.agents;
+        sets = λ i h. subst (λ l. IsSameSet (get_or l i []) (constraints_of there i)) (sym renamed) (sets i h (ℕ_discrete i (agent_on c s)));
+        conflict = subst (λ q. IsConflictOf q new.conflict) (sym shown) conflict;
+      },
+    )
+      where
+        has : HasPlan p.inst p.bound there plan
+        has = record { agents = same_length plan a path is_plan; own = all_there; within = within }
+
+        renamed : new.constraints ≡ set node.constraints (agent_on c s) more
+        renamed = constraints ∙ ap (λ j. set node.constraints j more) searched.agent
+
+        at_agent : get_or (set node.constraints (agent_on c s) more) (agent_on c s) [] ≡ more
+        at_agent = get_or-set_same node.constraints (agent_on c s) more [] (omega (arith, agent_inside, shows.agents))
+
+        same : IsSameSet more (constraints_of there (agent_on c s))
+        same = set_there old more (searched.before ∙ ap (λ i. get_or node.constraints i old) searched.agent) (subst (λ x. IsWith x old more) searched.forbidden searched.after)
+
+        sets : (i : ℕ) → i < length p.inst.starts → Dec (i ≡ agent_on c s) → IsSameSet (get_or (set node.constraints (agent_on c s) more) i []) (constraints_of there i)
+        sets i h (yes e) =
+            subst (λ j. IsSameSet (get_or (set node.constraints (agent_on c s) more) j []) (constraints_of there j)) (sym e)
+            (subst (λ l. IsSameSet l (constraints_of there (agent_on c s))) (sym at_agent) same)
+        sets i h (no ne) =
+            let now : get_or (set node.constraints (agent_on c s) more) i [] ≡ get_or node.constraints i [] = get_or-set_other node.constraints (agent_on c s) i more [] ne in
+            let cs : constraints_of there i ≡ constraints_of m.0 i = get_or-set_other m.0.constraints (agent_on c s) i _ [] ne in
+            subst (λ l. IsSameSet l (constraints_of there i)) (sym now) (subst (IsSameSet (get_or node.constraints i [])) (sym cs) (shows.sets i h))

@@ -1,0 +1,62 @@
+-- Pairs of the tree are determined by their names, and the answer by the instance.
+use Rattle.std.proofs.Common.{◌≡◌, ℕ, List, [], ◌∷◌, map, length, Some, None, subst, refl, ap, ap₂, ◌∙◌, arith, length-append}
+use Rattle.std.proofs.lemmas.List.{same_from_push}
+use Rattle.mapf_grid.specs.Instance.{Instance}
+use Rattle.mapf_grid.proofs.Orders.{same_rank}
+use Rattle.mapf_plan.specs.Plan.{IsFirstConflict}
+use Rattle.mapf_plan.proofs.Conflicts.{same_first}
+use Rattle.mapf_tree.specs.declared.side.Side.{Side}
+use Rattle.mapf_tree.specs.declared.side.Side.TheVariants.{Left, Right}
+use Rattle.mapf_tree.specs.Tree.{Pair, HasPlan, InTree, root, side, side_of, turn, key, IsSolution}
+use Rattle.mapf_tree.specs.Optimal.{AnswerIsUnique}
+use Rattle.mapf_tree.specs.Search.{Planned, IsMember}
+use Rattle.mapf_tree.proofs.Plans.{same_plan}
+
+-- two pairs of the tree with one name are one
+pub same_pair : (inst : Instance) (bound : ℕ) (p q : Pair) → InTree inst bound p → InTree inst bound q → p.name ≡ q.name → p ≡ q
+same_pair inst bound _ _ (root h) (root k) e = refl
+same_pair inst bound _ _ (root h) (side {pair = q} s i h' f k) e = absurd (omega (arith, ap length e, length-append q.name (s ∷ [])))
+same_pair inst bound _ _ (side {pair = p} s i h' f k) (root h) e = absurd (omega (arith, ap length e, length-append p.name (s ∷ [])))
+same_pair inst bound _ _ (side {pair = p} {plan = a} {c = c} s i h f _) (side {pair = q} {plan = b} {c = d} s' i' h' f' _) e =
+    let names = same_from_push p.name q.name s s' e in
+    let ep = same_pair inst bound p q i i' names.0 in
+    let ea = same_plan inst bound q a b (subst (λ r. HasPlan inst bound r a) ep h) h' in
+    let ec = same_first b c d (subst (λ r. IsFirstConflict r c) ea f) f' in
+    ap₂ (λ r x. side_of r x s) ep ec ∙ ap (λ x. side_of q d x) names.1
+
+-- turns by their numbers
+same_turns : (m n : List Side) → map turn m ≡ map turn n → m ≡ n
+same_turns [] [] e = refl
+same_turns [] (y ∷ n) e = cc
+same_turns (x ∷ m) [] e = cc
+same_turns (x ∷ m) (y ∷ n) e =
+    let h : turn x ≡ turn y = cc in
+    let t : map turn m ≡ map turn n = cc in
+    ap₂ (λ a b. a ∷ b) (same x y h) (same_turns m n t)
+  where
+    same : (x y : Side) → turn x ≡ turn y → x ≡ y
+    same Left Left h = refl
+    same Left Right h = absurd (omega (arith, h))
+    same Right Left h = absurd (omega (arith, h))
+    same Right Right h = refl
+
+-- two members with one key are one
+pub same_member : (inst : Instance) (bound : ℕ) (m n : Planned) → IsMember inst bound m → IsMember inst bound n → key m ≡ key n → m ≡ n
+same_member inst bound m n h k e =
+    let turns : map turn m.0.name ≡ map turn n.0.name = cc in
+    let pairs = same_pair inst bound m.0 n.0 h.inside k.inside (same_turns _ _ turns) in
+    let plans = same_plan inst bound n.0 m.1 n.1 (subst (λ x. HasPlan inst bound x m.1) pairs h.plan) k.plan in
+    λ i. (pairs i, plans i)
+
+-- so two least solutions are one
+pub answer_is_unique : AnswerIsUnique
+answer_is_unique inst bound (Some p) (Some q) a b =
+    let e = same_rank key (IsSolution inst bound) (a.0, p) (b.0, q) a.1 b.1 in
+    let m : (a.0, p) ≡ (b.0, q) = same_member inst bound (a.0, p) (b.0, q) (member (a.0, p) a.1.member) (member (b.0, q) b.1.member) e in
+    ap (λ x. Some x.1) m
+  where
+    member : (found : Planned) → IsSolution inst bound found → IsMember inst bound found
+    member found s = record { inside = s.inside; plan = s.plan }
+answer_is_unique inst bound (Some p) None a b = absurd (b (a.0, p) a.1.member)
+answer_is_unique inst bound None (Some q) a b = absurd (a (b.0, q) b.1.member)
+answer_is_unique inst bound None None a b = refl

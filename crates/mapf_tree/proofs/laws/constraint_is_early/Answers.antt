@@ -1,0 +1,5 @@
+use Rattle.mapf_tree.proofs.Measure.{constraint_is_early}
+use Rattle.mapf_tree.proofs.laws.constraint_is_early.Goals as goal
+
+pub returns : goal.returns
+returns c = constraint_is_early

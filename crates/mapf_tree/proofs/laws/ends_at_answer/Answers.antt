@@ -1,0 +1,5 @@
+use Rattle.mapf_tree.proofs.SearchLaws.{end_law}
+use Rattle.mapf_tree.proofs.laws.ends_at_answer.Goals as goal
+
+pub returns : goal.returns
+returns c = end_law

@@ -1,0 +1,5 @@
+use Rattle.mapf_tree.proofs.Descent.{none_is_none}
+use Rattle.mapf_tree.proofs.laws.none_is_none.Goals as goal
+
+pub returns : goal.returns
+returns c = none_is_none

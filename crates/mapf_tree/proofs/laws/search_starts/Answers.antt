@@ -1,0 +1,5 @@
+use Rattle.mapf_tree.proofs.SearchLaws.{start_law}
+use Rattle.mapf_tree.proofs.laws.search_starts.Goals as goal
+
+pub returns : goal.returns
+returns c = start_law

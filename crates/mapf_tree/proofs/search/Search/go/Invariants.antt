@@ -1,0 +1,5 @@
+use Rattle.mapf_tree.proofs.GoingOn.{GoesOn}
+use Rattle.mapf_tree.proofs.search.Search.go.Given as goal
+
+abbrev pub invariant-loop-taken : goal.invariant-loop-taken
+invariant-loop-taken g l = GoesOn l.initial.self.problem l.initial.self.last l.self l._taken × g.C.Children.serves l.children l.self.problem

@@ -1,0 +1,15 @@
+-- What always holds of a problem: each agent has the distances of its goal.
+use Rattle.std.specs.Prelude.{◌≡◌, ℕ, ◌<◌, ◌≤◌, List, [], length, slice_index, slice_index_or, Option}
+use Rattle.mapf_grid.specs.Instance.{Instance}
+use Rattle.mapf_grid.specs.InstanceLaws.{IsSound}
+use Rattle.mapf_low.specs.Walk.{AreDistances}
+
+-- one table for each agent, with the distances of the agent's goal
+pub record HasDistances (inst : Instance) (distances : List (List (Option ℕ))) : Type 0 where
+  pub each : length distances ≡ length inst.starts
+  pub shortest : (i : ℕ) → i < length inst.starts → AreDistances inst.grid (slice_index inst.goals i) (slice_index_or distances i [])
+
+pub record IsReady (inst : Instance) (bound : ℕ) (distances : List (List (Option ℕ))) : Type 0 where
+  pub agents : IsSound inst
+  pub small : bound ≤ 1000000
+  pub tables : HasDistances inst distances

@@ -1,0 +1,17 @@
+ghost use Rattle.std.specs.Prelude.{IfOk};
+ghost use Rattle.mapf_tree.specs.Answered.{IsAnswerOf, IsBestAnswer};
+
+use crate::{ByChild, Problem, Search};
+use mapf_grid::NoMemory;
+use mapf_plan::Answer;
+use std::alloc::Global;
+
+/// Solves a problem on one thread.
+pub fn solve_alone(alloc: Global, problem: &Problem) -> Result<Answer, NoMemory>
+    ensures answer { IfOk result (IsAnswerOf problem.now.inst problem.now.bound) }
+    ensures best { IfOk result (IsBestAnswer problem.now.inst problem.now.bound) }
+{
+    let mut children = ByChild::new(alloc);
+    let search = Search::new(alloc, problem)?;
+    search.finish(&mut children)
+}

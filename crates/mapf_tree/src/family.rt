@@ -1,0 +1,126 @@
+//! The members of the constraint tree: its root, and the children of a node.
+
+ghost use Rattle.std.specs.Prelude.{◌≡◌, ◌<◌, ◌++◌, [], ◌∷◌, length, IfOk, IsSome, Some, None, MatchOption};
+ghost use Rattle.mapf_plan.specs.declared.conflict.Conflict.{Conflict};
+ghost use Rattle.mapf_tree.specs.Search.{Planned};
+ghost use Rattle.mapf_tree.specs.Nodes.{Shows};
+ghost use Rattle.mapf_tree.specs.Family.{AreRootPaths, IsOwn, IsRoot, IsSide};
+
+use crate::constraint_sets::{copies_but, none_for};
+use crate::sides::{agent_of, constraint_of};
+use crate::{Node, Problem, Side};
+use mapf_grid::NoMemory;
+use mapf_low::{Constraints, cheapest};
+use mapf_plan::{Path, Plan};
+use std::alloc::Global;
+
+/// The root: no constraint, and every agent's own path; none exactly where that isn't in the tree.
+pub fn root(alloc: Global, problem: &Problem) -> Result<Option<Node>, NoMemory>
+    ensures { IfOk result (IsRoot problem.now) }
+{
+    match root_paths(alloc, problem)? {
+        Some(paths) => root_with(alloc, problem, paths),
+        None => Ok(None),
+    }
+}
+
+/// The root, from each agent's own path under no constraints; none exactly where it isn't in the tree.
+pub fn root_with(
+    alloc: Global,
+    problem: &Problem,
+    paths: Vec<Path>,
+) -> Result<Option<Node>, NoMemory>
+    requires { AreRootPaths problem.now paths.items }
+    ensures { IfOk result (IsRoot problem.now) }
+{
+    let agents = problem.instance().agents();
+    let plan = Plan::of(paths);
+    if plan.cost() > u64::from(problem.bound()) {
+        return Ok(None);
+    }
+    let constraints = none_for(alloc, agents)?;
+    Ok(Some(Node::of(Vec::new(alloc), constraints, plan)))
+}
+
+/// The child of a node of the tree on one side of its conflict; none exactly where that isn't in the tree.
+pub fn child(
+    alloc: Global,
+    problem: &Problem,
+    node: &Node,
+    side: Side,
+) -> Result<Option<Node>, NoMemory>
+    requires node { (m : Planned) × Shows problem.now.inst problem.now.bound node.now m }
+    requires conflict { IsSome node.now.conflict }
+    ensures { (m : Planned) (c : Conflict) → Shows problem.now.inst problem.now.bound node.now m → node.now.conflict ≡ Some c
+        → IfOk result (IsSide problem.now m c side) }
+{
+    let conflict = node.conflict().unwrap();
+    let agent = agent_of(&conflict, side);
+    let forbidden = constraint_of(&conflict, side);
+    let constraints = node.constraints[agent].with(forbidden)?;
+    let Some(path) = own_path(alloc, problem, agent, &constraints)? else {
+        return Ok(None);
+    };
+    let plan = node.plan.with(alloc, agent, path)?;
+    if plan.cost() > u64::from(problem.bound()) {
+        return Ok(None);
+    }
+    let constraints = copies_but(alloc, &node.constraints, agent, constraints)?;
+    let name = longer(alloc, &node.key.name, side)?;
+    Ok(Some(Node::of(name, constraints, plan)))
+}
+
+/// An agent's own path under no constraints; none exactly where it may take no path.
+pub fn root_path(alloc: Global, problem: &Problem, agent: usize) -> Result<Option<Path>, NoMemory>
+    requires { agent < length problem.now.inst.starts }
+    ensures { IfOk result (IsOwn problem.now agent []) }
+{
+    let free = Constraints::new(alloc);
+    own_path(alloc, problem, agent, &free)
+}
+
+// Each agent's own path under no constraints, if every agent has one; otherwise the root isn't in the tree.
+fn root_paths(alloc: Global, problem: &Problem) -> Result<Option<Vec<Path>>, NoMemory>
+    ensures { IfOk result (λ found. MatchOption found (IsRoot problem.now None) (λ paths. AreRootPaths problem.now paths.items)) }
+{
+    let agents = problem.instance().agents();
+    let mut paths = Vec::with_capacity(alloc, agents)?;
+    for agent in 0..agents {
+        let Some(path) = root_path(alloc, problem, agent)? else {
+            return Ok(None);
+        };
+        paths.push(path)?;
+    }
+    Ok(Some(paths))
+}
+
+// An agent's own path under these constraints.
+fn own_path(
+    alloc: Global,
+    problem: &Problem,
+    agent: usize,
+    constraints: &Constraints,
+) -> Result<Option<Path>, NoMemory>
+    requires { agent < length problem.now.inst.starts }
+    ensures { IfOk result (IsOwn problem.now agent constraints.now) }
+{
+    let instance = problem.instance();
+    cheapest(
+        alloc,
+        instance.map(),
+        problem.distances(agent),
+        instance.start(agent),
+        instance.goal(agent),
+        constraints,
+        problem.bound(),
+    )
+}
+
+// This name and one turn more.
+fn longer(alloc: Global, name: &[Side], turn: Side) -> Result<Vec<Side>, NoMemory>
+    ensures { IfOk result (λ more. more.items ≡ name.now ++ turn ∷ []) }
+{
+    let mut more = name.to_vec(alloc)?;
+    more.push(turn)?;
+    Ok(more)
+}

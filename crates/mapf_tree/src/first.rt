@@ -1,0 +1,54 @@
+ghost use Rattle.std.specs.Prelude.{length};
+ghost use Rattle.std.specs.Iterator.{at_most};
+ghost use Rattle.mapf_tree.specs.Firsts.{GivesFirst};
+
+use crate::Node;
+use crate::by_key::ByKey;
+use std::collections::btree_set;
+use std::marker::Model;
+
+/// The first waiting nodes, in the order of their keys.
+#[derive(Drop)]
+pub struct First<'a> {
+    nodes: btree_set::Iter<'a, ByKey>,
+    left: usize,
+}
+
+impl<'a> Model for First<'a> {
+    ghost use Rattle.std.specs.Prelude.{List, take};
+    ghost use Rattle.mapf_tree.specs.Nodes.{Shown};
+
+    ghost Value = { List Shown };
+
+    ghost view = { λ f. take f.left f.nodes };
+}
+
+impl<'a> First<'a> {
+    ghost use Rattle.std.specs.Prelude.{◌≡◌, take};
+
+    /// The first so many of these nodes.
+    pub(crate) fn of(nodes: btree_set::Iter<'a, ByKey>, left: usize) -> First<'a>
+        ensures { result ≡ take left nodes.entry }
+    {
+        First { nodes, left }
+    }
+}
+
+impl<'a> Iterator for First<'a> {
+    type Item = &'a Node;
+
+    ghost next_gives = { GivesFirst };
+
+    ghost remaining = { λ s. at_most (length s) };
+
+    fn next(&mut self) -> Option<&'a Node> {
+        if self.left == 0 {
+            return None;
+        }
+        self.left -= 1;
+        match self.nodes.next() {
+            Some(waits) => Some(&waits.node),
+            None => None,
+        }
+    }
+}

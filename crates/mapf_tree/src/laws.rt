@@ -1,0 +1,89 @@
+//! What holds of the constraint tree, its answer and a search in it: functions that do nothing,
+//! each with one law as its contract.
+
+ghost use Rattle.mapf_tree.specs.OneAgent.{OneAgentsAnswer};
+ghost use Rattle.mapf_tree.specs.Sides.{ObeysOneSide, ConstraintIsNew, ConstraintIsEarly, ObeyedIsInCost};
+ghost use Rattle.mapf_tree.specs.Finite.{DepthIsBounded, TreeIsFinite, AnswerExists};
+ghost use Rattle.mapf_tree.specs.Optimal.{AnswerIsUnique, AnswerIsOptimum, NoneIsNone};
+ghost use Rattle.mapf_tree.specs.Turns.{SearchStarts, TurnTakesNext, EndsAtAnswer, TakenAreBounded};
+ghost use Rattle.mapf_tree.specs.Worked.{WorkedRoot};
+
+/// For one agent the answer is its own path, and none where it may take no path.
+pub fn one_agents_answer()
+    ensures { OneAgentsAnswer }
+{}
+
+/// A valid plan that obeys a pair of the tree obeys one of the sides of the conflict of the pair's plan.
+pub fn obeys_one_side()
+    ensures { ObeysOneSide }
+{}
+
+/// What a side forbids its agent, the pair doesn't forbid it yet.
+pub fn constraint_is_new()
+    ensures { ConstraintIsNew }
+{}
+
+/// A side forbids nothing at a time step after the bound.
+pub fn constraint_is_early()
+    ensures { ConstraintIsEarly }
+{}
+
+/// If a valid plan within the bound obeys a pair, the pair has a plan, which costs no more.
+pub fn obeyed_is_in_cost()
+    ensures { ObeyedIsInCost }
+{}
+
+/// No name in the tree is longer than there are constraints for all agents up to the bound.
+pub fn depth_is_bounded()
+    ensures { DepthIsBounded }
+{}
+
+/// The tree is finite: a list holds exactly its pairs.
+pub fn tree_is_finite()
+    ensures { TreeIsFinite }
+{}
+
+/// Each instance has an answer under each bound.
+pub fn answer_exists()
+    ensures { AnswerExists }
+{}
+
+/// An instance has one answer at most under a bound.
+pub fn answer_is_unique()
+    ensures { AnswerIsUnique }
+{}
+
+/// The plan of the answer is valid and within the bound, and no valid plan costs less.
+pub fn answer_is_optimum()
+    ensures { AnswerIsOptimum }
+{}
+
+/// The answer is none exactly if no valid plan is within the bound.
+pub fn none_is_none()
+    ensures { NoneIsNone }
+{}
+
+/// A search begins with the root, if that is in the tree.
+pub fn search_starts()
+    ensures { SearchStarts }
+{}
+
+/// A turn takes the next pair of the tree, by cost, depth and name.
+pub fn turn_takes_next()
+    ensures { TurnTakesNext }
+{}
+
+/// A search that takes a plan without a conflict has the first solution, and one that has nothing left has none.
+pub fn ends_at_answer()
+    ensures { EndsAtAnswer }
+{}
+
+/// A search takes no more pairs than a number that the instance and the bound give.
+pub fn taken_are_bounded()
+    ensures { TakenAreBounded }
+{}
+
+/// The roots of two worked trees, the conflicts that they branch on, and what their sides forbid.
+pub fn worked_root()
+    ensures { WorkedRoot }
+{}

@@ -1,0 +1,34 @@
+//! The constraint tree of conflict-based search, and the search in it.
+#![tactic(auto)]
+
+mod alone;
+mod apart;
+mod by_key;
+mod children;
+mod constraint_sets;
+mod family;
+mod first;
+mod key;
+pub mod laws;
+mod node;
+mod open_list;
+mod problem;
+mod progress;
+mod search;
+mod side;
+mod sides;
+#[cfg(test)]
+mod tests;
+mod turn;
+
+pub use alone::solve_alone;
+pub use children::{ByChild, Children};
+pub use family::{child, root, root_path, root_with};
+pub use first::First;
+pub use key::Key;
+pub use node::Node;
+pub use open_list::OpenList;
+pub use problem::Problem;
+pub use progress::Progress;
+pub use search::Search;
+pub use side::Side;

@@ -1,0 +1,100 @@
+ghost use Rattle.std.specs.Prelude.{◌≡◌, ◌<◌, ◌≤◌, IfOk, IfErr, length, slice_index};
+ghost use Rattle.mapf_low.specs.Walk.{AreDistances};
+ghost use Rattle.mapf_tree.specs.Ready.{HasDistances};
+
+use mapf_grid::{Instance, NoMemory};
+use mapf_low::Distances;
+use std::alloc::Global;
+use std::marker::Model;
+
+/// What a search solves: an instance, each goal's distances, and a bound on the sum of costs.
+#[derive(Drop)]
+pub struct Problem {
+    instance: Instance,
+    distances: Vec<Distances>,
+    bound: u32,
+}
+
+impl Model for Problem {
+    ghost use Rattle.mapf_tree.specs.Problem.{Problem};
+    ghost use Rattle.mapf_tree.specs.Ready.{IsReady};
+
+    ghost Value = { Problem };
+
+    ghost view = { λ p. record { inst = p.instance; bound = p.bound } };
+
+    ghost invariant = { λ p. IsReady p.instance p.bound p.distances.items };
+}
+
+impl Problem {
+    ghost use Rattle.mapf_grid.specs.InstanceLaws.{IsSound};
+
+    /// The problem of this instance under this bound; the distances are made.
+    pub fn new(
+        alloc: Global,
+        instance: Instance,
+        bound: u32,
+    ) -> Result<Problem, (Instance, NoMemory)>
+        requires { bound ≤ 1000000 }
+        ensures made { IfOk result (λ p. p ≡ record { inst = instance; bound = bound }) }
+        ensures err { IfErr result (λ e. e.0 ≡ instance) }
+    {
+        match distances_to_goals(alloc, &instance) {
+            Ok(distances) => Ok(Problem {
+                instance,
+                distances,
+                bound,
+            }),
+            Err(fault) => Err((instance, fault)),
+        }
+    }
+
+    /// The problem of this instance under this bound, with the distances to each agent's goal.
+    pub fn with(instance: Instance, distances: Vec<Distances>, bound: u32) -> Problem
+        requires bound { bound ≤ 1000000 }
+        requires distances { HasDistances instance distances.items }
+        ensures { result ≡ record { inst = instance; bound = bound } }
+    {
+        prove_eq!(distances.len(), instance.agents());
+        Problem {
+            instance,
+            distances,
+            bound,
+        }
+    }
+
+    /// What is to be solved.
+    pub fn instance(&self) -> &Instance
+        ensures instance { result.now ≡ self.now.inst }
+        ensures sound { IsSound self.now.inst }
+    {
+        &self.instance
+    }
+
+    /// The distances to an agent's goal.
+    pub fn distances(&self, agent: usize) -> &Distances
+        requires { agent < length self.now.inst.starts }
+        ensures { AreDistances self.now.inst.grid (slice_index self.now.inst.goals agent) result.now }
+    {
+        &self.distances[agent]
+    }
+
+    /// What a plan may cost at most.
+    pub fn bound(&self) -> u32
+        ensures bound { result ≡ self.now.bound }
+        ensures small { result ≤ 1000000 }
+    {
+        self.bound
+    }
+}
+
+// The distances to each agent's goal, agent 0 first.
+fn distances_to_goals(alloc: Global, instance: &Instance) -> Result<Vec<Distances>, NoMemory>
+    ensures { IfOk result (λ distances. HasDistances instance.now distances.items) }
+{
+    let mut distances = Vec::with_capacity(alloc, instance.agents())?;
+    for agent in 0..instance.agents() {
+        distances.push(Distances::to(alloc, instance.map(), instance.goal(agent))?)?;
+    }
+    Ok(distances)
+}

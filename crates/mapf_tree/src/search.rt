@@ -1,0 +1,198 @@
+ghost use Rattle.std.specs.Prelude.{◌≡◌, ◌≢◌, Ok, Err, Some, None, IfOk, OnErr, IsErr, IsSome};
+ghost use Rattle.std.specs.Option.{option_copied, option_map};
+ghost use Rattle.mapf_plan.specs.declared.answer.Answer.{Answer};
+ghost use Rattle.mapf_tree.specs.Keys.{key_rank};
+
+use crate::turn::{Turn, put_if_some, take_turn};
+use crate::{Children, Key, Node, OpenList, Problem, Progress, root};
+use mapf_grid::NoMemory;
+use mapf_plan::Answer;
+use std::alloc::Global;
+use std::marker::Model;
+
+/// A search of the constraint tree, best first: it takes the pairs of the tree by cost, depth and name.
+#[derive(Drop)]
+pub struct Search<'p> {
+    problem: &'p Problem,
+    waiting: OpenList,
+    last: Option<Key>,
+    outcome: Result<Option<Answer>, NoMemory>,
+}
+
+impl<'p> Model for Search<'p> {
+    ghost use Rattle.std.specs.Option.{option_map};
+    ghost use Rattle.mapf_tree.specs.Keys.{key_rank};
+    ghost use Rattle.mapf_tree.specs.Searched.{Searched, IsLawful};
+
+    ghost Value = { Searched };
+
+    ghost view = { λ s. record { problem = s.problem.now; waiting = s.waiting; last = option_map key_rank s.last; outcome = s.outcome } };
+
+    ghost invariant = { λ s. IsLawful s.problem.now s.waiting (option_map key_rank s.last) s.outcome };
+}
+
+impl<'p> Search<'p> {
+    ghost use Rattle.mapf_tree.specs.Problem.{Problem};
+    ghost use Rattle.mapf_tree.specs.Family.{IsRoot};
+    ghost use Rattle.mapf_tree.specs.Answered.{IsAnswerOf, IsBestAnswer};
+    ghost use Rattle.mapf_tree.specs.Searched.{IsSearch, TakesBetween, answer_of};
+    ghost use Rattle.mapf_tree.specs.Stepped.{IsStep};
+
+    /// A search that has taken no pair yet.
+    pub fn new(alloc: Global, problem: &'p Problem) -> Result<Search<'p>, NoMemory>
+        ensures problem { IfOk result (λ s. s.problem ≡ problem.now) }
+        ensures search { IfOk result IsSearch }
+        ensures fresh { IfOk result (λ s. (s.last ≡ None) × (s.outcome ≡ Ok None)) }
+    {
+        let first = root(alloc, problem)?;
+        Search::from_root(alloc, problem, first)
+    }
+
+    /// A search from the root of the tree, which is none where the tree is empty.
+    pub fn from_root(
+        alloc: Global,
+        problem: &'p Problem,
+        first: Option<Node>,
+    ) -> Result<Search<'p>, NoMemory>
+        requires { IsRoot problem.now first }
+        ensures problem { IfOk result (λ s. s.problem ≡ problem.now) }
+        ensures search { IfOk result IsSearch }
+        ensures fresh { IfOk result (λ s. (s.last ≡ None) × (s.outcome ≡ Ok None)) }
+    {
+        let mut waiting = OpenList::new(alloc);
+        put_if_some(&mut waiting, first)?;
+        Ok(Search {
+            problem,
+            waiting,
+            last: None,
+            outcome: Ok(None),
+        })
+    }
+
+    /// Takes up to so many nodes, and fewer only if that gives the answer.
+    pub fn go<C: Children>(&mut self, children: &mut C, turns: u64) -> Result<Progress, NoMemory>
+        requires { C.serves children.old self.old.problem }
+
+        // The source serves the same problem.
+        ensures problem { self.new.problem ≡ self.old.problem }
+        ensures serves { C.serves children.new self.new.problem }
+
+        // What is taken and what waits; exactly so many pairs were taken, or there is the answer.
+        ensures search { IsSearch self.new }
+        ensures working { result ≡ Ok Progress.Working → (self.new.outcome ≡ Ok None) × TakesBetween self.new.problem self.old.last self.new.last turns }
+        ensures finished { result ≡ Ok Progress.Finished → (given : Answer) × (self.new.outcome ≡ Ok (Some given)) × IsAnswerOf self.new.problem.inst self.new.problem.bound given }
+        ensures no_memory { OnErr result (IsErr self.new.outcome) }
+
+        // A search that has ended does nothing.
+        ensures answered { (given : Answer) → self.old.outcome ≡ Ok (Some given) → (result ≡ Ok Progress.Finished) × (self.new ≡ self.old) }
+        ensures failed { IsErr self.old.outcome → IsErr result × (self.new ≡ self.old) }
+    {
+        if let Progress::Finished = self.progress()? {
+            return Ok(Progress::Finished);
+        }
+        for _taken in 0..turns {
+            if let Progress::Finished = self.step(children)? {
+                return Ok(Progress::Finished);
+            }
+        }
+        Ok(Progress::Working)
+    }
+
+    /// Goes on until there is the answer. It returns, since the tree is finite.
+    pub fn finish<C: Children>(self, children: &mut C) -> Result<Answer, NoMemory>
+        requires { C.serves children.old self.problem }
+        ensures answer { IfOk result (IsAnswerOf self.entry.problem.inst self.entry.problem.bound) }
+        ensures best { IfOk result (IsBestAnswer self.entry.problem.inst self.entry.problem.bound) }
+    {
+        let mut search = self;
+        while let Progress::Working = search.go(children, 1)? {}
+        search.into_answer().ok_or(NoMemory)
+    }
+
+    /// Whether there is an answer.
+    fn progress(&self) -> Result<Progress, NoMemory>
+        ensures search { IsSearch self.now }
+        ensures working { result ≡ Ok Progress.Working → self.now.outcome ≡ Ok None }
+        ensures finished { result ≡ Ok Progress.Finished → (given : Answer) × (self.now.outcome ≡ Ok (Some given)) }
+        ensures failed { OnErr result (IsErr self.now.outcome) }
+    {
+        match &self.outcome {
+            Ok(Some(_answer)) => Ok(Progress::Finished),
+            Ok(None) => Ok(Progress::Working),
+            Err(refused) => Err(*refused),
+        }
+    }
+
+    /// Takes one node.
+    fn step<C: Children>(&mut self, children: &mut C) -> Result<Progress, NoMemory>
+        requires serves { C.serves children.old self.old.problem }
+        requires open_yet { self.old.outcome ≡ Ok None }
+        ensures problem { self.new.problem ≡ self.old.problem }
+        ensures serves { C.serves children.new self.new.problem }
+        ensures search { IsSearch self.new }
+        ensures step { IsStep self.old self.new result }
+    {
+        match take_turn(self.problem, &mut self.waiting, children) {
+            Ok(Turn::Branched(key)) => {
+                self.last = Some(key);
+                Ok(Progress::Working)
+            }
+            Ok(Turn::Solved { key, plan }) => {
+                let stated = key.cost;
+                self.last = Some(key);
+                self.outcome = Ok(Some(Answer::Plan { plan, stated }));
+                Ok(Progress::Finished)
+            }
+            Ok(Turn::Empty) => {
+                let bound = self.problem.bound();
+                self.outcome = Ok(Some(Answer::None { bound }));
+                Ok(Progress::Finished)
+            }
+            Err(refused) => {
+                self.outcome = Err(refused);
+                Err(refused)
+            }
+        }
+    }
+
+    /// The answer; none before there is one, and none after want of memory.
+    pub fn answer(&self) -> Option<&Answer>
+        ensures answer { option_copied result ≡ answer_of self.now.outcome }
+        ensures search { IsSearch self.now }
+    {
+        match &self.outcome {
+            Ok(Some(answer)) => Some(answer),
+            _ => None,
+        }
+    }
+
+    /// The answer, taken out of the search.
+    pub fn into_answer(self) -> Option<Answer>
+        ensures answer { result ≡ answer_of self.entry.outcome }
+        ensures search { IsSearch self.entry }
+    {
+        let Search {
+            problem: _problem,
+            waiting: _waiting,
+            last: _last,
+            outcome,
+        } = self;
+        outcome.ok().flatten()
+    }
+
+    /// The nodes that wait.
+    pub fn waiting(&self) -> &OpenList
+        ensures waiting { result.now ≡ self.now.waiting }
+        ensures search { IsSearch self.now }
+    {
+        &self.waiting
+    }
+
+    /// The key of the last node that was taken; none where no node was.
+    pub fn last(&self) -> Option<&Key>
+        ensures last { option_map (λ k. key_rank k.now) result ≡ self.now.last }
+        ensures search { IsSearch self.now }
+    {
+        self.last.as_ref()
+    }
+}

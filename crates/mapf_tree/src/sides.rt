@@ -1,0 +1,37 @@
+//! The two sides of a conflict: each forbids one of the two agents its part in it.
+
+ghost use Rattle.std.specs.Prelude.{◌≡◌};
+ghost use Rattle.mapf_tree.specs.Tree.{agent_on, constraint_on};
+
+use crate::Side;
+use mapf_low::Constraint;
+use mapf_plan::Conflict;
+
+/// The agent of this side.
+pub(crate) fn agent_of(conflict: &Conflict, side: Side) -> usize
+    ensures { result ≡ agent_on conflict.now side }
+{
+    let (Conflict::Vertex { first, second, .. } | Conflict::Swapping { first, second, .. }) =
+        *conflict;
+    match side {
+        Side::Left => first,
+        Side::Right => second,
+    }
+}
+
+/// What this side forbids its agent: the cell at that time, or the step that the agent takes then.
+pub(crate) fn constraint_of(conflict: &Conflict, side: Side) -> Constraint
+    ensures { result ≡ constraint_on conflict.now side }
+{
+    match *conflict {
+        Conflict::Vertex { cell, time, .. } => Constraint::Vertex { cell, time },
+        Conflict::Swapping { from, to, time, .. } => match side {
+            Side::Left => Constraint::Edge { from, to, time },
+            Side::Right => Constraint::Edge {
+                from: to,
+                to: from,
+                time,
+            },
+        },
+    }
+}
