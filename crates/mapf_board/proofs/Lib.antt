@@ -1,0 +1,4 @@
+pub mod Sums
+pub mod Drawing
+pub mod Ends
+pub mod Counted
