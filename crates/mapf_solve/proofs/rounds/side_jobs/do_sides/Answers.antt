@@ -1,0 +1,5 @@
+use Rattle.std.proofs.Common.{All, Contains, subst}
+use Rattle.mapf_solve.proofs.rounds.side_jobs.do_sides.Goals as goal
+
+pub returns-in-Ok : goal.returns-in-Ok
+returns-in-Ok g c = subst (λ l. All (λ p. Contains l p.0) c.in-Ok.pairs.items) c.deref.ensures.value c.in-Ok.ensures

@@ -1,0 +1,4 @@
+pub mod Refusals
+pub mod Out
+pub mod Run
+pub mod Rounds

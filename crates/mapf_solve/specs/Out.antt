@@ -1,0 +1,79 @@
+-- What is answered to two files and an ask: one text, or one named fault. Nothing here speaks of workers but their number's limits.
+use Rattle.std.specs.Prelude.{◌≡◌, ℕ, ◌<◌, ◌≤◌, ◌⊎◌, List, Option, Result, Ok, Err}
+use Rattle.mapf_grid.specs.Grid.{Grid}
+use Rattle.mapf_grid.specs.Lines.{lines_of}
+use Rattle.mapf_grid.specs.MapFile.{IsMap, IsMapFault}
+use Rattle.mapf_grid.specs.ScenarioFile.{IsScenario, IsScenFault}
+use Rattle.mapf_grid.specs.Instance.{Instance, IsInstance, IsInstanceFault}
+use Rattle.mapf_grid.specs.declared.scenario.Row.{Row}
+use Rattle.mapf_plan.specs.Plan.{plan_cost, IsValid, IsOptimum}
+use Rattle.mapf_plan.specs.Text.{text}
+use Rattle.mapf_plan.specs.declared.answer.Answer.TheVariants as answer
+use Rattle.mapf_tree.specs.Tree.{IsAnswer}
+use Rattle.mapf_tree.specs.Answered.{stated}
+use Rattle.mapf_solve.specs.declared.ask.Ask.{Ask}
+use Rattle.mapf_solve.specs.declared.refusal.Refusal.{Refusal}
+use Rattle.mapf_solve.specs.declared.refusal.Refusal.TheVariants as refusal
+
+abbrev pub IsBound : Ask → Type 0
+IsBound ask = ask.bound ≤ 1000000
+
+abbrev pub IsWorkers : Ask → Type 0
+IsWorkers ask = (0 < ask.workers) × (ask.workers ≤ 64)
+
+-- the instance that the bytes of the two files ask for
+pub record IsAsked (map scen : List ℕ) (agents : ℕ) (inst : Instance) : Type 0 where
+  pub rows : List Row
+  pub map_file : IsMap (lines_of map) inst.grid
+  pub scenario_file : IsScenario (lines_of scen) rows
+  pub instance : IsInstance inst.grid rows agents inst
+
+-- the first fault of the map, the scenario and the instance
+abbrev pub IsFilesFault : List ℕ → List ℕ → ℕ → Refusal → Type 0
+IsFilesFault map scen agents refusal.Bound = ⊥
+IsFilesFault map scen agents refusal.Workers = ⊥
+IsFilesFault map scen agents (refusal.Map fault) = IsMapFault (lines_of map) fault
+IsFilesFault map scen agents (refusal.Scenario fault) = (g : Grid) × IsMap (lines_of map) g × IsScenFault (lines_of scen) fault
+IsFilesFault map scen agents (refusal.Instance fault) =
+    (g : Grid) × (rows : List Row) × IsMap (lines_of map) g × IsScenario (lines_of scen) rows × IsInstanceFault g rows agents fault
+IsFilesFault map scen agents refusal.NoMemory = ⊥
+
+-- the bound comes first, then the workers, then the files
+abbrev pub IsRefusal : List ℕ → List ℕ → Ask → Refusal → Type 0
+IsRefusal map scen ask refusal.Bound = ¬ IsBound ask
+IsRefusal map scen ask refusal.Workers = IsBound ask × ¬ IsWorkers ask
+IsRefusal map scen ask fault = IsBound ask × IsWorkers ask × IsFilesFault map scen ask.agents fault
+
+-- the text of the answer of conflict-based search: the plan of the constraint tree's first solution
+pub record IsText (map scen : List ℕ) (ask : Ask) (bytes : List ℕ) : Type 0 where
+  pub bound : IsBound ask
+  pub workers : IsWorkers ask
+  pub inst : Instance
+  pub asked : IsAsked map scen ask.agents inst
+  pub plan : Option (List (List ℕ))
+  pub answer : IsAnswer inst ask.bound plan
+  pub spelled : bytes ≡ text inst.grid (stated ask.bound plan)
+
+-- the text, or the named fault, unless memory was wanting
+abbrev pub IsOut : List ℕ → List ℕ → Ask → Result (List ℕ) Refusal → Type 0
+IsOut map scen ask (Ok bytes) = IsText map scen ask bytes
+IsOut map scen ask (Err fault) = IsRefusal map scen ask fault
+
+-- a plan that has no conflict and costs least of all such plans, or `none` exactly if no plan without conflict costs at most the bound
+pub record IsBest (map scen : List ℕ) (ask : Ask) (bytes : List ℕ) : Type 0 where
+  pub inst : Instance
+  pub asked : IsAsked map scen ask.agents inst
+  pub best :
+      ((plan : List (List ℕ)) × IsOptimum inst ask.bound plan × (bytes ≡ text inst.grid (answer.Plan plan (plan_cost plan))))
+      ⊎ (((plan : List (List ℕ)) → IsValid inst plan → plan_cost plan ≤ ask.bound → ⊥) × (bytes ≡ text inst.grid (answer.None ask.bound)))
+
+-- with any number of workers from 1 to 64 this is the one answer
+abbrev pub IsOnlyOut : List ℕ → List ℕ → Ask → Result (List ℕ) Refusal → Type 0
+IsOnlyOut map scen ask given =
+    (n : ℕ) → IsWorkers (record ask { workers = n }) → (other : Result (List ℕ) Refusal) →
+    IsOut map scen (record ask { workers = n }) other → other ≡ given
+
+-- two files and an ask have one text or one fault, whatever the numbers of workers are
+abbrev pub OneOut : Type 0
+OneOut =
+    (map scen : List ℕ) (ask : Ask) (given : Result (List ℕ) Refusal) → IsWorkers ask → IsOut map scen ask given → IsOnlyOut map scen ask given

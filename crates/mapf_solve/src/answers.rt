@@ -1,0 +1,78 @@
+//! The answer, from the bytes of two files to the bytes of the text.
+
+ghost use Rattle.std.specs.Prelude.{◌≡◌, ◌≢◌, ◌≤◌, IfOk, IfErr, Ok, Err};
+ghost use Rattle.mapf_plan.specs.Text.{text};
+ghost use Rattle.mapf_tree.specs.Answered.{IsAnswerOf};
+ghost use Rattle.mapf_solve.specs.Out.{IsOut, IsBest, IsOnlyOut, IsWorkers};
+
+use crate::{Ask, Refusal, instance_of, solve};
+use mapf_board::Gate;
+use mapf_grid::NoMemory;
+use mapf_plan::{Answer, write};
+use mapf_tree::Problem;
+use std::alloc::Global;
+use std::thread::Threads;
+
+/// The text of the answer, or the first fault.
+///
+/// The text is that of the one answer of conflict-based search: a plan without conflict that costs least of all such
+/// plans, or `none` exactly if no plan without conflict costs at most the bound. It is the same for each number of
+/// workers. Faults come in the order bound, workers, map, scenario, instance; want of memory may come in place of
+/// anything.
+pub fn answer<R: Threads + Sync, G: Gate>(
+    rt: &R,
+    alloc: Global,
+    map: &[u8],
+    scen: &[u8],
+    ask: Ask,
+    gate: &G,
+) -> Result<Vec<u8>, Refusal>
+    // The text of conflict-based search's answer, or else the first fault.
+    ensures text { IfOk result (λ bytes. IsOut map.now scen.now ask (Ok bytes.items)) }
+    ensures fault { IfErr result (λ fault. fault ≢ Refusal.NoMemory → IsOut map.now scen.now ask (Err fault)) }
+
+    // No plan without conflict costs less; `none` exactly if none costs at most the bound.
+    ensures best { IfOk result (λ bytes. IsBest map.now scen.now ask bytes.items) }
+
+    // The same bytes, or the same fault, with any number of workers.
+    ensures same { IfOk result (λ bytes. IsOnlyOut map.now scen.now ask (Ok bytes.items)) }
+    ensures same_fault { IfErr result (λ fault. fault ≢ Refusal.NoMemory → IsWorkers ask → IsOnlyOut map.now scen.now ask (Err fault)) }
+{
+    text_or_fault(rt, alloc, map, scen, ask, gate)
+}
+
+/// The same, where nothing is said of other numbers of workers.
+fn text_or_fault<R: Threads + Sync, G: Gate>(
+    rt: &R,
+    alloc: Global,
+    map: &[u8],
+    scen: &[u8],
+    ask: Ask,
+    gate: &G,
+) -> Result<Vec<u8>, Refusal>
+    ensures text { IfOk result (λ bytes. IsOut map.now scen.now ask (Ok bytes.items)) }
+    ensures fault { IfErr result (λ fault. fault ≢ Refusal.NoMemory → IsOut map.now scen.now ask (Err fault)) }
+    ensures best { IfOk result (λ bytes. IsBest map.now scen.now ask bytes.items) }
+{
+    if ask.bound > 1_000_000 {
+        return Err(Refusal::Bound);
+    }
+    if ask.workers < 1 || ask.workers > 64 {
+        return Err(Refusal::Workers);
+    }
+    let instance = instance_of(alloc, map, scen, ask.agents)?;
+    let Ok(problem) = Problem::new(alloc, instance, ask.bound as u32) else {
+        return Err(Refusal::NoMemory);
+    };
+    let answer = solve(rt, alloc, &problem, ask.workers as usize, gate)?;
+    Ok(spell(alloc, &problem, &answer)?)
+}
+
+/// The text of a problem's answer.
+fn spell(alloc: Global, problem: &Problem, answer: &Answer) -> Result<Vec<u8>, NoMemory>
+    requires bound { problem.now.bound ≤ 1000000 }
+    requires answer { IsAnswerOf problem.now.inst problem.now.bound answer.now }
+    ensures { IfOk result (λ bytes. bytes.items ≡ text problem.now.inst.grid answer.now) }
+{
+    write(alloc, answer, problem.instance().map())
+}

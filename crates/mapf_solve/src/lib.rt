@@ -1,0 +1,24 @@
+//! The solver: from the bytes of two files to the bytes of the answer, with any number of workers.
+#![tactic(auto)]
+
+mod answers;
+mod ask;
+mod asked;
+mod files;
+pub mod laws;
+mod refusal;
+mod rounds;
+mod run_fault;
+mod runs;
+mod solving;
+#[cfg(test)]
+mod tests;
+
+pub use answers::answer;
+pub use ask::Ask;
+pub use asked::instance_of;
+pub use files::read_file;
+pub use refusal::Refusal;
+pub use run_fault::{FileName, RunFault};
+pub use runs::run;
+pub use solving::solve;

@@ -1,0 +1,78 @@
+use mapf_grid::{InstanceFault, MapFault, NoMemory, ScenFault};
+use thiserror::Error;
+
+/// Why an ask has no answer.
+#[derive(Clone, Copy, Debug, PartialEq, Eq, Error)]
+pub enum Refusal {
+    /// The bound is over 1,000,000.
+    #[error("41 bound")]
+    Bound,
+    /// The number of workers isn't 1 to 64.
+    #[error("42 workers")]
+    Workers,
+    /// The first bytes are no map file.
+    #[error(transparent)]
+    Map(MapFault),
+    /// The second bytes are no scenario file.
+    #[error(transparent)]
+    Scenario(ScenFault),
+    /// The scenario's first rows make no instance on the map.
+    #[error(transparent)]
+    Instance(InstanceFault),
+    /// Want of memory, wherever it came.
+    #[error("43 no memory")]
+    NoMemory,
+}
+
+impl From<NoMemory> for Refusal {
+    ghost use Rattle.std.specs.Prelude.{◌≡◌};
+    ghost use Rattle.mapf_solve.specs.declared.refusal.Refusal.TheVariants as refusal;
+
+    ghost from_gives = { λ _ r. r ≡ refusal.NoMemory };
+
+    fn from(_refused: NoMemory) -> Refusal {
+        Refusal::NoMemory
+    }
+}
+
+impl From<MapFault> for Refusal {
+    ghost use Rattle.std.specs.Prelude.{◌≡◌};
+    ghost use Rattle.mapf_solve.specs.Refusals.{of_map};
+
+    ghost from_gives = { λ fault r. r ≡ of_map fault };
+
+    fn from(fault: MapFault) -> Refusal {
+        match fault {
+            MapFault::NoMemory => Refusal::NoMemory,
+            _ => Refusal::Map(fault),
+        }
+    }
+}
+
+impl From<ScenFault> for Refusal {
+    ghost use Rattle.std.specs.Prelude.{◌≡◌};
+    ghost use Rattle.mapf_solve.specs.Refusals.{of_scenario};
+
+    ghost from_gives = { λ fault r. r ≡ of_scenario fault };
+
+    fn from(fault: ScenFault) -> Refusal {
+        match fault {
+            ScenFault::NoMemory => Refusal::NoMemory,
+            _ => Refusal::Scenario(fault),
+        }
+    }
+}
+
+impl From<InstanceFault> for Refusal {
+    ghost use Rattle.std.specs.Prelude.{◌≡◌};
+    ghost use Rattle.mapf_solve.specs.Refusals.{of_instance};
+
+    ghost from_gives = { λ fault r. r ≡ of_instance fault };
+
+    fn from(fault: InstanceFault) -> Refusal {
+        match fault {
+            InstanceFault::NoMemory => Refusal::NoMemory,
+            _ => Refusal::Instance(fault),
+        }
+    }
+}

@@ -1,0 +1,118 @@
+//! Children that are worked ahead in rounds, by workers in threads.
+
+ghost use Rattle.std.specs.Prelude.{◌≡◌, ◌<◌, ◌≤◌, All, IfOk, OnOk, length};
+ghost use Rattle.mapf_tree.specs.Waiting.{AllShow};
+ghost use Rattle.mapf_solve.specs.Rounds.{IsBranching, IsChildOf};
+
+mod kept;
+mod path_job;
+mod root;
+mod root_paths;
+mod round;
+mod side_job;
+mod side_jobs;
+
+use kept::Kept;
+use mapf_board::Pair;
+use mapf_grid::NoMemory;
+use mapf_tree::{Children, Node, OpenList, Problem, Side, child};
+pub(crate) use root::root;
+pub(crate) use side_job::{SideJob, Sides};
+pub(crate) use side_jobs::do_sides;
+use side_jobs::side_jobs;
+use std::alloc::Global;
+
+/// Children of a problem's nodes, worked ahead in rounds.
+///
+/// Before a node is taken whose children are not all worked out, a round does the sides of the first waiting nodes. A
+/// child that a worker made is used only at the turn of the node and the side that its job names; what is missing is
+/// worked out alone. The round itself is a function of its jobs, which whoever makes the source brings along.
+#[derive(Drop)]
+pub(crate) struct Rounds<'p, F> {
+    alloc: Global,
+    /// What does the jobs of a round.
+    round: F,
+    workers: usize,
+    /// The number of the next job.
+    next: u64,
+    kept: Kept<'p>,
+}
+
+impl<'p, F: Fn(Vec<SideJob<'p>>) -> Vec<Pair<Sides<'p>>>> Rounds<'p, F> {
+    /// Rounds of this kind for so many workers, whose first job has this number.
+    pub(crate) fn new(
+        alloc: Global,
+        problem: &'p Problem,
+        workers: usize,
+        next: u64,
+        round: F,
+    ) -> Rounds<'p, F>
+        ensures problem { result.kept ≡ problem.now }
+        ensures round { result.round ≡ round }
+        ensures workers { result.workers ≡ workers }
+    {
+        Rounds {
+            alloc,
+            round,
+            workers,
+            next,
+            kept: Kept::new(alloc, problem),
+        }
+    }
+
+    /// A child of a node: as it was worked ahead, or worked out alone.
+    fn side(&mut self, node: &Node, side: Side) -> Result<Option<Node>, NoMemory>
+        requires { IsBranching self.old.kept node.now }
+        ensures problem { self.new.kept ≡ self.old.kept }
+        ensures round { (self.new.round ≡ self.old.round) × (self.new.workers ≡ self.old.workers) }
+        ensures child { IfOk result (IsChildOf self.old.kept node.now side) }
+    {
+        match self.kept.take(node, side) {
+            Some(found) => Ok(found),
+            None => child(self.alloc, self.kept.problem(), node, side),
+        }
+    }
+
+    /// Whether the least waiting node has a conflict and a side that isn't worked out.
+    fn is_due(&self, waiting: &OpenList) -> bool {
+        match waiting.first(1).next() {
+            Some(node) => {
+                node.conflict().is_some()
+                    && !(self.kept.holds(node, Side::Left) && self.kept.holds(node, Side::Right))
+            }
+            None => false,
+        }
+    }
+}
+
+impl<'p, F: Fn(Vec<SideJob<'p>>) -> Vec<Pair<Sides<'p>>>> Children for Rounds<'p, F> {
+    ghost use Rattle.std.specs.Prelude.{◌≡◌, ◌<◌, ◌≤◌, All, Contains, length};
+
+    // It serves its own problem, with a round that takes up to 64 jobs and answers no others.
+    ghost serves = { λ r p. (r.kept ≡ p) × ((0 < r.workers) × (r.workers ≤ 64))
+        × ((jobs : _) → length jobs.items ≤ 64 → F.pre r.round jobs)
+        × ((jobs pairs : _) → F.post r.round jobs pairs → All (λ pair. Contains jobs.items pair.0) pairs.items) };
+
+    fn both(
+        &mut self,
+        _problem: &Problem,
+        node: &Node,
+    ) -> Result<(Option<Node>, Option<Node>), NoMemory> {
+        let left = self.side(node, Side::Left)?;
+        let right = self.side(node, Side::Right)?;
+        Ok((left, right))
+    }
+
+    fn ahead(&mut self, _problem: &Problem, waiting: &OpenList) {
+        if !self.is_due(waiting) {
+            return;
+        }
+        let Ok(jobs) = side_jobs(self.alloc, &self.kept, waiting, 4 * self.workers, self.next)
+        else {
+            return;
+        };
+        self.next = self.next.saturating_add(jobs.len() as u64);
+        let pairs = (self.round)(jobs);
+        self.kept.keep(pairs);
+    }
+}

@@ -1,0 +1,98 @@
+//! The jobs of the first round: each agent's own path without constraints.
+
+ghost use Rattle.std.specs.Prelude.{◌≡◌, ◌<◌, length};
+ghost use Rattle.mapf_solve.specs.Rounds.{FitsPath};
+
+use crate::rounds::round::Repeat;
+use mapf_board::{Pair, Task, Work};
+use mapf_grid::NoMemory;
+use mapf_plan::Path;
+use mapf_tree::{Problem, root_path};
+use std::alloc::Global;
+use std::marker::Model;
+
+/// An agent's own path without constraints is wanted.
+#[derive(Drop)]
+pub(crate) struct PathJob<'p> {
+    problem: &'p Problem,
+    agent: usize,
+    number: u64,
+}
+
+impl<'p> Model for PathJob<'p> {
+    ghost use Rattle.std.specs.Prelude.{◌<◌, length};
+    ghost use Rattle.mapf_solve.specs.Rounds.{PathAsked};
+
+    ghost Value = { PathAsked };
+
+    ghost view = { λ j. record { problem = j.problem.now; agent = j.agent; number = j.number } };
+
+    ghost invariant = { λ j. j.agent < length j.problem.now.inst.starts };
+}
+
+impl<'p> PathJob<'p> {
+    /// The job for this agent.
+    pub(crate) fn of(problem: &'p Problem, agent: usize, number: u64) -> PathJob<'p>
+        requires { agent < length problem.now.inst.starts }
+        ensures { result ≡ record { problem = problem.now; agent = agent; number = number } }
+    {
+        PathJob {
+            problem,
+            agent,
+            number,
+        }
+    }
+
+    /// The agent that it is for.
+    pub(crate) fn agent(&self) -> usize
+        ensures agent { result ≡ self.now.agent }
+        ensures there { result < length self.now.problem.inst.starts }
+    {
+        self.agent
+    }
+}
+
+/// Finds agents' own paths.
+#[derive(Drop)]
+pub(crate) struct Paths<'p> {
+    alloc: Global,
+    problem: &'p Problem,
+}
+
+impl<'p> Paths<'p> {
+    /// The work on this problem; memory comes from this allocator.
+    pub(crate) fn new(alloc: Global, problem: &'p Problem) -> Paths<'p> {
+        Paths { alloc, problem }
+    }
+}
+
+impl<'p> Task for Paths<'p> {
+    type Job = PathJob<'p>;
+
+    type Answer = Option<Path>;
+
+    ghost fits = { FitsPath };
+}
+
+impl<'p> Work for Paths<'p> {
+    fn perform(&self, job: PathJob<'p>) -> Result<Pair<Paths<'p>>, PathJob<'p>> {
+        match root_path(self.alloc, job.problem, job.agent) {
+            Ok(found) => Ok(Pair::of(job, found)),
+            Err(_) => Err(job),
+        }
+    }
+}
+
+impl<'p> Repeat for Paths<'p> {
+    fn again(&self, job: &PathJob<'p>) -> Result<PathJob<'p>, NoMemory> {
+        Ok(PathJob {
+            problem: job.problem,
+            agent: job.agent,
+            number: job.number,
+        })
+    }
+
+    fn number(&self, job: &PathJob<'p>) -> u64 {
+        job.number
+    }
+}

@@ -1,0 +1,106 @@
+//! The jobs of the later rounds: children of nodes that wait.
+
+ghost use Rattle.std.specs.Prelude.{◌≡◌};
+ghost use Rattle.mapf_solve.specs.Rounds.{FitsSide, IsBranching};
+
+use crate::rounds::round::Repeat;
+use mapf_board::{Pair, Task, Work};
+use mapf_grid::NoMemory;
+use mapf_tree::{Node, Problem, Side, child};
+use std::alloc::Global;
+use std::marker::Model;
+
+/// A child of a node is wanted, on one side of the conflict of the node's plan.
+#[derive(Drop)]
+pub(crate) struct SideJob<'p> {
+    problem: &'p Problem,
+    node: Node,
+    side: Side,
+    number: u64,
+}
+
+impl<'p> Model for SideJob<'p> {
+    ghost use Rattle.mapf_solve.specs.Rounds.{SideAsked, IsBranching};
+
+    ghost Value = { SideAsked };
+
+    ghost view = { λ j. record { problem = j.problem.now; node = j.node; side = j.side; number = j.number } };
+
+    ghost invariant = { λ j. IsBranching j.problem.now j.node };
+}
+
+impl<'p> SideJob<'p> {
+    /// The job for this node and side.
+    pub(crate) fn of(problem: &'p Problem, node: Node, side: Side, number: u64) -> SideJob<'p>
+        requires { IsBranching problem.now node }
+        ensures { result ≡ record { problem = problem.now; node = node; side = side; number = number } }
+    {
+        SideJob {
+            problem,
+            node,
+            side,
+            number,
+        }
+    }
+
+    /// The node whose child it is to be.
+    pub(crate) fn node(&self) -> &Node
+        ensures node { result.now ≡ self.now.node }
+        ensures branching { IsBranching self.now.problem result.now }
+    {
+        &self.node
+    }
+
+    /// The side of the child.
+    pub(crate) fn side(&self) -> Side
+        ensures { result ≡ self.now.side }
+    {
+        self.side
+    }
+}
+
+/// Works children of nodes out.
+#[derive(Drop)]
+pub(crate) struct Sides<'p> {
+    alloc: Global,
+    problem: &'p Problem,
+}
+
+impl<'p> Sides<'p> {
+    /// The work on this problem; memory comes from this allocator.
+    pub(crate) fn new(alloc: Global, problem: &'p Problem) -> Sides<'p> {
+        Sides { alloc, problem }
+    }
+}
+
+impl<'p> Task for Sides<'p> {
+    type Job = SideJob<'p>;
+
+    type Answer = Option<Node>;
+
+    ghost fits = { FitsSide };
+}
+
+impl<'p> Work for Sides<'p> {
+    fn perform(&self, job: SideJob<'p>) -> Result<Pair<Sides<'p>>, SideJob<'p>> {
+        match child(self.alloc, job.problem, &job.node, job.side) {
+            Ok(found) => Ok(Pair::of(job, found)),
+            Err(_) => Err(job),
+        }
+    }
+}
+
+impl<'p> Repeat for Sides<'p> {
+    fn again(&self, job: &SideJob<'p>) -> Result<SideJob<'p>, NoMemory> {
+        Ok(SideJob {
+            problem: job.problem,
+            node: job.node.copy(self.alloc)?,
+            side: job.side,
+            number: job.number,
+        })
+    }
+
+    fn number(&self, job: &SideJob<'p>) -> u64 {
+        job.number
+    }
+}

@@ -1,0 +1,47 @@
+//! A run from two readers to a writer.
+
+ghost use Rattle.std.specs.Prelude.{◌<◌};
+ghost use Rattle.mapf_plan.specs.Device.{Counts};
+ghost use Rattle.mapf_solve.specs.Run.{is_read_failure, is_write_failure, Leaves};
+
+use crate::{Ask, FileName, RunFault, answer, read_file};
+use mapf_board::NoGate;
+use mapf_plan::{Sink, Source, write_whole};
+use std::alloc::Global;
+use std::thread::Threads;
+
+/// Reads the map to its end, then the scenario, and writes the answer's text and nothing else.
+///
+/// The first failed call of a device ends the run; nothing is written before the answer is known.
+pub fn run<R: Threads + Sync, M: Source, S: Source, O: Sink>(
+    rt: &R,
+    alloc: Global,
+    map: &mut M,
+    scen: &mut S,
+    out: &mut O,
+    ask: Ask,
+) -> Result<(), RunFault>
+    requires map { M.failures map.old < u64.MAX }
+    requires scen { S.failures scen.old < u64.MAX }
+    requires out { O.failures out.old < u64.MAX }
+
+    // A device's failure is answered exactly where its count rose, and that is by 1.
+    ensures map { Counts (is_read_failure FileName.Map result) (M.failures map.old) (M.failures map.new) }
+    ensures scen { Counts (is_read_failure FileName.Scenario result) (S.failures scen.old) (S.failures scen.new) }
+    ensures out { Counts (is_write_failure result) (O.failures out.old) (O.failures out.new) }
+
+    // What was written is the text of what the readers gave.
+    ensures text { Leaves (M.remaining map.old) (S.remaining scen.old) ask (O.contents out.old) (O.contents out.new) result }
+{
+    let map = read_file(alloc, map, FileName::Map)?;
+    let scen = read_file(alloc, scen, FileName::Scenario)?;
+    match answer(rt, alloc, &map, &scen, ask, &NoGate) {
+        Ok(text) => match write_whole(out, &text) {
+            Ok(()) => Ok(()),
+            Err(failed) => Err(RunFault::WriteFailed {
+                taken: failed.taken,
+            }),
+        },
+        Err(refusal) => Err(RunFault::Refusal(refusal)),
+    }
+}

@@ -1,0 +1,48 @@
+//! A problem's answer.
+
+ghost use Rattle.std.specs.Prelude.{◌<◌, ◌≤◌, All, Contains, IfOk, length};
+ghost use denote.Param.Send.{IsSync};
+ghost use Rattle.mapf_tree.specs.Answered.{IsAnswerOf, IsBestAnswer};
+
+use crate::rounds::{Rounds, do_sides, root};
+use mapf_board::Gate;
+use mapf_grid::NoMemory;
+use mapf_plan::Answer;
+use mapf_tree::{Problem, Search};
+use std::alloc::Global;
+use std::thread::Threads;
+
+/// Solves a problem with so many workers: the answer is the same for each number of them.
+///
+/// The answer is the plan of the constraint tree's first solution, which has no conflict and costs least of all such
+/// plans; or none, exactly where no plan without conflict costs at most the bound. The gate is told of each job that a
+/// worker does; no answer depends on it.
+pub fn solve<R: Threads + Sync, G: Gate>(
+    rt: &R,
+    alloc: Global,
+    problem: &Problem,
+    workers: usize,
+    gate: &G,
+) -> Result<Answer, NoMemory>
+    requires some { 0 < workers }
+    requires few { workers ≤ 64 }
+    ensures answer { IfOk result (IsAnswerOf problem.now.inst problem.now.bound) }
+    ensures best { IfOk result (IsBestAnswer problem.now.inst problem.now.bound) }
+{
+    let first = root(rt, alloc, problem, workers, gate)?;
+    let next = problem.instance().agents() as u64;
+    let mut rounds = Rounds::new(
+        alloc,
+        problem,
+        workers,
+        next,
+        |jobs|
+            requires sync { IsSync R.row × IsSync G.row }
+            requires jobs { length jobs.items ≤ 64 }
+            requires workers { (0 < workers) × (workers ≤ 64) }
+            ensures { All (λ pair. Contains jobs.entry.items pair.0) result.items }
+        { do_sides(rt, alloc, problem, jobs, gate, workers) },
+    );
+    let search = Search::from_root(alloc, problem, first)?;
+    search.finish(&mut rounds)
+}

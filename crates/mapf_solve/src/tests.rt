@@ -1,0 +1,6 @@
+mod devices;
+mod files;
+mod gates;
+mod refusals;
+mod refused;
+mod worked;
