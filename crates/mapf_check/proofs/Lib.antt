@@ -1,0 +1,2 @@
+mod Pushed
+mod Verdicts

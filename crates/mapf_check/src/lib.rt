@@ -1,0 +1,15 @@
+//! A checker of plans, which judges any planner's answer to an instance.
+#![tactic(auto)]
+
+mod checker;
+pub mod laws;
+mod paths;
+mod steps;
+#[cfg(test)]
+mod tests;
+mod verdict;
+mod wording;
+
+pub use checker::check;
+pub use verdict::Verdict;
+pub use wording::line;

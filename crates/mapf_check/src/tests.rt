@@ -1,0 +1,209 @@
+use crate::{Verdict, check, line};
+use mapf_grid::{Cell, Instance, Map, Scenario};
+use mapf_plan::{Answer, Conflict, Path, Plan};
+use std::alloc::Global;
+use std::process::Abort;
+use std::test::Fail;
+
+// Two agents on
+//     ...
+//     @.@
+// whose cells are 0 1 2 and 3 4 5: agent 0 stays on cell 1, and agent 1 goes from cell 0 to cell 2.
+fn two_agents(alloc: Global) -> Result<Instance, Fail> {
+    let map = Map::read(alloc, b"type octile\nheight 2\nwidth 3\nmap\n...\n@.@\n")?;
+    let rows = Scenario::read(
+        alloc,
+        b"version 1\n0 m.map 3 2 1 0 1 0 0\n0 m.map 3 2 0 0 2 0 2\n",
+    )?;
+    Ok(
+        Instance::new(alloc, map, &rows, 2)
+            .ok()
+            .ok_or("no instance")?,
+    )
+}
+
+fn path(rt: &impl Abort, alloc: Global, cells: &[u32]) -> Result<Path, Fail> {
+    let cells: Vec<Cell> = cells.iter().map(|number| Cell::of(*number)).collect(alloc)?;
+    assert!(rt; !cells.is_empty() && cells.len() < 100);
+    Ok(Path::of(cells))
+}
+
+fn one_path(rt: &impl Abort, alloc: Global, cells: &[u32]) -> Result<Plan, Fail> {
+    let mut paths = Vec::new(alloc);
+    paths.push(path(rt, alloc, cells)?)?;
+    Ok(Plan::of(paths))
+}
+
+fn two_paths(rt: &impl Abort, alloc: Global, first: &[u32], second: &[u32]) -> Result<Plan, Fail> {
+    let mut paths = Vec::new(alloc);
+    paths.push(path(rt, alloc, first)?)?;
+    paths.push(path(rt, alloc, second)?)?;
+    Ok(Plan::of(paths))
+}
+
+// Checks a plan for the two agents, stated to cost so much.
+fn expect(
+    rt: &impl Abort,
+    alloc: Global,
+    plan: Plan,
+    stated: u64,
+    wanted: Verdict,
+) -> Result<(), Fail> {
+    let instance = two_agents(alloc)?;
+    let answer = Answer::Plan { plan, stated };
+    assert_eq!(rt; check(&instance, &answer), wanted);
+    Ok(())
+}
+
+#[test]
+fn valid_where_one_agent_makes_way(rt: HostRuntime) -> Result<(), Fail> {
+    let plan = two_paths(&rt, rt.alloc(), &[1, 4, 1], &[0, 1, 2])?;
+    expect(&rt, rt.alloc(), plan, 4, Verdict::Valid { cost: 4 })
+}
+
+#[test]
+fn no_plan_is_no_fault(rt: HostRuntime) -> Result<(), Fail> {
+    let instance = two_agents(rt.alloc())?;
+    let answer = Answer::None { bound: 4 };
+    assert_eq!(rt; check(&instance, &answer), Verdict::NoPlanGiven);
+    Ok(())
+}
+
+#[test]
+fn wrong_ends_of_paths(rt: HostRuntime) -> Result<(), Fail> {
+    let alloc = rt.alloc();
+    let count = one_path(&rt, alloc, &[1])?;
+    expect(&rt, alloc, count, 0, Verdict::AgentCount { paths: 1 })?;
+    let start = two_paths(&rt, alloc, &[1], &[1, 2])?;
+    expect(&rt, alloc, start, 1, Verdict::WrongStart { agent: 1 })?;
+    let end = two_paths(&rt, alloc, &[1, 4], &[0, 1, 2])?;
+    expect(&rt, alloc, end, 3, Verdict::WrongEnd { agent: 0 })?;
+    let late = two_paths(&rt, alloc, &[1, 4, 1], &[0, 1, 2, 2])?;
+    expect(&rt, alloc, late, 5, Verdict::EndsLate { agent: 1 })
+}
+
+#[test]
+fn bad_steps(rt: HostRuntime) -> Result<(), Fail> {
+    let alloc = rt.alloc();
+    let wall = two_paths(&rt, alloc, &[1], &[0, 3, 0, 1, 2])?;
+    let step = Verdict::BadStep { agent: 1, time: 1 };
+    expect(&rt, alloc, wall, 4, step)?;
+    let over_corner = two_paths(&rt, alloc, &[1, 2, 4, 1], &[0, 1, 2])?;
+    let step = Verdict::BadStep { agent: 0, time: 2 };
+    expect(&rt, alloc, over_corner, 5, step)?;
+    let outside = two_paths(&rt, alloc, &[1, 4, 7, 4, 1], &[0, 1, 2])?;
+    let step = Verdict::BadStep { agent: 0, time: 2 };
+    expect(&rt, alloc, outside, 6, step)
+}
+
+#[test]
+fn conflicts(rt: HostRuntime) -> Result<(), Fail> {
+    let alloc = rt.alloc();
+    let through_goal = two_paths(&rt, alloc, &[1], &[0, 1, 2])?;
+    let vertex = Conflict::Vertex {
+        first: 0,
+        second: 1,
+        cell: Cell::of(1),
+        time: 1,
+    };
+    expect(&rt, alloc, through_goal, 2, Verdict::Conflict(vertex))?;
+    let changed_places = two_paths(&rt, alloc, &[1, 0, 1], &[0, 1, 2])?;
+    let swapping = Conflict::Swapping {
+        first: 0,
+        second: 1,
+        from: Cell::of(1),
+        to: Cell::of(0),
+        time: 1,
+    };
+    expect(&rt, alloc, changed_places, 4, Verdict::Conflict(swapping))
+}
+
+#[test]
+fn another_cost_is_stated(rt: HostRuntime) -> Result<(), Fail> {
+    let plan = two_paths(&rt, rt.alloc(), &[1, 4, 1], &[0, 1, 2])?;
+    let cost = Verdict::WrongCost {
+        stated: 5,
+        found: 4,
+    };
+    expect(&rt, rt.alloc(), plan, 5, cost)
+}
+
+fn worded(rt: &impl Abort, alloc: Global, verdict: Verdict, wanted: &str) -> Result<(), Fail> {
+    let instance = two_agents(alloc)?;
+    let plain = !matches!(verdict, Verdict::Conflict(_));
+    assert!(rt; plain);
+    let text = line(alloc, &verdict, instance.map())?;
+    assert_eq!(rt; text.as_str(), wanted);
+    Ok(())
+}
+
+#[test]
+fn a_line_for_each_verdict(rt: HostRuntime) -> Result<(), Fail> {
+    let alloc = rt.alloc();
+    worded(&rt, alloc, Verdict::Valid { cost: 4 }, "valid 4\n")?;
+    worded(&rt, alloc, Verdict::NoPlanGiven, "no plan given\n")?;
+    worded(
+        &rt,
+        alloc,
+        Verdict::AgentCount { paths: 3 },
+        "61 agent count 3\n",
+    )?;
+    worded(
+        &rt,
+        alloc,
+        Verdict::WrongStart { agent: 7 },
+        "62 wrong start agent 7\n",
+    )?;
+    let step = Verdict::BadStep { agent: 0, time: 12 };
+    worded(&rt, alloc, step, "63 bad step agent 0 time 12\n")?;
+    worded(
+        &rt,
+        alloc,
+        Verdict::WrongEnd { agent: 2 },
+        "64 wrong end agent 2\n",
+    )?;
+    worded(
+        &rt,
+        alloc,
+        Verdict::EndsLate { agent: 1 },
+        "65 ends late agent 1\n",
+    )?;
+    let cost = Verdict::WrongCost {
+        stated: 5,
+        found: 4,
+    };
+    worded(&rt, alloc, cost, "67 wrong cost stated 5 found 4\n")
+}
+
+#[test]
+fn a_line_for_each_conflict(rt: HostRuntime) -> Result<(), Fail> {
+    let alloc = rt.alloc();
+    let instance = two_agents(alloc)?;
+    let map = instance.map();
+    let from = map.cell(1, 0).ok_or("no cell")?;
+    let to = map.cell(1, 1).ok_or("no cell")?;
+    let vertex = Verdict::Conflict(Conflict::Vertex {
+        first: 0,
+        second: 1,
+        cell: from,
+        time: 1,
+    });
+    let text = line(alloc, &vertex, map)?;
+    assert_eq!(rt;
+        text.as_str(),
+        "66 vertex conflict agents 0 1 cell 1,0 time 1\n"
+    );
+    let swapping = Verdict::Conflict(Conflict::Swapping {
+        first: 0,
+        second: 1,
+        from,
+        to,
+        time: 3,
+    });
+    let text = line(alloc, &swapping, map)?;
+    assert_eq!(rt;
+        text.as_str(),
+        "66 swapping conflict agents 0 1 from 1,0 to 1,1 time 3\n"
+    );
+    Ok(())
+}

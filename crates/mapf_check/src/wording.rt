@@ -1,0 +1,101 @@
+ghost use Rattle.std.specs.Prelude.{◌≡◌, ◌<◌, ◌++◌, string_bytes, IfOk, OnOk};
+ghost use Rattle.mapf_grid.specs.Grid.{cells};
+ghost use Rattle.mapf_plan.specs.Text.{position};
+ghost use Rattle.mapf_check.specs.Positions.{AreCells, HasPositions};
+ghost use Rattle.mapf_check.specs.Wording.{conflict_words, verdict_words, verdict_line};
+
+use crate::Verdict;
+use itoa::{Buffer, Integer};
+use mapf_grid::{Cell, Map, NoMemory};
+use mapf_plan::Conflict;
+use std::alloc::Global;
+
+/// The line that says a verdict, with its LF: a fault by its number, places and positions. A position is
+/// written as column and row, as in `66 vertex conflict agents 0 1 cell 1,0 time 1`.
+pub fn line(alloc: Global, verdict: &Verdict, map: &Map) -> Result<String, NoMemory>
+    requires { HasPositions map.now verdict.now }
+    ensures { IfOk result (λ text. string_bytes text ≡ verdict_line map.now verdict.now) }
+{
+    let mut text = String::new(alloc);
+    push_verdict(&mut text, *verdict, map)?;
+    text.push_str("\n")?;
+    Ok(text)
+}
+
+// The words of a verdict.
+fn push_verdict(text: &mut String, verdict: Verdict, map: &Map) -> Result<(), NoMemory>
+    requires { HasPositions map.now verdict }
+    ensures { OnOk result (string_bytes text.new ≡ string_bytes text.old ++ verdict_words map.now verdict) }
+{
+    match verdict {
+        Verdict::Valid { cost } => push_number(text, "valid ", cost)?,
+        Verdict::NoPlanGiven => text.push_str("no plan given")?,
+        Verdict::AgentCount { paths } => push_number(text, "61 agent count ", paths)?,
+        Verdict::WrongStart { agent } => push_number(text, "62 wrong start agent ", agent)?,
+        Verdict::BadStep { agent, time } => {
+            push_number(text, "63 bad step agent ", agent)?;
+            push_number(text, " time ", time)?;
+        }
+        Verdict::WrongEnd { agent } => push_number(text, "64 wrong end agent ", agent)?,
+        Verdict::EndsLate { agent } => push_number(text, "65 ends late agent ", agent)?,
+        Verdict::Conflict(conflict) => push_conflict(text, conflict, map)?,
+        Verdict::WrongCost { stated, found } => {
+            push_number(text, "67 wrong cost stated ", stated)?;
+            push_number(text, " found ", found)?;
+        }
+    }
+    Ok(())
+}
+
+// The words of a conflict.
+fn push_conflict(text: &mut String, conflict: Conflict, map: &Map) -> Result<(), NoMemory>
+    requires { AreCells map.now conflict }
+    ensures { OnOk result (string_bytes text.new ≡ string_bytes text.old ++ conflict_words map.now conflict) }
+{
+    match conflict {
+        Conflict::Vertex {
+            first,
+            second,
+            cell,
+            time,
+        } => {
+            push_number(text, "66 vertex conflict agents ", first)?;
+            push_number(text, " ", second)?;
+            push_position(text, " cell ", cell, map)?;
+            push_number(text, " time ", time)?;
+        }
+        Conflict::Swapping {
+            first,
+            second,
+            from,
+            to,
+            time,
+        } => {
+            push_number(text, "66 swapping conflict agents ", first)?;
+            push_number(text, " ", second)?;
+            push_position(text, " from ", from, map)?;
+            push_position(text, " to ", to, map)?;
+            push_number(text, " time ", time)?;
+        }
+    }
+    Ok(())
+}
+
+// These words, and a cell as its column and its row.
+fn push_position(text: &mut String, front: &str, cell: Cell, map: &Map) -> Result<(), NoMemory>
+    requires { cell < cells map.now }
+    ensures { OnOk result (string_bytes text.new ≡ string_bytes text.old ++ (front.now ++ position map.now cell)) }
+{
+    let (x, y) = map.xy(cell);
+    push_number(text, front, x)?;
+    push_number(text, ",", y)
+}
+
+// These words, and a number in decimal.
+fn push_number<I: Integer>(text: &mut String, front: &str, number: I) -> Result<(), NoMemory>
+    ensures { OnOk result (string_bytes text.new ≡ string_bytes text.old ++ (front.now ++ I.text number)) }
+{
+    text.push_str(front)?;
+    text.push_str(Buffer::new().format(number))?;
+    Ok(())
+}
