@@ -1,0 +1,140 @@
+//! The program's one call: words in, lines and a status out.
+
+ghost use Rattle.std.specs.Prelude.{◌≡◌, ◌<◌, ◌≤◌, IfOk};
+
+use crate::call_fault::{COMMAND_LINE, CallFault, NO_MEMORY, NONE, SHOWN};
+use crate::checks::check_run;
+use crate::command::{Asked, Check, Solve, parse};
+use crate::first_byte::FirstByte;
+use clap::error::ErrorKind;
+use mapf_check::Verdict;
+use mapf_plan::{Counted, Sink, write_whole};
+use mapf_solve::{FileName, run};
+use std::alloc::{AllocError, Global};
+use std::fs;
+use std::rt::Files;
+use std::thread::Threads;
+
+/// Does what the words ask for, the program's name being the first, and answers the program's status.
+///
+/// `mapf solve` prints a plan (status 0) or `none` (1) on `out`, and `mapf check` one verdict line: valid (0), or not
+/// valid or no plan given (1). Help goes to `out` (0). A refusal is one line on
+/// `err`: of the command line, whose text is `clap`'s (2), of bytes and numbers (3), want of memory (4), a file that
+/// couldn't be opened or read, or an output that couldn't be written (5). Faults of `err` itself are ignored.
+pub fn call<R: Files + Threads + Sync, O: Sink, E: Sink>(
+    rt: &R,
+    alloc: Global,
+    words: Vec<String>,
+    out: &mut O,
+    err: &mut E,
+) -> u8
+    requires out { O.failures out.old < u64.MAX }
+    requires err { E.failures err.old < u64.MAX }
+    ensures { result ≤ 5 }
+{
+    let done = match parse(alloc, words.as_slice()) {
+        Ok(Some(Asked::Solve(solve))) => solve_files(rt, alloc, &solve, out),
+        Ok(Some(Asked::Check(check))) => check_files(rt, alloc, &check, out),
+        Ok(None) => Ok(COMMAND_LINE),
+        Err(error) if error.use_stderr() => return refuse_words(alloc, &error, err),
+        Err(error) => help(alloc, &error, out),
+    };
+    match done {
+        Ok(status) => status,
+        Err(fault) => refuse(alloc, &fault, err),
+    }
+}
+
+/// Says that there was no memory for the command line's words, and answers that status.
+pub fn no_words<E: Sink>(err: &mut E) -> u8
+    requires { E.failures err.old < u64.MAX }
+    ensures { result ≡ 4 }
+{
+    let _ = write_whole(err, b"mapf: 43 no memory\n");
+    NO_MEMORY
+}
+
+/// Opens the two files, runs, and answers the status of the text's first byte.
+fn solve_files<R: Files + Threads + Sync, O: Sink>(
+    rt: &R,
+    alloc: Global,
+    solve: &Solve<'_>,
+    out: &mut O,
+) -> Result<u8, CallFault>
+    requires { O.failures out.old < u64.MAX }
+    ensures { IfOk result (λ status. status ≤ 5) }
+{
+    let map = fs::open(rt, solve.map).map_err(|_| CallFault::CannotOpen(FileName::Map))?;
+    let scen = fs::open(rt, solve.scen).map_err(|_| CallFault::CannotOpen(FileName::Scenario))?;
+    let mut map = Counted::of(map);
+    let mut scen = Counted::of(scen);
+    let mut text = FirstByte {
+        sink: out,
+        first: None,
+    };
+    run(rt, alloc, &mut map, &mut scen, &mut text, solve.ask)?;
+    match text.first {
+        Some(b'p') => Ok(SHOWN),
+        _ => Ok(NONE),
+    }
+}
+
+/// Opens the three files, judges the plan, and answers the verdict's status.
+fn check_files<R: Files, O: Sink>(
+    rt: &R,
+    alloc: Global,
+    check: &Check<'_>,
+    out: &mut O,
+) -> Result<u8, CallFault>
+    requires { O.failures out.old < u64.MAX }
+    ensures { IfOk result (λ status. status ≤ 5) }
+{
+    let map = fs::open(rt, check.map).map_err(|_| CallFault::CannotOpen(FileName::Map))?;
+    let scen = fs::open(rt, check.scen).map_err(|_| CallFault::CannotOpen(FileName::Scenario))?;
+    let plan = fs::open(rt, check.plan).map_err(|_| CallFault::CannotOpen(FileName::Plan))?;
+    let mut map = Counted::of(map);
+    let mut scen = Counted::of(scen);
+    let mut plan = Counted::of(plan);
+    match check_run(alloc, &mut map, &mut scen, &mut plan, out, check.agents)? {
+        Verdict::Valid { .. } => Ok(SHOWN),
+        _ => Ok(NONE),
+    }
+}
+
+/// Prints the help.
+fn help<O: Sink>(alloc: Global, error: &clap::Error, out: &mut O) -> Result<u8, CallFault>
+    requires { O.failures out.old < u64.MAX }
+    ensures { IfOk result (λ status. status ≤ 5) }
+{
+    let text = format!(in alloc; "{error}")?;
+    write_whole(out, text.as_bytes())?;
+    Ok(SHOWN)
+}
+
+/// Prints `clap`'s refusal of the command line, and answers its status.
+fn refuse_words<E: Sink>(alloc: Global, error: &clap::Error, err: &mut E) -> u8
+    requires { E.failures err.old < u64.MAX }
+    ensures { result ≤ 5 }
+{
+    match format!(in alloc; "{error}") {
+        Ok(text) if !matches!(error.kind(), ErrorKind::OutOfMemory) => {
+            let _ = write_whole(err, text.as_bytes());
+            COMMAND_LINE
+        }
+        _ => refuse(alloc, &CallFault::from(AllocError), err),
+    }
+}
+
+/// Prints a fault's line, and answers its status.
+fn refuse<E: Sink>(alloc: Global, fault: &CallFault, err: &mut E) -> u8
+    requires { E.failures err.old < u64.MAX }
+    ensures { result ≤ 5 }
+{
+    match format!(in alloc; "mapf: {fault}\n") {
+        Ok(line) => {
+            let _ = write_whole(err, line.as_bytes());
+            fault.status()
+        }
+        Err(_) => no_words(err),
+    }
+}

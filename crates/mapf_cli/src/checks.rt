@@ -1,0 +1,75 @@
+//! A check from three readers to a writer.
+
+ghost use Rattle.std.specs.Prelude.{◌<◌, string_bytes, IfOk, IfErr};
+ghost use Rattle.mapf_plan.specs.Device.{Counts};
+ghost use Rattle.mapf_cli.specs.CheckRun.{IsJudged, IsTextsFault, is_read_failure, is_write_failure, LeavesVerdict};
+
+use crate::CheckFault;
+use mapf_check::{Verdict, check, line};
+use mapf_plan::{Sink, Source, read_answer, write_whole};
+use mapf_solve::{FileName, Refusal, RunFault, instance_of, read_file};
+use std::alloc::Global;
+
+/// Reads map, scenario and plan to their ends, in this order, judges the plan and writes the verdict's line.
+///
+/// Then map, scenario, instance and plan text are judged in this order. The verdict is answered after its line was
+/// written. The first failed call of a device ends the check; nothing is written before the verdict is known.
+pub fn check_run<M: Source, S: Source, P: Source, O: Sink>(
+    alloc: Global,
+    map: &mut M,
+    scen: &mut S,
+    plan: &mut P,
+    out: &mut O,
+    agents: u64,
+) -> Result<Verdict, CheckFault>
+    requires map { M.failures map.old < u64.MAX }
+    requires scen { S.failures scen.old < u64.MAX }
+    requires plan { P.failures plan.old < u64.MAX }
+    requires out { O.failures out.old < u64.MAX }
+
+    // A device's failure is answered exactly where its count rose, and that is by 1.
+    ensures map { Counts (is_read_failure FileName.Map result) (M.failures map.old) (M.failures map.new) }
+    ensures scen { Counts (is_read_failure FileName.Scenario result) (S.failures scen.old) (S.failures scen.new) }
+    ensures plan { Counts (is_read_failure FileName.Plan result) (P.failures plan.old) (P.failures plan.new) }
+    ensures out { Counts (is_write_failure result) (O.failures out.old) (O.failures out.new) }
+
+    // What was written is the line of the verdict on what the readers gave.
+    ensures verdict { LeavesVerdict (M.remaining map.old) (S.remaining scen.old) (P.remaining plan.old) agents (O.contents out.old) (O.contents out.new) result }
+{
+    let map = read_file(alloc, map, FileName::Map)?;
+    let scen = read_file(alloc, scen, FileName::Scenario)?;
+    let plan = read_file(alloc, plan, FileName::Plan)?;
+    let (verdict, text) = judge(alloc, &map, &scen, &plan, agents)?;
+    match write_whole(out, text.as_bytes()) {
+        Ok(()) => Ok(verdict),
+        Err(failed) => Err(CheckFault::Run(RunFault::WriteFailed {
+            taken: failed.taken,
+        })),
+    }
+}
+
+/// The verdict on the bytes of three files, and its line.
+fn judge(
+    alloc: Global,
+    map: &[u8],
+    scen: &[u8],
+    plan: &[u8],
+    agents: u64,
+) -> Result<(Verdict, String), CheckFault>
+    ensures judged { IfOk result (λ r. IsJudged map.now scen.now plan.now agents r.0 (string_bytes r.1)) }
+    ensures fault { IfErr result (IsTextsFault map.now scen.now plan.now agents) }
+{
+    let instance = match instance_of(alloc, map, scen, agents) {
+        Ok(instance) => instance,
+        Err(fault) => return Err(CheckFault::Run(RunFault::Refusal(fault))),
+    };
+    let answer = match read_answer(alloc, plan, instance.map()) {
+        Ok(answer) => answer,
+        Err(fault) => return Err(CheckFault::Text(fault)),
+    };
+    let verdict = check(&instance, &answer);
+    match line(alloc, &verdict, instance.map()) {
+        Ok(text) => Ok((verdict, text)),
+        Err(_) => Err(CheckFault::Run(RunFault::Refusal(Refusal::NoMemory))),
+    }
+}

@@ -1,0 +1,126 @@
+//! The command line, as `clap` reads it.
+
+use clap::{Arg, ArgAction, ArgMatches, Command, Error, value_parser};
+use mapf_solve::Ask;
+use std::alloc::{AllocError, Global};
+
+/// What `mapf solve` was asked.
+#[derive(Clone, Copy)]
+pub(crate) struct Solve<'a> {
+    /// The map's file.
+    pub(crate) map: &'a str,
+    /// The scenario's file.
+    pub(crate) scen: &'a str,
+    /// The numbers.
+    pub(crate) ask: Ask,
+}
+
+/// What `mapf check` was asked.
+#[derive(Clone, Copy)]
+pub(crate) struct Check<'a> {
+    /// The map's file.
+    pub(crate) map: &'a str,
+    /// The scenario's file.
+    pub(crate) scen: &'a str,
+    /// The plan's file.
+    pub(crate) plan: &'a str,
+    /// How many agents there are.
+    pub(crate) agents: u64,
+}
+
+/// What the words ask for.
+#[derive(Clone, Copy)]
+pub(crate) enum Asked<'a> {
+    Solve(Solve<'a>),
+    Check(Check<'a>),
+}
+
+/// What the words ask for; none only where `clap` lets a word pass that no command has.
+pub(crate) fn parse<'a>(alloc: Global, words: &'a [String]) -> Result<Option<Asked<'a>>, Error> {
+    let matches = program(alloc)?.try_get_matches_from(words)?;
+    if let Some(solve) = matches.subcommand_matches("solve") {
+        return Ok(solve_of(solve).map(|solve| Asked::Solve(solve)));
+    }
+    if let Some(check) = matches.subcommand_matches("check") {
+        return Ok(check_of(check).map(|check| Asked::Check(check)));
+    }
+    Ok(None)
+}
+
+fn solve_of<'a>(matches: &ArgMatches<'a>) -> Option<Solve<'a>> {
+    Some(Solve {
+        map: matches.get_str("map")?,
+        scen: matches.get_str("scen")?,
+        ask: Ask {
+            agents: matches.get_one::<u64>("agents")?,
+            bound: matches.get_one::<u64>("bound")?,
+            workers: matches.get_one::<u64>("workers")?,
+        },
+    })
+}
+
+fn check_of<'a>(matches: &ArgMatches<'a>) -> Option<Check<'a>> {
+    Some(Check {
+        map: matches.get_str("map")?,
+        scen: matches.get_str("scen")?,
+        plan: matches.get_str("plan")?,
+        agents: matches.get_one::<u64>("agents")?,
+    })
+}
+
+fn program<'a>(alloc: Global) -> Result<Command<'a>, AllocError> {
+    Command::new(alloc, "mapf")
+        .about("Optimal multi-agent path finding by conflict-based search")
+        .subcommand_required(true)
+        .subcommand(solve_command(alloc)?)?
+        .subcommand(check_command(alloc)?)
+}
+
+fn solve_command<'a>(alloc: Global) -> Result<Command<'a>, AllocError> {
+    files(
+        alloc,
+        "solve",
+        "Plans paths that cost least and have no conflict",
+    )?
+    .arg(number(alloc, "bound", "What a plan may cost at most, 0 to 1000000"))?
+    .arg(number(
+        alloc,
+        "workers",
+        "How many workers may work at once, 1 to 64",
+    ))
+}
+
+fn check_command<'a>(alloc: Global) -> Result<Command<'a>, AllocError> {
+    files(alloc, "check", "Judges a plan of any planner")?.arg(file(
+        alloc,
+        "plan",
+        "The plan, in the text that solve prints",
+    ))
+}
+
+fn files<'a>(alloc: Global, name: &'a str, about: &'a str) -> Result<Command<'a>, AllocError> {
+    Command::new(alloc, name)
+        .about(about)
+        .arg(file(alloc, "map", "The map, in the MovingAI format"))?
+        .arg(file(alloc, "scen", "The scenario, in the MovingAI format"))?
+        .arg(number(alloc, "agents", "How many agents, 1 to 1000"))
+}
+
+fn file<'a>(alloc: Global, name: &'a str, help: &'a str) -> Arg<'a> {
+    Arg::new(alloc, name)
+        .long(name)
+        .value_name("FILE")
+        .help(help)
+        .required(true)
+        .action(ArgAction::Set)
+}
+
+fn number<'a>(alloc: Global, name: &'a str, help: &'a str) -> Arg<'a> {
+    Arg::new(alloc, name)
+        .long(name)
+        .value_name("NUMBER")
+        .help(help)
+        .required(true)
+        .action(ArgAction::Set)
+        .value_parser(value_parser!(u64))
+}
