@@ -1,0 +1,157 @@
+#!/usr/bin/env python3
+"""Makes the benchmark's maps and scenarios, the same everywhere: docs/BENCHMARK.md has the rule.
+
+Usage: instances.py FOLDER. It writes NAME.map and NAME.scen for each map into the folder.
+"""
+import os
+import sys
+
+ROWS = 100
+
+
+class Random:
+    """The generator of the rule: x becomes 6364136223846793005 x + 1442695040888963407 modulo 2^64."""
+
+    def __init__(self, seed):
+        self.state = seed
+
+    def below(self, limit):
+        """The next number, from 0 to limit - 1: the upper 31 bits of the state modulo the limit."""
+        self.state = (6364136223846793005 * self.state + 1442695040888963407) % 2**64
+        return (self.state >> 33) % limit
+
+
+def empty(width, height):
+    return [[True] * width for _ in range(height)]
+
+
+def blocked(width, height, percent, random):
+    """Exactly so many cells in a hundred are blocked; a cell that is drawn again is drawn anew."""
+    grid = empty(width, height)
+    left = width * height * percent // 100
+    while left > 0:
+        x, y = random.below(width), random.below(height)
+        if grid[y][x]:
+            grid[y][x] = False
+            left -= 1
+    return grid
+
+
+def warehouse():
+    """161 wide, 63 high: 20 rows of 10 shelves, each 10 wide and 2 high, with aisles 1 wide between them.
+
+    26 free columns lie at either side of the shelves, and 2 free rows above and below.
+    """
+    grid = empty(161, 63)
+    for row in range(20):
+        for shelf in range(10):
+            for y in (2 + 3 * row, 3 + 3 * row):
+                for x in range(26 + 11 * shelf, 36 + 11 * shelf):
+                    grid[y][x] = False
+    return grid
+
+
+def rooms(size, room, random):
+    """Rooms of room x room cells whose right column and lower row are walls, with one door a wall."""
+    grid = empty(size, size)
+    for y in range(size):
+        for x in range(size):
+            if x % room == room - 1 or y % room == room - 1:
+                grid[y][x] = False
+    for top in range(0, size, room):
+        for left in range(0, size, room):
+            if left + room < size:
+                grid[top + random.below(room - 1)][left + room - 1] = True
+            if top + room < size:
+                grid[top + room - 1][left + random.below(room - 1)] = True
+    return grid
+
+
+def steps_from(grid, start):
+    """The number of steps to each cell that is reached from this one."""
+    height, width = len(grid), len(grid[0])
+    steps = {start: 0}
+    level = [start]
+    while level:
+        further = []
+        for x, y in level:
+            for side in ((x, y - 1), (x - 1, y), (x + 1, y), (x, y + 1)):
+                inside = 0 <= side[0] < width and 0 <= side[1] < height
+                if inside and grid[side[1]][side[0]] and side not in steps:
+                    steps[side] = steps[(x, y)] + 1
+                    further.append(side)
+        level = further
+    return steps
+
+
+def largest_part(grid):
+    """The cells of the largest connected part, by rows; of two equal ones the first."""
+    seen, largest = set(), []
+    for y, row in enumerate(grid):
+        for x, free in enumerate(row):
+            if free and (x, y) not in seen:
+                part = steps_from(grid, (x, y))
+                seen.update(part)
+                if len(part) > len(largest):
+                    largest = part
+    return sorted(largest, key=lambda cell: (cell[1], cell[0]))
+
+
+def draw(cells, taken, random):
+    """A cell that isn't taken yet; it is then."""
+    while True:
+        cell = cells[random.below(len(cells))]
+        if cell not in taken:
+            taken.add(cell)
+            return cell
+
+
+def scenario(name, grid, random, rows):
+    cells = largest_part(grid)
+    starts, goals = set(), set()
+    lines = ["version 1"]
+    for _ in range(rows):
+        start = draw(cells, starts, random)
+        goal = draw(cells, goals, random)
+        length = steps_from(grid, goal)[start]
+        places = f"{start[0]}\t{start[1]}\t{goal[0]}\t{goal[1]}"
+        lines.append(f"0\t{name}.map\t{len(grid[0])}\t{len(grid)}\t{places}\t{length}")
+    return lines
+
+
+def write(folder, name, grid, lines):
+    header = ["type octile", f"height {len(grid)}", f"width {len(grid[0])}", "map"]
+    rows = ["".join("." if free else "@" for free in row) for row in grid]
+    for suffix, text in ((".map", header + rows), (".scen", lines)):
+        with open(os.path.join(folder, name + suffix), "w", encoding="ascii", newline="\n") as file:
+            file.write("\n".join(text) + "\n")
+
+
+def main():
+    folder = sys.argv[1]
+    seed = 1
+    for name, make in (
+        ("empty-32-32", lambda random: empty(32, 32)),
+        ("random-32-32-10", lambda random: blocked(32, 32, 10, random)),
+        ("random-32-32-20", lambda random: blocked(32, 32, 20, random)),
+        ("warehouse-63-161", lambda random: warehouse()),
+        ("rooms-64-64-8", lambda random: rooms(64, 8, random)),
+    ):
+        random = Random(seed)
+        grid = make(random)
+        write(folder, name, grid, scenario(name, grid, random, ROWS))
+        seed += 1
+    # The largest map that is read: free but for a wall in every fourth row that has a gap at alternating ends.
+    large = empty(2048, 2048)
+    for y in range(3, 2048, 4):
+        for x in range(2047):
+            large[y][x if y % 8 == 3 else x + 1] = False
+    lines = ["version 1"]
+    for row in range(10):
+        places = f"{100 * row}\t0\t{100 * row + 50}\t2"
+        lines.append(f"0\tlarge-2048-2048.map\t2048\t2048\t{places}\t52")
+    write(folder, "large-2048-2048", large, lines)
+
+
+if __name__ == "__main__":
+    main()
