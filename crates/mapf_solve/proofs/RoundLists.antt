@@ -1,6 +1,6 @@
 -- Lists that a round makes of its workers' lists.
 use Rattle.std.proofs.Common.{◌≡◌, ◌<◌, ℕ, Bool, true, false, List, [], ◌∷◌, ◌++◌, All, Contains, length, map, sym, refl, ap, ◌∙◌, subst, arith, flat_map, if◌then◌else◌, get_or}
-use Rattle.std.proofs.lemmas.List.{get_or_default}
+use Rattle.std.proofs.lemmas.List.{get_or-map, length-map}
 use Rattle.std.proofs.lemmas.List.Elements.{All-append, All-cons, All-contains}
 use Rattle.std.proofs.lemmas.List.Concat.{flat_map-append}
 use mathlib.Core.List.{append_assoc, append-nil, map-append}
@@ -12,15 +12,15 @@ module _ {A : Type 0} where
   All_if_more P true old new x e all one = All_more P old new x e all one
   All_if_more P false old new x e all one = subst (λ (l : List A). All P l) (sym e) all
 
-  -- what equals an item that was read at a place of a list is one of the list's
-  pub one_of : (l : List A) (n : ℕ) (x y : A) → n < length l → x ≡ get_or l n x → y ≡ x → Contains l y
-  one_of l n x y low at same = (n, low, get_or_default l n y x low ∙ sym at ∙ sym same)
-
   -- one item goes from the rest of a list to what was taken of it
   pub one_taken : (whole done old new : List A) (x : A) → old ≡ x ∷ new → done ++ old ≡ whole → (done ++ x ∷ []) ++ new ≡ whole
   one_taken whole done old new x e all = append_assoc done (x ∷ []) new ∙ ap (λ l. done ++ l) (sym e) ∙ all
 
 module _ {A B : Type 0} where
+  -- what is made of an item that was read at a place of a list is one of those that are made of the list's
+  pub one_of : (f : A → B) (l : List A) (n : ℕ) (x : A) (y : B) → n < length l → x ≡ get_or l n x → y ≡ f x → Contains (map f l) y
+  one_of f l n x y low at same = (n, subst (λ k. n < k) (sym (length-map l f)) low, get_or-map f l n x y low ∙ ap f (sym at) ∙ sym same)
+
   -- a list that shows another's items shows also one more that is added to both
   pub map_more : (f : A → B) (l : List A) (old new : List B) (x : A) → old ≡ map f l → new ≡ old ++ f x ∷ [] → new ≡ map f (l ++ x ∷ [])
   map_more f l old new x is e = e ∙ ap (λ m. m ++ f x ∷ []) is ∙ sym (map-append f l (x ∷ []))

@@ -11,26 +11,28 @@ mod root_paths;
 mod round;
 mod side_job;
 mod side_jobs;
+mod side_order;
 
 use kept::Kept;
 use mapf_board::Pair;
 use mapf_grid::NoMemory;
 use mapf_tree::{Children, Node, OpenList, Problem, Side, child};
 pub(crate) use root::root;
-pub(crate) use side_job::{SideJob, Sides};
+pub(crate) use side_job::Sides;
 pub(crate) use side_jobs::do_sides;
-use side_jobs::side_jobs;
+use side_jobs::side_orders;
+use side_order::SideOrder;
 use std::alloc::Global;
 
 /// Children of a problem's nodes, worked ahead in rounds.
 ///
 /// Before a node is taken whose children are not all worked out, a round does the sides of the first waiting nodes. A
 /// child that a worker made is used only at the turn of the node and the side that its job names; what is missing is
-/// worked out alone. The round itself is a function of its jobs, which whoever makes the source brings along.
+/// worked out alone. The round itself is a function of its orders, which whoever makes the source brings along.
 #[derive(Drop)]
 pub(crate) struct Rounds<'p, F> {
     alloc: Global,
-    /// What does the jobs of a round.
+    /// What does the jobs of a round's orders.
     round: F,
     workers: usize,
     /// The number of the next job.
@@ -38,7 +40,7 @@ pub(crate) struct Rounds<'p, F> {
     kept: Kept<'p>,
 }
 
-impl<'p, F: Fn(Vec<SideJob<'p>>) -> Vec<Pair<Sides<'p>>>> Rounds<'p, F> {
+impl<'p, F: Fn(&[SideOrder<'_, 'p>]) -> Vec<Pair<Sides<'p>>>> Rounds<'p, F> {
     /// Rounds of this kind for so many workers, whose first job has this number.
     pub(crate) fn new(
         alloc: Global,
@@ -85,13 +87,13 @@ impl<'p, F: Fn(Vec<SideJob<'p>>) -> Vec<Pair<Sides<'p>>>> Rounds<'p, F> {
     }
 }
 
-impl<'p, F: Fn(Vec<SideJob<'p>>) -> Vec<Pair<Sides<'p>>>> Children for Rounds<'p, F> {
+impl<'p, F: Fn(&[SideOrder<'_, 'p>]) -> Vec<Pair<Sides<'p>>>> Children for Rounds<'p, F> {
     ghost use Rattle.std.specs.Prelude.{◌≡◌, ◌<◌, ◌≤◌, All, Contains, length};
 
-    // It serves its own problem, with a round that takes up to 64 jobs and answers no others.
+    // It serves its own problem, with a round that takes up to 64 orders and answers no others.
     ghost serves = { λ r p. (r.kept ≡ p) × ((0 < r.workers) × (r.workers ≤ 64))
-        × ((jobs : _) → length jobs.items ≤ 64 → F.pre r.round jobs)
-        × ((jobs pairs : _) → F.post r.round jobs pairs → All (λ pair. Contains jobs.items pair.0) pairs.items) };
+        × ((orders : _) → length orders.now ≤ 64 → F.pre r.round orders)
+        × ((orders pairs : _) → F.post r.round orders pairs → All (λ pair. Contains orders.now pair.0) pairs.items) };
 
     fn both(
         &mut self,
@@ -107,12 +109,12 @@ impl<'p, F: Fn(Vec<SideJob<'p>>) -> Vec<Pair<Sides<'p>>>> Children for Rounds<'p
         if !self.is_due(waiting) {
             return;
         }
-        let Ok(jobs) = side_jobs(self.alloc, &self.kept, waiting, 4 * self.workers, self.next)
-        else {
+        let nodes = 4 * self.workers;
+        let Ok(orders) = side_orders(self.alloc, &self.kept, waiting, nodes, self.next) else {
             return;
         };
-        self.next = self.next.saturating_add(jobs.len() as u64);
-        let pairs = (self.round)(jobs);
+        self.next = self.next.saturating_add(orders.len() as u64);
+        let pairs = (self.round)(&orders);
         self.kept.keep(pairs);
     }
 }

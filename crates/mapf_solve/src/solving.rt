@@ -36,12 +36,12 @@ pub fn solve<R: Threads + Sync, G: Gate>(
         problem,
         workers,
         next,
-        |jobs|
+        |orders|
             requires sync { IsSync R.row × IsSync G.row }
-            requires jobs { length jobs.items ≤ 64 }
+            requires orders { length orders.now ≤ 64 }
             requires workers { (0 < workers) × (workers ≤ 64) }
-            ensures { All (λ pair. Contains jobs.entry.items pair.0) result.items }
-        { do_sides(rt, alloc, problem, jobs, gate, workers) },
+            ensures { All (λ pair. Contains orders.now pair.0) result.items }
+        { do_sides(rt, alloc, problem, orders, gate, workers) },
     );
     let search = Search::from_root(alloc, problem, first)?;
     search.finish(&mut rounds)

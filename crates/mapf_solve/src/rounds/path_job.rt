@@ -3,7 +3,7 @@
 ghost use Rattle.std.specs.Prelude.{◌≡◌, ◌<◌, length};
 ghost use Rattle.mapf_solve.specs.Rounds.{FitsPath};
 
-use crate::rounds::round::Repeat;
+use crate::rounds::round::Order;
 use mapf_board::{Pair, Task, Work};
 use mapf_grid::NoMemory;
 use mapf_plan::Path;
@@ -83,16 +83,19 @@ impl<'p> Work for Paths<'p> {
     }
 }
 
-impl<'p> Repeat for Paths<'p> {
-    fn again(&self, job: &PathJob<'p>) -> Result<PathJob<'p>, NoMemory> {
+// An agent's job is its own order.
+impl<'p> Order<Paths<'p>> for PathJob<'p> {
+    ghost asked = { λ j. j };
+
+    fn job(&self, _alloc: Global) -> Result<PathJob<'p>, NoMemory> {
         Ok(PathJob {
-            problem: job.problem,
-            agent: job.agent,
-            number: job.number,
+            problem: self.problem,
+            agent: self.agent,
+            number: self.number,
         })
     }
 
-    fn number(&self, job: &PathJob<'p>) -> u64 {
-        job.number
+    fn number(&self) -> u64 {
+        self.number
     }
 }

@@ -3,9 +3,7 @@
 ghost use Rattle.std.specs.Prelude.{◌≡◌};
 ghost use Rattle.mapf_solve.specs.Rounds.{FitsSide, IsBranching};
 
-use crate::rounds::round::Repeat;
 use mapf_board::{Pair, Task, Work};
-use mapf_grid::NoMemory;
 use mapf_tree::{Node, Problem, Side, child};
 use std::alloc::Global;
 use std::marker::Model;
@@ -87,20 +85,5 @@ impl<'p> Work for Sides<'p> {
             Ok(found) => Ok(Pair::of(job, found)),
             Err(_) => Err(job),
         }
-    }
-}
-
-impl<'p> Repeat for Sides<'p> {
-    fn again(&self, job: &SideJob<'p>) -> Result<SideJob<'p>, NoMemory> {
-        Ok(SideJob {
-            problem: job.problem,
-            node: job.node.copy(self.alloc)?,
-            side: job.side,
-            number: job.number,
-        })
-    }
-
-    fn number(&self, job: &SideJob<'p>) -> u64 {
-        job.number
     }
 }

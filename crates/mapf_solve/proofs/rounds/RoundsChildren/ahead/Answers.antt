@@ -1,13 +1,13 @@
-use Rattle.std.proofs.Common.{◌≡◌, sym, subst}
+use Rattle.std.proofs.Common.{◌≡◌, sym, subst, All, Contains}
 use Rattle.mapf_tree.specs.Waiting.{AllShow}
 use Rattle.mapf_solve.specs.Rounds.{SideAsked}
 use Rattle.mapf_solve.proofs.RoundLists.{All_of_jobs}
 use Rattle.mapf_solve.proofs.rounds.RoundsChildren.ahead.Goals as goal
 
-pub side_jobs-requires : goal.side_jobs-requires
-side_jobs-requires g c = subst (λ p. AllShow p c.args.waiting.now) (sym c.requires.serves.0) c.requires.nodes
+pub side_orders-requires : goal.side_orders-requires
+side_orders-requires g c = subst (λ p. AllShow p c.args.waiting.now) (sym c.requires.serves.0) c.requires.nodes
 
 pub keep-requires : goal.keep-requires
 keep-requires g c =
-    All_of_jobs (λ (j : SideAsked). j.problem ≡ c.args.self.now.kept) (λ p. p.0) c.in-Ok.jobs.items c.round-pairs.result.items
-    c.in-Ok.ensures.problem (c.requires.serves.3 c.in-Ok.jobs c.round-pairs.result c.round-pairs.ensures)
+    All_of_jobs (λ (j : SideAsked). j.problem ≡ c.args.self.now.kept) (λ p. p.0) c.in-Ok.orders.items c.round-pairs.result.items
+    c.in-Ok.ensures.problem (subst (λ l. All (λ p. Contains l p.0) c.round-pairs.result.items) c.deref.ensures.value (c.requires.serves.3 c.deref.result c.round-pairs.result c.round-pairs.ensures))

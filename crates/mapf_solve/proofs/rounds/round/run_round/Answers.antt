@@ -1,4 +1,4 @@
-use Rattle.std.proofs.Common.{rules, arith, ◌≡◌, All, Contains, length, ap, sym, subst, ◌∙◌}
+use Rattle.std.proofs.Common.{rules, arith, ◌≡◌, All, Contains, length, map, ap, sym, subst, ◌∙◌}
 use Rattle.std.proofs.lemmas.List.Elements.{All-map, All-nil}
 use Rattle.mapf_board.specs.Seats.{IsSeatOf}
 use Rattle.mapf_solve.proofs.RoundLists.{All-flat_map, All-from_map}
@@ -11,7 +11,7 @@ map_vec-requires-after_bounds g c =
     λ u v i x low at. (
       subst (λ s. IsSeatOf c.in_ok-tickets.tickets s.0) (sym at) (seats i x low),
       (
-        subst (λ l. All (λ p. Contains c.args.jobs.now p.0) l) (sym (ap (λ s. s.1.items) at ∙ c.in_ok-shifts.ensures.pairs i x low)) (All-nil (λ p. Contains c.args.jobs.now p.0)),
+        subst (λ l. All (λ p. Contains (map g.O.Order.asked c.args.orders.now) p.0) l) (sym (ap (λ s. s.1.items) at ∙ c.in_ok-shifts.ensures.pairs i x low)) (All-nil (λ p. Contains (map g.O.Order.asked c.args.orders.now) p.0)),
         (
           omega (arith, c.in_ok-tickets.ensures.sizes.0),
           search rules,
@@ -29,6 +29,6 @@ close-requires-clause-own g c =
 pub returns : goal.returns
 returns g c =
     let same : length c.in_ok-shifts-2.shifts.items ≡ length c.in_ok-shifts.shifts.items = omega (arith, c.in_ok-shifts-2.ensures.len, c.in_ok-shifts-2.shifts.ok.0, c.in_ok-shifts.shifts.ok.0) in
-    subst (λ l. All (λ p. Contains c.args.jobs.now p.0) l) (sym c.in_ok-seats.ensures.pairs)
-    (All-flat_map (λ p. Contains c.args.jobs.now p.0) (λ s. s.1.items) c.in_ok-shifts-2.shifts.items
+    subst (λ l. All (λ p. Contains (map g.O.Order.asked c.args.orders.now) p.0) l) (sym c.in_ok-seats.ensures.pairs)
+    (All-flat_map (λ p. Contains (map g.O.Order.asked c.args.orders.now) p.0) (λ s. s.1.items) c.in_ok-shifts-2.shifts.items
     (λ k d low. (c.in_ok-shifts-2.ensures.each k d (omega (arith, low, same))).1.call.met.1))

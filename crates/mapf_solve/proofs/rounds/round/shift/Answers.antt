@@ -1,4 +1,4 @@
-use Rattle.std.proofs.Common.{arith, Contains}
+use Rattle.std.proofs.Common.{arith, Contains, map}
 use Rattle.mapf_board.specs.Seats.{count_of}
 use Rattle.mapf_board.proofs.Ends.{less_to_come}
 use Rattle.mapf_solve.proofs.RoundLists.{All_if_more, one_of}
@@ -10,8 +10,8 @@ loop-n-smaller-in-Some-done g c = less_to_come (count_of c.args.tickets.now) _ _
 pub loop-n-preserved-in-Some-done : goal.loop-n-preserved-in-Some-done
 loop-n-preserved-in-Some-done g c = record {
   own = c.draw.ensures.seat;
-  pairs = All_if_more (λ p. Contains c.args.jobs.now p.0) _ _ _ _ c.push.ensures.items c.loop-n.invariant.pairs
-      (one_of c.args.jobs.now c.in-Some.n c.index-jobs-n.result c.in-Some-done.pair.0 (omega (arith, c.in-Some.ensures.below, c.requires.count)) c.index-jobs-n.is c.in-Some-done.ensures);
+  pairs = All_if_more (λ p. Contains (map g.O.Order.asked c.args.orders.now) p.0) _ _ _ _ c.push.ensures.items c.loop-n.invariant.pairs
+      (one_of g.O.Order.asked c.args.orders.now c.in-Some.n c.index-orders-n.result c.in-Some-done.pair.0 (omega (arith, c.in-Some.ensures.below, c.requires.count)) c.index-orders-n.is c.in-Some-done.ensures);
 }
 
 pub loop-n-smaller-in-Some-done-2 : goal.loop-n-smaller-in-Some-done-2
@@ -20,8 +20,8 @@ loop-n-smaller-in-Some-done-2 g c = less_to_come (count_of c.args.tickets.now) _
 pub loop-n-preserved-in-Some-done-2 : goal.loop-n-preserved-in-Some-done-2
 loop-n-preserved-in-Some-done-2 g c = record {
   own = c.draw.ensures.seat;
-  pairs = All_if_more (λ p. Contains c.args.jobs.now p.0) _ _ _ _ c.push.ensures.items c.loop-n.invariant.pairs
-      (one_of c.args.jobs.now c.in-Some.n c.index-jobs-n.result c.in-Some-done.pair.0 (omega (arith, c.in-Some.ensures.below, c.requires.count)) c.index-jobs-n.is c.in-Some-done.ensures);
+  pairs = All_if_more (λ p. Contains (map g.O.Order.asked c.args.orders.now) p.0) _ _ _ _ c.push.ensures.items c.loop-n.invariant.pairs
+      (one_of g.O.Order.asked c.args.orders.now c.in-Some.n c.index-orders-n.result c.in-Some-done.pair.0 (omega (arith, c.in-Some.ensures.below, c.requires.count)) c.index-orders-n.is c.in-Some-done.ensures);
 }
 
 pub loop-n-smaller : goal.loop-n-smaller

@@ -7,7 +7,7 @@ use Rattle.mapf_solve.proofs.rounds.round.shifts_of.Goals as goal
 pub loop-seat-preserved : goal.loop-seat-preserved
 loop-seat-preserved g c = record {
   whole = ap (λ l. map (λ s. s.0) l ++ c.next.new.self.rest.items) c.in_ok-push.ensures.items
-      ∙ ap (λ l. l ++ c.next.new.self.rest.items) (map-append (λ s. s.0) c.loop-seat.shifts.items ((c.in-Some.seat, c.new.result) ∷ []))
+      ∙ ap (λ l. l ++ c.next.new.self.rest.items) (map-append (λ s. s.0) c.loop-seat.shifts.items ((c.in-Some.seat, c.in_ok-pairs.pairs) ∷ []))
       ∙ one_taken c.args.seats.items (map (λ s. s.0) c.loop-seat.shifts.items) _ _ c.in-Some.seat c.in-Some.ensures.steps.0 c.loop-seat.invariant.whole;
-  pairs = All_more (λ s. s.1.items ≡ []) _ _ (c.in-Some.seat, c.new.result) c.in_ok-push.ensures.items c.loop-seat.invariant.pairs c.new.ensures.items;
+  pairs = All_more (λ s. s.1.items ≡ []) _ _ (c.in-Some.seat, c.in_ok-pairs.pairs) c.in_ok-push.ensures.items c.loop-seat.invariant.pairs c.in_ok-pairs.ensures.items;
 }

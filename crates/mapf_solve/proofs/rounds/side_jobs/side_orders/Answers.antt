@@ -1,5 +1,5 @@
 use Rattle.mapf_solve.proofs.WaitingNodes.{first_branches, others_wait}
-use Rattle.mapf_solve.proofs.rounds.side_jobs.side_jobs.Goals as goal
+use Rattle.mapf_solve.proofs.rounds.side_jobs.side_orders.Goals as goal
 
 pub add_side-requires-clause-node : goal.add_side-requires-clause-node
 add_side-requires-clause-node c =
