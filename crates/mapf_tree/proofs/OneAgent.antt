@@ -1,6 +1,5 @@
 -- The answer for one agent.
 use Rattle.std.proofs.Common.{◌≡◌, ℕ, zero, suc, ◌<◌, List, [], ◌∷◌, length, get_or, subst, sym, refl, ◌∙◌, arith, Some, None}
-use Rattle.std.proofs.lemmas.List.{get_or-replicate}
 use Rattle.std.proofs.lemmas.List.Sums.{sum_by-cons}
 use Rattle.mapf_grid.specs.Instance.{Instance}
 use Rattle.mapf_grid.specs.Least.{Precedes}
@@ -12,15 +11,12 @@ use Rattle.mapf_low.specs.Constraints.{IsAllowed, IsOwnPath}
 use Rattle.mapf_tree.specs.Tree.{Pair, HasPlan, InTree, root, side, root_pair, constraints_of, key, IsSolution, IsAnswer}
 use Rattle.mapf_tree.specs.OneAgent.{OneAgentsAnswer}
 use Rattle.mapf_tree.proofs.Plans.{same_plan}
+use Rattle.mapf_tree.proofs.RootNodes.{free_at_root}
 
 -- a conflict is of two agents
 no_conflict : (plan : List (List ℕ)) → length plan ≡ 1 → HasNoConflict plan
 no_conflict plan one (Vertex i j v t) h = omega (arith, one, h.0, h.1)
 no_conflict plan one (Swapping i j u v t) h = omega (arith, one, h.0, h.1)
-
--- the root has no constraint
-no_constraint : (inst : Instance) (i : ℕ) → i < length inst.starts → constraints_of (root_pair inst) i ≡ []
-no_constraint inst i h = get_or-replicate (length inst.starts) i [] [] h
 
 -- so no pair of the tree has a side
 only_root : (inst : Instance) (bound : ℕ) → length inst.starts ≡ 1 → (pair : Pair) → InTree inst bound pair → pair ≡ root_pair inst
@@ -33,7 +29,7 @@ module _ (inst : Instance) (bound : ℕ) (one : length inst.starts ≡ 1) where
   root_plan p own = record { agents = sym one; own = λ i h. at_agent i h; within = omega (arith, sum_by-cons cost p [], own.member.within) }
     where
       at_agent : (i : ℕ) → i < length inst.starts → IsOwnPath inst.grid (get_or inst.starts i 0) (get_or inst.goals i 0) bound (constraints_of (root_pair inst) i) (path_of (p ∷ []) i)
-      at_agent zero h = subst (λ cs. IsOwnPath inst.grid (get_or inst.starts 0 0) (get_or inst.goals 0 0) bound cs p) (sym (no_constraint inst 0 h)) own
+      at_agent zero h = subst (λ cs. IsOwnPath inst.grid (get_or inst.starts 0 0) (get_or inst.goals 0 0) bound cs p) (sym (free_at_root inst 0 h)) own
       at_agent (suc i) h = absurd (omega (arith, h, one))
 
   -- it is the only solution
@@ -57,7 +53,7 @@ module _ (inst : Instance) (bound : ℕ) (one : length inst.starts ≡ 1) where
 
   -- the path of a solution is one that the agent may take
   no_answer : ((p : List ℕ) → ¬ IsAllowed inst.grid (get_or inst.starts 0 0) (get_or inst.goals 0 0) bound [] p) → IsAnswer inst bound None
-  no_answer none found s = none (path_of found.1 0) (subst (λ cs. IsAllowed inst.grid (get_or inst.starts 0 0) (get_or inst.goals 0 0) bound cs (path_of found.1 0)) (no_constraint inst 0 first) (has.own 0 first).member)
+  no_answer none found s = none (path_of found.1 0) (subst (λ cs. IsAllowed inst.grid (get_or inst.starts 0 0) (get_or inst.goals 0 0) bound cs (path_of found.1 0)) (free_at_root inst 0 first) (has.own 0 first).member)
     where
       first : 0 < length inst.starts
       first = omega (arith, one)

@@ -13,7 +13,7 @@ use Rattle.mapf_tree.specs.Family.{IsRoot, IsOwn, AreRootPaths}
 use Rattle.mapf_tree.proofs.Plans.{OwnAt, dear_plan}
 
 -- no agent has a constraint at the root
-free_at_root : (inst : Instance) (i : ℕ) → i < length inst.starts → constraints_of (root_pair inst) i ≡ []
+pub free_at_root : (inst : Instance) (i : ℕ) → i < length inst.starts → constraints_of (root_pair inst) i ≡ []
 free_at_root inst i h = get_or-replicate (length inst.starts) i [] [] h
 
 -- the agents' own paths under no constraints are those of the root
