@@ -10,6 +10,18 @@ use Rattle.mapf_solve.specs.declared.run_fault.FileName.TheVariants as file
 use Rattle.mapf_solve.specs.declared.run_fault.RunFault.{RunFault}
 use Rattle.mapf_solve.specs.declared.run_fault.RunFault.TheVariants as fault
 
+-- how many bytes of one file are read at most
+abbrev pub limit : ℕ
+limit = 67108864
+
+-- the file is no longer than is read, where its reader tells its bytes
+abbrev pub IsWithin : Option (List ℕ) → Type 0
+IsWithin bytes = IfSome bytes (λ all. length all ≤ limit)
+
+-- the file is longer than is read
+abbrev pub IsTooLong : Option (List ℕ) → Type 0
+IsTooLong bytes = IfSome bytes (λ all. limit < length all)
+
 -- a fact of the bytes of both files, where both readers tell them
 abbrev pub OfFiles : Option (List ℕ) → Option (List ℕ) → (List ℕ → List ℕ → Type 0) → Type 0
 OfFiles None scen P = Unit {0}
@@ -41,9 +53,19 @@ Leaves map scen ask old new (Err (fault.WriteFailed taken)) =
     OfFiles map scen (λ m s. (text : List ℕ) × IsText m s ask text × (taken ≤ length text) × Appends old new (take taken text))
 Leaves map scen ask old new (Err (fault.Refusal named)) = Keeps old new × RefusesFiles map scen ask named
 Leaves map scen ask old new (Err (fault.ReadFailed name)) = Keeps old new
-Leaves map scen ask old new (Err (fault.TooLong file.Map)) = Keeps old new × IfSome map (λ m. 67108864 < length m)
-Leaves map scen ask old new (Err (fault.TooLong file.Scenario)) = Keeps old new × IfSome scen (λ s. 67108864 < length s)
-Leaves map scen ask old new (Err (fault.TooLong file.Plan)) = ⊥
+Leaves map scen ask old new (Err (fault.TooLong name)) = Keeps old new
+
+-- which file is too long: the first that is, in the order in which they are read. After a failed read nothing is said of
+-- that file and those behind it, and nothing for want of memory.
+abbrev pub AreWithin : (map scen : Option (List ℕ)) → Result (Unit {0}) RunFault → Type 0
+AreWithin map scen (Err (fault.TooLong file.Map)) = IsTooLong map
+AreWithin map scen (Err (fault.TooLong file.Scenario)) = IsWithin map × IsTooLong scen
+AreWithin map scen (Err (fault.TooLong file.Plan)) = ⊥
+AreWithin map scen (Err (fault.ReadFailed file.Map)) = Unit {0}
+AreWithin map scen (Err (fault.ReadFailed file.Scenario)) = IsWithin map
+AreWithin map scen (Err (fault.ReadFailed file.Plan)) = ⊥
+AreWithin map scen (Err (fault.Refusal refusal.NoMemory)) = Unit {0}
+AreWithin map scen other = IsWithin map × IsWithin scen
 
 -- the reading of one file ended by a failed read
 abbrev pub is_file_failure : {T : Type 0} → Result T RunFault → Bool
@@ -53,6 +75,6 @@ is_file_failure result = false
 -- why this file wasn't read to its end
 abbrev pub IsReadFaultOf : FileName → Option (List ℕ) → RunFault → Type 0
 IsReadFaultOf name bytes (fault.ReadFailed which) = which ≡ name
-IsReadFaultOf name bytes (fault.TooLong which) = (which ≡ name) × IfSome bytes (λ all. 67108864 < length all)
+IsReadFaultOf name bytes (fault.TooLong which) = (which ≡ name) × IsTooLong bytes
 IsReadFaultOf name bytes (fault.Refusal refusal.NoMemory) = Unit {0}
 IsReadFaultOf name bytes other = ⊥

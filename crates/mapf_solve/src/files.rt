@@ -1,8 +1,8 @@
 //! A file's bytes, all of them, from a device.
 
-ghost use Rattle.std.specs.Prelude.{◌≡◌, ◌<◌, IfOk, IfErr, IfSome};
+ghost use Rattle.std.specs.Prelude.{◌≡◌, ◌<◌, IfOk, IfErr, IfSome, OnOk};
 ghost use Rattle.mapf_plan.specs.Device.{Counts};
-ghost use Rattle.mapf_solve.specs.Run.{is_file_failure, IsReadFaultOf};
+ghost use Rattle.mapf_solve.specs.Run.{is_file_failure, IsReadFaultOf, IsWithin};
 
 use crate::{FileName, Refusal, RunFault};
 use mapf_plan::{ReadFault, Source, read_whole};
@@ -22,6 +22,7 @@ pub fn read_file<S: Source>(
     requires { S.failures source.old < u64.MAX }
     ensures failed { Counts (is_file_failure result) (S.failures source.old) (S.failures source.new) }
     ensures whole { IfOk result (λ bytes. IfSome (S.remaining source.old) (λ all. bytes.items ≡ all)) }
+    ensures within { OnOk result (IsWithin (S.remaining source.old)) }
     ensures fault { IfErr result (IsReadFaultOf name (S.remaining source.old)) }
 {
     match read_whole(alloc, source, LIMIT) {

@@ -2,7 +2,7 @@
 
 ghost use Rattle.std.specs.Prelude.{◌<◌};
 ghost use Rattle.mapf_plan.specs.Device.{Counts};
-ghost use Rattle.mapf_solve.specs.Run.{is_read_failure, is_write_failure, Leaves};
+ghost use Rattle.mapf_solve.specs.Run.{is_read_failure, is_write_failure, Leaves, AreWithin};
 
 use crate::{Ask, FileName, RunFault, answer, read_file};
 use mapf_board::NoGate;
@@ -29,6 +29,9 @@ pub fn run<R: Threads + Sync, M: Source, S: Source, O: Sink>(
     ensures map { Counts (is_read_failure FileName.Map result) (M.failures map.old) (M.failures map.new) }
     ensures scen { Counts (is_read_failure FileName.Scenario result) (S.failures scen.old) (S.failures scen.new) }
     ensures out { Counts (is_write_failure result) (O.failures out.old) (O.failures out.new) }
+
+    // A file is too long exactly where its reader gave more than 67,108,864 bytes.
+    ensures within { AreWithin (M.remaining map.old) (S.remaining scen.old) result }
 
     // What was written is the text of what the readers gave.
     ensures text { Leaves (M.remaining map.old) (S.remaining scen.old) ask (O.contents out.old) (O.contents out.new) result }
