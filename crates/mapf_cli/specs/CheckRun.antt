@@ -10,6 +10,7 @@ use Rattle.mapf_check.specs.Verdict.{IsVerdict}
 use Rattle.mapf_check.specs.Wording.{verdict_line}
 use Rattle.mapf_check.specs.declared.verdict.Verdict.{Verdict}
 use Rattle.mapf_solve.specs.Out.{IsAsked, IsFilesFault}
+use Rattle.mapf_solve.specs.Run.{IsWithin, IsTooLong}
 use Rattle.mapf_solve.specs.declared.refusal.Refusal.{Refusal}
 use Rattle.mapf_solve.specs.declared.refusal.Refusal.TheVariants as refusal
 use Rattle.mapf_solve.specs.declared.run_fault.FileName.{FileName}
@@ -66,3 +67,15 @@ LeavesVerdict map scen plan agents old new (Err (check.Run (fault.WriteFailed ta
 LeavesVerdict map scen plan agents old new (Err (check.Run (fault.ReadFailed name))) = Keeps old new
 LeavesVerdict map scen plan agents old new (Err (check.Run (fault.TooLong name))) = Keeps old new
 LeavesVerdict map scen plan agents old new (Err named) = Keeps old new × OfThree map scen plan (λ m s p. IsTextsFault m s p agents named)
+
+-- which file is too long: the first that is, in the order in which they are read. After a failed read nothing is said of
+-- that file and those behind it, and nothing for want of memory while files are read.
+abbrev pub AreWithin : (map scen plan : Option (List ℕ)) → Result Verdict CheckFault → Type 0
+AreWithin map scen plan (Err (check.Run (fault.TooLong file.Map))) = IsTooLong map
+AreWithin map scen plan (Err (check.Run (fault.TooLong file.Scenario))) = IsWithin map × IsTooLong scen
+AreWithin map scen plan (Err (check.Run (fault.TooLong file.Plan))) = IsWithin map × IsWithin scen × IsTooLong plan
+AreWithin map scen plan (Err (check.Run (fault.ReadFailed file.Map))) = Unit {0}
+AreWithin map scen plan (Err (check.Run (fault.ReadFailed file.Scenario))) = IsWithin map
+AreWithin map scen plan (Err (check.Run (fault.ReadFailed file.Plan))) = IsWithin map × IsWithin scen
+AreWithin map scen plan (Err (check.Run (fault.Refusal refusal.NoMemory))) = Unit {0}
+AreWithin map scen plan other = IsWithin map × IsWithin scen × IsWithin plan

@@ -2,7 +2,7 @@
 
 ghost use Rattle.std.specs.Prelude.{◌<◌, string_bytes, IfOk, IfErr};
 ghost use Rattle.mapf_plan.specs.Device.{Counts};
-ghost use Rattle.mapf_cli.specs.CheckRun.{IsJudged, IsTextsFault, is_read_failure, is_write_failure, LeavesVerdict};
+ghost use Rattle.mapf_cli.specs.CheckRun.{IsJudged, IsTextsFault, is_read_failure, is_write_failure, LeavesVerdict, AreWithin};
 
 use crate::CheckFault;
 use mapf_check::{Verdict, check, line};
@@ -32,6 +32,9 @@ pub fn check_run<M: Source, S: Source, P: Source, O: Sink>(
     ensures scen { Counts (is_read_failure FileName.Scenario result) (S.failures scen.old) (S.failures scen.new) }
     ensures plan { Counts (is_read_failure FileName.Plan result) (P.failures plan.old) (P.failures plan.new) }
     ensures out { Counts (is_write_failure result) (O.failures out.old) (O.failures out.new) }
+
+    // A file is too long exactly where its reader gave more than 67,108,864 bytes.
+    ensures within { AreWithin (M.remaining map.old) (S.remaining scen.old) (P.remaining plan.old) result }
 
     // What was written is the line of the verdict on what the readers gave.
     ensures verdict { LeavesVerdict (M.remaining map.old) (S.remaining scen.old) (P.remaining plan.old) agents (O.contents out.old) (O.contents out.new) result }
