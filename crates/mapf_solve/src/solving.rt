@@ -41,7 +41,7 @@ pub fn solve<R: Threads + Sync, G: Gate>(
             requires orders { length orders.now ≤ 64 }
             requires workers { (0 < workers) × (workers ≤ 64) }
             ensures { All (λ pair. Contains orders.now pair.0) result.items }
-        { do_sides(rt, alloc, problem, orders, gate, workers) },
+        { do_sides(rt, alloc, orders, gate, workers) },
     );
     let search = Search::from_root(alloc, problem, first)?;
     search.finish(&mut rounds)

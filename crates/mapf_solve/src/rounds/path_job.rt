@@ -9,7 +9,7 @@ use mapf_grid::NoMemory;
 use mapf_plan::Path;
 use mapf_tree::{Problem, root_path};
 use std::alloc::Global;
-use std::marker::Model;
+use std::marker::{Model, PhantomData};
 
 /// An agent's own path without constraints is wanted.
 #[derive(Drop)]
@@ -56,13 +56,16 @@ impl<'p> PathJob<'p> {
 #[derive(Drop)]
 pub(crate) struct Paths<'p> {
     alloc: Global,
-    problem: &'p Problem,
+    of: PhantomData<&'p Problem>,
 }
 
 impl<'p> Paths<'p> {
-    /// The work on this problem; memory comes from this allocator.
-    pub(crate) fn new(alloc: Global, problem: &'p Problem) -> Paths<'p> {
-        Paths { alloc, problem }
+    /// The work on any problem's agents; memory comes from this allocator.
+    pub(crate) fn new(alloc: Global) -> Paths<'p> {
+        Paths {
+            alloc,
+            of: PhantomData,
+        }
     }
 }
 

@@ -70,7 +70,7 @@ fn paths_ahead<'p, R: Threads + Sync, G: Gate>(
     ensures { IfOk result (λ r. r ≡ problem.now) }
 {
     let jobs = path_jobs(alloc, problem)?;
-    let work = Paths::new(alloc, problem);
+    let work = Paths::new(alloc);
     let pairs = run_round(rt, alloc, &work, &jobs, gate, workers)?;
     RootPaths::of(alloc, problem, pairs)
 }

@@ -6,7 +6,7 @@ ghost use Rattle.mapf_solve.specs.Rounds.{FitsSide, IsBranching};
 use mapf_board::{Pair, Task, Work};
 use mapf_tree::{Node, Problem, Side, child};
 use std::alloc::Global;
-use std::marker::Model;
+use std::marker::{Model, PhantomData};
 
 /// A child of a node is wanted, on one side of the conflict of the node's plan.
 #[derive(Drop)]
@@ -61,13 +61,16 @@ impl<'p> SideJob<'p> {
 #[derive(Drop)]
 pub(crate) struct Sides<'p> {
     alloc: Global,
-    problem: &'p Problem,
+    of: PhantomData<&'p Problem>,
 }
 
 impl<'p> Sides<'p> {
-    /// The work on this problem; memory comes from this allocator.
-    pub(crate) fn new(alloc: Global, problem: &'p Problem) -> Sides<'p> {
-        Sides { alloc, problem }
+    /// The work on any problem's nodes; memory comes from this allocator.
+    pub(crate) fn new(alloc: Global) -> Sides<'p> {
+        Sides {
+            alloc,
+            of: PhantomData,
+        }
     }
 }
 

@@ -10,7 +10,7 @@ use crate::rounds::side_job::Sides;
 use crate::rounds::side_order::SideOrder;
 use mapf_board::{Gate, Pair};
 use mapf_grid::NoMemory;
-use mapf_tree::{Node, OpenList, Problem, Side};
+use mapf_tree::{Node, OpenList, Side};
 use std::alloc::Global;
 use std::thread::Threads;
 
@@ -65,7 +65,6 @@ fn add_side<'n, 'p>(
 pub(crate) fn do_sides<'p, R: Threads + Sync, G: Gate>(
     rt: &R,
     alloc: Global,
-    problem: &'p Problem,
     orders: &[SideOrder<'_, 'p>],
     gate: &G,
     workers: usize,
@@ -77,7 +76,7 @@ pub(crate) fn do_sides<'p, R: Threads + Sync, G: Gate>(
     if orders.is_empty() {
         return Vec::new(alloc);
     }
-    let work = Sides::new(alloc, problem);
+    let work = Sides::new(alloc);
     match run_round(rt, alloc, &work, orders, gate, workers) {
         Ok(pairs) => pairs,
         Err(_) => Vec::new(alloc),
