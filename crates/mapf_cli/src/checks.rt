@@ -33,7 +33,7 @@ pub fn check_run<M: Source, S: Source, P: Source, O: Sink>(
     ensures plan { Counts (is_read_failure FileName.Plan result) (P.failures plan.old) (P.failures plan.new) }
     ensures out { Counts (is_write_failure result) (O.failures out.old) (O.failures out.new) }
 
-    // A file is too long exactly where its reader gave more than 67,108,864 bytes.
+    // A file is too long where it is the first of more than 67,108,864 bytes; else no file that was read is longer.
     ensures within { AreWithin (M.remaining map.old) (S.remaining scen.old) (P.remaining plan.old) result }
 
     // What was written is the line of the verdict on what the readers gave.

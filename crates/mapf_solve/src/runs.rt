@@ -30,7 +30,7 @@ pub fn run<R: Threads + Sync, M: Source, S: Source, O: Sink>(
     ensures scen { Counts (is_read_failure FileName.Scenario result) (S.failures scen.old) (S.failures scen.new) }
     ensures out { Counts (is_write_failure result) (O.failures out.old) (O.failures out.new) }
 
-    // A file is too long exactly where its reader gave more than 67,108,864 bytes.
+    // A file is too long where it is the first of more than 67,108,864 bytes; else no file that was read is longer.
     ensures within { AreWithin (M.remaining map.old) (S.remaining scen.old) result }
 
     // What was written is the text of what the readers gave.
