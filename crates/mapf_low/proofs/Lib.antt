@@ -8,9 +8,20 @@ mod Adding
 mod Places
 mod Layering
 mod FirstArrival
+pub mod Limits
 mod Growing
 mod Bests
+mod Reading
 mod LayersGrow
 mod Rising
 mod Ending
+mod Grown
+mod Marked
+mod Leading
+mod Closing
+mod Classing
+mod Searching
+mod ClassLists
+mod Found
+mod Taking
 pub mod Sets

@@ -12,10 +12,12 @@ use Rattle.std.proofs.lemmas.List.Kept.{AllPairs-from_increasing, Contains-dedup
 use Rattle.std.proofs.lemmas.List.Sorted.{searched, Contains-permutation, IsPermutation-sym}
 use Rattle.mapf_grid.specs.Grid.{Grid, IsFree, IsBeside, Next}
 use Rattle.mapf_grid.specs.declared.fault.NoMemory.{NoMemory}
+use Rattle.mapf_low.specs.Query.{Query}
 use Rattle.mapf_low.specs.declared.constraint.Constraint.{Constraint}
 use Rattle.mapf_low.specs.declared.constraint.Constraint.TheVariants.{Vertex, Edge}
 use Rattle.mapf_low.specs.Times.{time_of}
-use Rattle.mapf_low.specs.Layers.{IsOpen, MayStep, MayEnter, ComesFrom, IsNextLayer}
+use Rattle.mapf_low.specs.Layers.{MayEnter, IsNextLayer}
+use Rattle.mapf_low.specs.Reached.{IsOpen, MayStep, ComesFrom}
 use Rattle.mapf_low.proofs.Growing.{members_push, all_in_front, Grown}
 use Rattle.mapf_low.proofs.LevelSearch.{Next_back}
 use Rattle.mapf_low.proofs.Bests.{IsSmallest, smallest_same}
@@ -88,6 +90,14 @@ offered E old new to e t v = (λ i. forth ((members_push old to v).0 (subst (λ 
     back (inl i) = inl i
     back (inr s) = inr s.0
 
+-- the same list, where the cell may not be entered
+pub not_offered : (E : ℕ → Type 0) (old : List ℕ) (to : ℕ) → ¬ E to → (v : ℕ) → Contains old v ↔ (Contains old v ⊎ ((to ≡ v) × E v))
+not_offered E old to n v = (inl, back)
+  where
+    back : Contains old v ⊎ ((to ≡ v) × E v) → Contains old v
+    back (inl i) = i
+    back (inr (e, t)) = absurd (n (subst E (sym e) t))
+
 -- the free sides and the cell itself are where a step may lead
 pub all_ways : (g : Grid) (cell : ℕ) (sides found : List ℕ) → IsFree g cell → ((v : ℕ) → Contains sides v ↔ (IsFree g v × IsBeside g cell v)) → found ≡ sides ++ cell ∷ [] → (v : ℕ) → Contains found v ↔ Next g cell v
 all_ways g cell sides found free h e v = (λ i. to ((members_push sides cell v).0 (subst (λ xs. Contains xs v) e i)), λ n. subst (λ xs. Contains xs v) (sym e) ((members_push sides cell v).1 (from n)))
@@ -101,67 +111,37 @@ all_ways g cell sides found free h e v = (λ i. to ((members_push sides cell v).
     from (f, fv, inr b) = inl ((h v).1 (fv, b))
 
 -- what was met among the ways out are the cells that this one may be entered from
-pub met_before : (g : Grid) (cs : List Constraint) (time : ℕ) (layer : List ℕ) (cell : ℕ) (items : List ℕ) (k : ℕ) (o : Option ℕ) → k ≡ length items → ((v : ℕ) → Contains items v ↔ Next g cell v) →
-    IsSmallest (λ u. Contains (take k items) u × (Contains layer u × (¬ Contains cs (Edge u cell time)))) o → IsSmallest (λ u. ComesFrom g cs time layer cell u) o
-met_before g cs time layer cell items k o e ways h =
-    smallest_same (λ u. Contains (take k items) u × (Contains layer u × (¬ Contains cs (Edge u cell time)))) (λ u. ComesFrom g cs time layer cell u) o h
+pub met_before : (query : Query) (time : ℕ) (P : ℕ → Type 0) (cell : ℕ) (items : List ℕ) (k : ℕ) (o : Option ℕ) → k ≡ length items → ((v : ℕ) → Contains items v ↔ Next query.grid cell v) →
+    IsSmallest (λ u. Contains (take k items) u × (P u × (¬ Contains query.constraints (Edge u cell time)))) o → IsSmallest (λ u. ComesFrom query time P cell u) o
+met_before query time P cell items k o e ways h =
+    smallest_same (λ u. Contains (take k items) u × (P u × (¬ Contains query.constraints (Edge u cell time)))) (λ u. ComesFrom query time P cell u) o h
     (λ u. (
-      (λ c. ((all_in_front items k u e).1 ((ways u).1 (Next_back g u cell c.1.0)), (c.0, c.1.1))),
-      (λ m. (m.1.0, (Next_back g cell u ((ways u).0 ((all_in_front items k u e).0 m.0)), m.1.1))),
+      (λ c. ((all_in_front items k u e).1 ((ways u).1 (Next_back query.grid u cell c.1.0)), (c.0, c.1.1))),
+      (λ m. (m.1.0, (Next_back query.grid cell u ((ways u).0 ((all_in_front items k u e).0 m.0)), m.1.1))),
     ))
 
 -- what was added from a free cell and its sides
-pub spread_is : (g : Grid) (table : List (Option ℕ)) (cs : List Constraint) (limit time from : ℕ) (sides old mid new : List ℕ) → IsFree g from → ((v : ℕ) → Contains sides v ↔ (IsFree g v × IsBeside g from v)) →
-    ((v : ℕ) → Contains mid v ↔ (Contains old v ⊎ ((from ≡ v) × MayEnter table cs limit time from v))) → Grown (λ v. MayEnter table cs limit time from v) sides mid new →
-    (v : ℕ) → Contains new v ↔ (Contains old v ⊎ (IsOpen table cs limit time v × MayStep g cs time from v))
-spread_is g table cs limit time from sides old mid new free beside waits h v = (λ i. to ((h v).0 i), λ p. (h v).1 (back p))
+pub spread_is : (query : Query) (time from : ℕ) (sides old mid new : List ℕ) → IsFree query.grid from → ((v : ℕ) → Contains sides v ↔ (IsFree query.grid v × IsBeside query.grid from v)) →
+    ((v : ℕ) → Contains mid v ↔ (Contains old v ⊎ ((from ≡ v) × MayEnter query time from v))) → Grown (λ v. MayEnter query time from v) sides mid new →
+    (v : ℕ) → Contains new v ↔ (Contains old v ⊎ (IsOpen query query.limit time v × MayStep query time from v))
+spread_is query time from sides old mid new free beside waits h v = (λ i. to ((h v).0 i), λ p. (h v).1 (back p))
   where
-    stays : Contains old v ⊎ ((from ≡ v) × MayEnter table cs limit time from v) → Contains old v ⊎ (IsOpen table cs limit time v × MayStep g cs time from v)
+    stays : Contains old v ⊎ ((from ≡ v) × MayEnter query time from v) → Contains old v ⊎ (IsOpen query query.limit time v × MayStep query time from v)
     stays (inl i) = inl i
-    stays (inr p) = inr (p.1.0, ((free, subst (IsFree g) p.0 free, inl p.0), p.1.1))
+    stays (inr p) = inr (p.1.0, ((free, subst (IsFree query.grid) p.0 free, inl p.0), p.1.1))
 
-    to : Contains mid v ⊎ (Contains sides v × MayEnter table cs limit time from v) → Contains old v ⊎ (IsOpen table cs limit time v × MayStep g cs time from v)
+    to : Contains mid v ⊎ (Contains sides v × MayEnter query time from v) → Contains old v ⊎ (IsOpen query query.limit time v × MayStep query time from v)
     to (inl i) = stays ((waits v).0 i)
     to (inr p) = let side = (beside v).0 p.0 in inr (p.1.0, ((free, side.0, inr side.1), p.1.1))
 
-    steps : IsOpen table cs limit time v → Next g from v → (¬ Contains cs (Edge from v time)) → Contains mid v ⊎ (Contains sides v × MayEnter table cs limit time from v)
+    steps : IsOpen query query.limit time v → Next query.grid from v → (¬ Contains query.constraints (Edge from v time)) → Contains mid v ⊎ (Contains sides v × MayEnter query time from v)
     steps o (f, fv, inl e) n = inl ((waits v).1 (inr (e, (o, n))))
     steps o (f, fv, inr b) n = inr ((beside v).1 (fv, b), (o, n))
 
-    back : Contains old v ⊎ (IsOpen table cs limit time v × MayStep g cs time from v) → Contains mid v ⊎ (Contains sides v × MayEnter table cs limit time from v)
+    back : Contains old v ⊎ (IsOpen query query.limit time v × MayStep query time from v) → Contains mid v ⊎ (Contains sides v × MayEnter query time from v)
     back (inl i) = inl ((waits v).1 (inl i))
     back (inr p) = steps p.0 p.1.0 p.1.1
 
 -- a test that failed
 pub not_true : (b : Bool) (P : Type 0) → IsTrue b ↔ P → b ≡ false → ¬ P
 not_true b P h e p = absurd (let n : false ≡ true = sym e ∙ h.1 p in let m : ◌≡◌ {A = ℕ} 0 1 = cc in omega (arith, m))
-
--- a constraint of the set is of a time that the set has
-has_its_time : (cs : List Constraint) (t : ℕ) (c : Constraint) → list_any (λ c. time_of c == t) cs ≡ false → Contains cs c → time_of c ≡ t → ⊥
-has_its_time cs t c h (k, l, is) e =
-    let same : (time_of (get_or cs k c) == t) ≡ true = subst (λ m. (m == t) ≡ true) (sym (ap time_of is ∙ e)) (eqb-refl t) in
-    let some : list_any (λ c. time_of c == t) cs ≡ true = list_any_at (λ c. time_of c == t) cs k c l same in
-    absurd (let n : false ≡ true = sym h ∙ some in cc)
-
--- where no constraint is of this time, the layer after one is the same as without constraints
-quiet_layer : (g : Grid) (table : List (Option ℕ)) (cs : List Constraint) (limit t : ℕ) (layer next : List ℕ) → list_any (λ c. time_of c == t) cs ≡ false →
-    IsNextLayer g table [] limit t layer next → IsNextLayer g table cs limit t layer next
-quiet_layer g table cs limit t layer next quiet h v = (λ i. to ((h v).0 i), λ p. (h v).1 (back p))
-  where
-    none : (c : Constraint) → time_of c ≡ t → ¬ Contains cs c
-    none c e i = has_its_time cs t c quiet i e
-
-    never : (c : Constraint) → ¬ Contains [] c
-    never c i = omega (arith, i.1)
-
-    to : IsOpen table [] limit t v × ((u : ℕ) × ComesFrom g [] t layer v u) → IsOpen table cs limit t v × ((u : ℕ) × ComesFrom g cs t layer v u)
-    to (o, (u, (i, (s, _)))) = ((none (Vertex v t) refl, o.1), (u, (i, (s, none (Edge u v t) refl))))
-
-    back : IsOpen table cs limit t v × ((u : ℕ) × ComesFrom g cs t layer v u) → IsOpen table [] limit t v × ((u : ℕ) × ComesFrom g [] t layer v u)
-    back (o, (u, (i, (s, _)))) = ((never (Vertex v t), o.1), (u, (i, (s, never (Edge u v t)))))
-
--- the same of what was made of it
-pub quiet_made : (g : Grid) (table : List (Option ℕ)) (cs none : List Constraint) (limit t : ℕ) (layer : List ℕ) (r : Result (List ℕ) NoMemory) → list_any (λ c. time_of c == t) cs ≡ false → none ≡ [] →
-    IfOk r (IsNextLayer g table none limit t layer) → IfOk r (IsNextLayer g table cs limit t layer)
-quiet_made g table cs none limit t layer (Ok next) quiet e h = quiet_layer g table cs limit t layer next quiet (subst (λ ds. IsNextLayer g table ds limit t layer next) e h)
-quiet_made g table cs none limit t layer (Err _) quiet e h = tt

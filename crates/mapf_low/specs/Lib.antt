@@ -4,5 +4,9 @@ pub mod Constraints
 pub mod Kept
 pub mod OwnPath
 pub mod Best
+pub mod Query
+pub mod Reached
 pub mod Layers
+pub mod Classes
+pub mod Taken
 pub mod Times

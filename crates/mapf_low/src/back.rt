@@ -1,13 +1,13 @@
-ghost use Rattle.std.specs.Prelude.{◌≡◌, ℕ, ◌+◌, ◌<◌, ◌≤◌, length, IfOk, Contains};
-ghost use Rattle.mapf_grid.specs.Grid.{cells, IsFree};
+ghost use Rattle.std.specs.Prelude.{◌≡◌, ◌↔◌, ℕ, ◌+◌, ◌<◌, ◌≤◌, IfOk, Contains};
+ghost use Rattle.mapf_grid.specs.Grid.{cells, IsFree, Next};
 ghost use Rattle.mapf_low.specs.Best.{smaller_of};
-ghost use Rattle.mapf_low.specs.Layers.{ComesFrom, layer_at, AreLinked, IsSmallestBefore, IsReadBack};
+ghost use Rattle.mapf_low.specs.Reached.{ComesFrom, AreLinked, IsSmallestBefore, IsReadBack};
 
-use crate::Constraints;
-use crate::layer::Layer;
-use crate::layers::ways;
-use mapf_grid::{Cell, Map, NoMemory};
+use crate::query::Query;
+use crate::reached::Reached;
+use mapf_grid::{Cell, NoMemory};
 use mapf_plan::Path;
+use smallvec::SmallVec;
 use std::alloc::Global;
 
 /// The smaller of two cells, where there is one.
@@ -21,23 +21,34 @@ fn smaller(one: Option<Cell>, other: Option<Cell>) -> Option<Cell>
     }
 }
 
-/// The smallest cell of the layer from which this one may be entered at this time step.
-fn smallest_before(
+/// The cells that a step may lead to, the cell itself among them.
+fn ways(alloc: Global, query: &Query, cell: Cell) -> Result<SmallVec<Cell, 5>, NoMemory>
+    requires free { IsFree query.now.grid cell }
+    requires inside { cell < cells query.now.grid }
+    ensures { IfOk result (λ found. (v : ℕ) → Contains found.items v ↔ Next query.now.grid cell v) }
+{
+    let mut found = SmallVec::from_slice(alloc, query.sides(cell).as_slice())?;
+    found.push(cell)?;
+    Ok(found)
+}
+
+/// The smallest cell that is reached at this time step and from which the given one may be entered at the next.
+fn smallest_before<R: Reached>(
     alloc: Global,
-    map: &Map,
-    constraints: &Constraints,
-    layer: &Layer,
+    query: &Query,
+    reached: &R,
     cell: Cell,
     time: u32,
 ) -> Result<Cell, NoMemory>
-    requires free { IsFree map.now cell }
-    requires inside { cell < cells map.now }
-    requires some { (u : ℕ) × ComesFrom map.now constraints.now time layer.now cell u }
-    ensures { IfOk result (IsSmallestBefore map.now constraints.now time layer.now cell) }
+    requires free { IsFree query.now.grid cell }
+    requires inside { cell < cells query.now.grid }
+    requires early { time < 1000000 }
+    requires some { (u : ℕ) × ComesFrom query.now (time + 1) (R.has reached.now time) cell u }
+    ensures { IfOk result (IsSmallestBefore query.now (time + 1) (R.has reached.now time) cell) }
 {
     let mut smallest = None;
-    for from in ways(alloc, map, cell)?.as_slice() {
-        if layer.contains(*from) && constraints.allows_step(*from, cell, time) {
+    for from in ways(alloc, query, cell)?.as_slice() {
+        if reached.has(*from, time) && query.allows_step(*from, cell, time + 1) {
             smallest = smaller(smallest, Some(*from));
         }
     }
@@ -45,31 +56,21 @@ fn smallest_before(
 }
 
 /// The path that arrives on the goal at this time step, read backwards by the smallest earlier cell.
-pub fn read_back(
+pub fn read_back<R: Reached>(
     alloc: Global,
-    map: &Map,
-    constraints: &Constraints,
-    layers: &[Layer],
-    goal: Cell,
+    query: &Query,
+    reached: &R,
     end: u32,
 ) -> Result<Path, NoMemory>
-    requires linked { AreLinked map.now constraints.now layers.now }
-    requires inside { end < length layers.now }
-    requires arrived { Contains (layer_at layers.now end) goal }
+    requires linked { AreLinked query.now (R.has reached.now) end }
+    requires arrived { R.has reached.now end query.now.goal }
     requires short { end ≤ 1000000 }
-    ensures { IfOk result (λ path. IsReadBack map.now constraints.now layers.now goal path 0 end) }
+    ensures { IfOk result (λ path. IsReadBack query.now (R.has reached.now) path 0 end) }
 {
-    let mut cells = vec![in alloc; goal; end as usize + 1]?;
+    let mut cells = vec![in alloc; query.goal(); end as usize + 1]?;
     for time in (0..end).rev() {
         let place = time as usize;
-        cells[place] = smallest_before(
-            alloc,
-            map,
-            constraints,
-            &layers[place],
-            cells[place + 1],
-            time + 1,
-        )?;
+        cells[place] = smallest_before(alloc, query, reached, cells[place + 1], time)?;
     }
     Ok(Path::of(cells))
 }

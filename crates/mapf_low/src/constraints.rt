@@ -23,9 +23,7 @@ impl Model for Constraints {
 }
 
 impl Constraints {
-    ghost use Rattle.std.specs.Prelude.{◌≡◌, ◌==◌, ◌⊎◌, ◌↔◌, [], All, IfOk, IsTrue, Contains};
-    ghost use Rattle.std.specs.List.{list_any};
-    ghost use Rattle.mapf_low.specs.Times.{time_of};
+    ghost use Rattle.std.specs.Prelude.{◌≡◌, ◌⊎◌, ◌↔◌, [], All, IfOk, IsTrue, Contains};
     ghost use Rattle.mapf_low.specs.declared.constraint.Constraint.{Constraint};
     ghost use Rattle.mapf_low.specs.Kept.{HasTwoEnds};
     ghost use Rattle.mapf_low.specs.Best.{IsGreatest};
@@ -61,6 +59,13 @@ impl Constraints {
         })
     }
 
+    /// The constraints, in an order of their own.
+    pub(crate) fn as_slice(&self) -> &[Constraint]
+        ensures { result.now ≡ self.now }
+    {
+        self.sorted.as_slice()
+    }
+
     /// Whether the agent may be on the cell at this time step.
     pub fn allows_at(&self, cell: Cell, time: u32) -> bool
         ensures { IsTrue result ↔ (¬ Contains self.now (Constraint.Vertex cell time)) }
@@ -73,15 +78,6 @@ impl Constraints {
         ensures { IsTrue result ↔ (¬ Contains self.now (Constraint.Edge from to time)) }
     {
         !self.contains(Constraint::Edge { from, to, time })
-    }
-
-    /// Whether a constraint of the set is of this time step.
-    pub fn has_time(&self, time: u32) -> bool
-        ensures { result ≡ list_any (λ c. time_of c == time) self.now }
-    {
-        self.sorted
-            .iter()
-            .any(|constraint| constraint.time() == time)
     }
 
     /// The last time step at which the agent may not be on the cell, where there is one.

@@ -1,7 +1,20 @@
-//! What holds of one agent's paths: functions that do nothing, each with one law as its contract.
+//! What holds of one agent's paths: functions that do nothing, each with one law as its contract; and an agent's own path
+//! found in another way, for tests.
 
-ghost use Rattle.mapf_low.specs.Constraints.{OrderIsByLast};
+ghost use Rattle.std.specs.Prelude.{ℕ, ◌≤◌, List, IfOk, MatchOption};
+ghost use Rattle.mapf_grid.specs.Grid.{IsFree};
+ghost use Rattle.mapf_low.specs.Walk.{AreDistances};
+ghost use Rattle.mapf_low.specs.Taken.{AreTaken};
+ghost use Rattle.mapf_low.specs.Constraints.{IsAllowed, IsOwnPath, OrderIsByLast};
 ghost use Rattle.mapf_low.specs.OwnPath.{OwnPathExists};
+
+use crate::arrival::by_layers;
+use crate::query::Query;
+use crate::taken::taken_by;
+use crate::{Constraints, Distances};
+use mapf_grid::{Cell, Map, NoMemory};
+use mapf_plan::Path;
+use std::alloc::Global;
 
 /// Among paths of one cost that one comes first which has the smaller cell at the last place where the two differ.
 pub fn order_is_by_last()
@@ -12,3 +25,59 @@ pub fn order_is_by_last()
 pub fn own_path_exists()
     ensures { OwnPathExists }
 {}
+
+/// An agent's own path, as [`crate::cheapest`] gives it, by layers over time: the cells reached at time 0, 1, 2 and so on,
+/// with a rising limit on the cost. Tests compare the two.
+pub fn cheapest_by_layers(
+    alloc: Global,
+    map: &Map,
+    distances: &Distances,
+    start: Cell,
+    goal: Cell,
+    constraints: &Constraints,
+    bound: u32,
+) -> Result<Option<Path>, NoMemory>
+    requires start { IsFree map.now start }
+    requires goal { IsFree map.now goal }
+    requires distances { AreDistances map.now goal distances.now }
+    requires bound { bound ≤ 1000000 }
+    ensures { IfOk result (λ found. MatchOption found
+        ((p : List ℕ) → ¬ IsAllowed map.now start goal bound constraints.now p)
+        (IsOwnPath map.now start goal bound constraints.now)) }
+{
+    // A low limit keeps the layers small. The own path within one limit is that within every higher one.
+    let nearest = distances.get(start).unwrap_or(bound).min(bound);
+    let mut limit = nearest;
+    while limit < bound {
+        let query = Query::new(alloc, map, distances, start, goal, constraints, limit)?;
+        let found = by_layers(alloc, &query)?;
+        if found.is_some() {
+            return Ok(found);
+        }
+        limit = bound.min(2 * limit - nearest + 1);
+    }
+    let query = Query::new(alloc, map, distances, start, goal, constraints, bound)?;
+    by_layers(alloc, &query)
+}
+
+/// The states, cells at time steps, that the search of [`crate::cheapest`] takes, each once and in the order in which it
+/// takes them: by rising sum of the time and the distance to the goal. Where the goal is forbidden at the bound or later
+/// there is no path, and none is taken.
+pub fn taken(
+    alloc: Global,
+    map: &Map,
+    distances: &Distances,
+    start: Cell,
+    goal: Cell,
+    constraints: &Constraints,
+    bound: u32,
+) -> Result<Vec<(Cell, u32)>, NoMemory>
+    requires start { IsFree map.now start }
+    requires goal { IsFree map.now goal }
+    requires distances { AreDistances map.now goal distances.now }
+    requires bound { bound ≤ 1000000 }
+    ensures { IfOk result (λ states. AreTaken map.now distances.now start goal bound constraints.now states.items) }
+{
+    let query = Query::new(alloc, map, distances, start, goal, constraints, bound)?;
+    taken_by(alloc, &query)
+}

@@ -3,13 +3,21 @@
 
 mod arrival;
 mod back;
+mod busy;
+mod class;
 mod constraint;
 mod constraints;
 mod distances;
+mod entering;
 pub mod laws;
 mod layer;
 mod layers;
 mod own_path;
+mod query;
+mod reached;
+mod search;
+mod states;
+mod taken;
 mod time;
 
 pub use constraint::Constraint;

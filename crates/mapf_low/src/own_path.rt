@@ -1,13 +1,51 @@
-ghost use Rattle.std.specs.Prelude.{ℕ, ◌≤◌, List, IfOk, MatchOption};
+ghost use Rattle.std.specs.Prelude.{◌≡◌, ℕ, ◌≤◌, List, IfOk, MatchOption};
+ghost use Rattle.std.specs.Option.{option_map};
 ghost use Rattle.mapf_grid.specs.Grid.{IsFree};
 ghost use Rattle.mapf_low.specs.Walk.{AreDistances};
+ghost use Rattle.mapf_plan.specs.Path.{cost};
+ghost use Rattle.mapf_low.specs.Query.{IsFound};
+ghost use Rattle.mapf_low.specs.Classes.{IsSearched};
 ghost use Rattle.mapf_low.specs.Constraints.{IsAllowed, IsOwnPath};
 
-use crate::arrival::least_within;
+use crate::back::read_back;
+use crate::query::Query;
+use crate::search::{Searched, search};
+use crate::states::States;
 use crate::{Constraints, Distances};
 use mapf_grid::{Cell, Map, NoMemory};
 use mapf_plan::Path;
 use std::alloc::Global;
+
+/// An agent's own path, if it has one, beside the search that found it.
+pub fn find(alloc: Global, query: &Query) -> Result<(Searched, Option<Path>), NoMemory>
+    ensures searched { IfOk result (λ r. IsSearched query.now r.0.nearest r.0.classes.items r.0.end) }
+    ensures path { IfOk result (λ r. IsFound query.now r.1) }
+    ensures end { IfOk result (λ r. r.0.end ≡ option_map cost r.1) }
+{
+    let searched = search(alloc, query)?;
+    match searched.end {
+        None => Ok((searched, None)),
+        Some(end) => {
+            let states = States {
+                query,
+                searched: &searched,
+            };
+            let path = read_back(alloc, query, &states, end)?;
+            Ok((searched, Some(path)))
+        }
+    }
+}
+
+/// An agent's own path; none is looked for where its goal is forbidden at the limit or later.
+pub fn own_path_of(alloc: Global, query: &Query) -> Result<Option<Path>, NoMemory>
+    ensures { IfOk result (IsFound query.now) }
+{
+    if !query.may_end(query.limit()) {
+        return Ok(None);
+    }
+    let (_searched, path) = find(alloc, query)?;
+    Ok(path)
+}
 
 /// An agent's own path: of its paths of cost at most `bound` that obey the constraints at all times the least by
 /// cost, and among equal costs the one with the smaller cell at the last place where two differ.
@@ -30,15 +68,6 @@ pub fn cheapest(
         ((p : List ℕ) → ¬ IsAllowed map.now start goal bound constraints.now p)
         (IsOwnPath map.now start goal bound constraints.now)) }
 {
-    // A low limit keeps the layers small. The least path by one limit is that by every higher one.
-    let nearest = distances.get(start).unwrap_or(bound).min(bound);
-    let mut limit = nearest;
-    while limit < bound {
-        let found = least_within(alloc, map, distances, start, goal, constraints, limit)?;
-        if found.is_some() {
-            return Ok(found);
-        }
-        limit = bound.min(2 * limit - nearest + 1);
-    }
-    least_within(alloc, map, distances, start, goal, constraints, bound)
+    let query = Query::new(alloc, map, distances, start, goal, constraints, bound)?;
+    own_path_of(alloc, &query)
 }

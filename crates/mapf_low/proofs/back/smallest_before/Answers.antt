@@ -1,12 +1,12 @@
 use Rattle.std.proofs.Common.{◌≡◌, ◌↔◌, ◌⊎◌, ◌+◌, ℕ, List, length, take, Contains, inl, inr, subst, sym, ◌∙◌, arith}
 use Rattle.mapf_grid.specs.Grid.{Next}
 use Rattle.mapf_low.specs.declared.constraint.Constraint.TheVariants.{Edge}
-use Rattle.mapf_low.specs.Layers.{ComesFrom}
+use Rattle.mapf_low.specs.Reached.{ComesFrom}
 use Rattle.mapf_low.proofs.Growing.{members_more}
 use Rattle.mapf_low.proofs.Bests.{IsSmallest, smallest_takes, smallest_keeps, smallest_some, smallest_at}
 use Rattle.mapf_low.proofs.Rising.{met_before, not_true}
 use Rattle.mapf_low.proofs.back.smallest_before.Goals as goal
-use Rattle.mapf_low.proofs.back.smallest_before.Goals.{then-contains+then-allows_step, else-contains, else-contains-via-then-contains+else-allows_step, else-contains-via-else-contains}
+use Rattle.mapf_low.proofs.back.smallest_before.Goals.{then-has+then-allows_step, else-has, else-has-via-then-has+else-allows_step, else-has-via-else-has}
 
 -- the members of a longer front for which Q holds
 front_joins : (Q : ℕ → Type 0) (items : List ℕ) (k x : ℕ) → ((u : ℕ) → Contains (take (k + 1) items) u ↔ (Contains (take k items) u ⊎ (x ≡ u))) →
@@ -22,49 +22,49 @@ front_joins Q items k x h u = (λ p. to ((h u).0 p.0) p.1, from)
     from (inr p) = ((h u).1 (inr p.0), p.1)
 
 pub loop-from-preserved : goal.loop-from-preserved
-loop-from-preserved c =
-    elim c.if-contains.branch [
-      | then-contains+then-allows_step w ↦
-          subst (IsSmallest (λ u. Contains (take (c.loop-from.from-index + 1) c.as_slice-from-items.result.now) u × (Contains c.args.layer.now u × (¬ Contains c.args.constraints.now (Edge u c.args.cell c.args.time)))))
+loop-from-preserved g c =
+    elim c.if-has.branch [
+      | then-has+then-allows_step w ↦
+          subst (IsSmallest (λ u. Contains (take (c.loop-from.from-index + 1) c.as_slice-from-items.result.now) u × (g.R.Reached.has c.args.reached.now c.args.time u × (¬ Contains c.args.query.now.constraints (Edge u c.args.cell (c.args.time + 1))))))
           (sym (w.smallest-is ∙ w.smaller-smallest.ensures))
           (smallest_takes
-          (λ u. Contains (take c.loop-from.from-index c.as_slice-from-items.result.now) u × (Contains c.args.layer.now u × (¬ Contains c.args.constraints.now (Edge u c.args.cell c.args.time))))
-          (λ u. Contains c.args.layer.now u × (¬ Contains c.args.constraints.now (Edge u c.args.cell c.args.time)))
-          (λ u. Contains (take (c.loop-from.from-index + 1) c.as_slice-from-items.result.now) u × (Contains c.args.layer.now u × (¬ Contains c.args.constraints.now (Edge u c.args.cell c.args.time))))
-          c.loop-from.smallest c.from-item.result c.loop-from.invariant (c.contains.ensures.0 w.if-contains.true, w.allows_step.ensures.0 w.if-allows_step.true)
-          (front_joins (λ u. Contains c.args.layer.now u × (¬ Contains c.args.constraints.now (Edge u c.args.cell c.args.time))) c.as_slice-from-items.result.now c.loop-from.from-index c.from-item.result
+          (λ u. Contains (take c.loop-from.from-index c.as_slice-from-items.result.now) u × (g.R.Reached.has c.args.reached.now c.args.time u × (¬ Contains c.args.query.now.constraints (Edge u c.args.cell (c.args.time + 1)))))
+          (λ u. g.R.Reached.has c.args.reached.now c.args.time u × (¬ Contains c.args.query.now.constraints (Edge u c.args.cell (c.args.time + 1))))
+          (λ u. Contains (take (c.loop-from.from-index + 1) c.as_slice-from-items.result.now) u × (g.R.Reached.has c.args.reached.now c.args.time u × (¬ Contains c.args.query.now.constraints (Edge u c.args.cell (c.args.time + 1)))))
+          c.loop-from.smallest c.from-item.result c.loop-from.invariant (c.has.ensures.0 w.if-has.true, w.allows_step.ensures.0 w.if-allows_step.true)
+          (front_joins (λ u. g.R.Reached.has c.args.reached.now c.args.time u × (¬ Contains c.args.query.now.constraints (Edge u c.args.cell (c.args.time + 1)))) c.as_slice-from-items.result.now c.loop-from.from-index c.from-item.result
           (λ u. members_more c.as_slice-from-items.result.now c.loop-from.from-index c.from-item.result u c.loop-from-test.true c.from-item.is)))
-      | else-contains w ↦
-          subst (IsSmallest (λ u. Contains (take (c.loop-from.from-index + 1) c.as_slice-from-items.result.now) u × (Contains c.args.layer.now u × (¬ Contains c.args.constraints.now (Edge u c.args.cell c.args.time)))))
+      | else-has w ↦
+          subst (IsSmallest (λ u. Contains (take (c.loop-from.from-index + 1) c.as_slice-from-items.result.now) u × (g.R.Reached.has c.args.reached.now c.args.time u × (¬ Contains c.args.query.now.constraints (Edge u c.args.cell (c.args.time + 1))))))
           (sym w.smallest-is)
           (smallest_keeps
-          (λ u. Contains (take c.loop-from.from-index c.as_slice-from-items.result.now) u × (Contains c.args.layer.now u × (¬ Contains c.args.constraints.now (Edge u c.args.cell c.args.time))))
-          (λ u. Contains c.args.layer.now u × (¬ Contains c.args.constraints.now (Edge u c.args.cell c.args.time)))
-          (λ u. Contains (take (c.loop-from.from-index + 1) c.as_slice-from-items.result.now) u × (Contains c.args.layer.now u × (¬ Contains c.args.constraints.now (Edge u c.args.cell c.args.time))))
+          (λ u. Contains (take c.loop-from.from-index c.as_slice-from-items.result.now) u × (g.R.Reached.has c.args.reached.now c.args.time u × (¬ Contains c.args.query.now.constraints (Edge u c.args.cell (c.args.time + 1)))))
+          (λ u. g.R.Reached.has c.args.reached.now c.args.time u × (¬ Contains c.args.query.now.constraints (Edge u c.args.cell (c.args.time + 1))))
+          (λ u. Contains (take (c.loop-from.from-index + 1) c.as_slice-from-items.result.now) u × (g.R.Reached.has c.args.reached.now c.args.time u × (¬ Contains c.args.query.now.constraints (Edge u c.args.cell (c.args.time + 1)))))
           c.loop-from.smallest c.from-item.result c.loop-from.invariant
-          (elim w.else-contains.branch [
-            | else-contains-via-then-contains+else-allows_step x ↦ (λ q. not_true x.allows_step.result (¬ Contains c.args.constraints.now (Edge c.from-item.result c.args.cell c.args.time)) x.allows_step.ensures x.if-allows_step.false q.1)
-            | else-contains-via-else-contains x ↦ (λ q. not_true c.contains.result (Contains c.args.layer.now c.from-item.result) c.contains.ensures x.if-contains.false q.0)
+          (elim w.else-has.branch [
+            | else-has-via-then-has+else-allows_step x ↦ (λ q. not_true x.allows_step.result (¬ Contains c.args.query.now.constraints (Edge c.from-item.result c.args.cell (c.args.time + 1))) x.allows_step.ensures x.if-allows_step.false q.1)
+            | else-has-via-else-has x ↦ (λ q. not_true c.has.result (g.R.Reached.has c.args.reached.now c.args.time c.from-item.result) c.has.ensures x.if-has.false q.0)
           ])
-          (front_joins (λ u. Contains c.args.layer.now u × (¬ Contains c.args.constraints.now (Edge u c.args.cell c.args.time))) c.as_slice-from-items.result.now c.loop-from.from-index c.from-item.result
+          (front_joins (λ u. g.R.Reached.has c.args.reached.now c.args.time u × (¬ Contains c.args.query.now.constraints (Edge u c.args.cell (c.args.time + 1)))) c.as_slice-from-items.result.now c.loop-from.from-index c.from-item.result
           (λ u. members_more c.as_slice-from-items.result.now c.loop-from.from-index c.from-item.result u c.loop-from-test.true c.from-item.is)))
     ]
 
 pub unwrap-requires : goal.unwrap-requires
-unwrap-requires c =
+unwrap-requires g c =
     let whole : c.loop-from.from-index ≡ length c.as_slice-from-items.result.now = omega arith in
-    let ways : (v : ℕ) → Contains c.as_slice-from-items.result.now v ↔ Next c.args.map.now c.args.cell v =
-    subst (λ xs. (v : ℕ) → Contains xs v ↔ Next c.args.map.now c.args.cell v) (sym c.as_slice-from-items.ensures) c.in_ok-ways.ensures in
-    smallest_some (λ u. ComesFrom c.args.map.now c.args.constraints.now c.args.time c.args.layer.now c.args.cell u) c.loop-from.smallest
-    (met_before c.args.map.now c.args.constraints.now c.args.time c.args.layer.now c.args.cell c.as_slice-from-items.result.now c.loop-from.from-index c.loop-from.smallest whole ways c.loop-from.invariant)
+    let ways : (v : ℕ) → Contains c.as_slice-from-items.result.now v ↔ Next c.args.query.now.grid c.args.cell v =
+    subst (λ xs. (v : ℕ) → Contains xs v ↔ Next c.args.query.now.grid c.args.cell v) (sym c.as_slice-from-items.ensures) c.in_ok-ways.ensures in
+    smallest_some (λ u. ComesFrom c.args.query.now (c.args.time + 1) (g.R.Reached.has c.args.reached.now c.args.time) c.args.cell u) c.loop-from.smallest
+    (met_before c.args.query.now (c.args.time + 1) (g.R.Reached.has c.args.reached.now c.args.time) c.args.cell c.as_slice-from-items.result.now c.loop-from.from-index c.loop-from.smallest whole ways c.loop-from.invariant)
     c.requires.some
 
 pub returns : goal.returns
-returns c =
+returns g c =
     let whole : c.loop-from.from-index ≡ length c.as_slice-from-items.result.now = omega arith in
-    let ways : (v : ℕ) → Contains c.as_slice-from-items.result.now v ↔ Next c.args.map.now c.args.cell v =
-    subst (λ xs. (v : ℕ) → Contains xs v ↔ Next c.args.map.now c.args.cell v) (sym c.as_slice-from-items.ensures) c.in_ok-ways.ensures in
+    let ways : (v : ℕ) → Contains c.as_slice-from-items.result.now v ↔ Next c.args.query.now.grid c.args.cell v =
+    subst (λ xs. (v : ℕ) → Contains xs v ↔ Next c.args.query.now.grid c.args.cell v) (sym c.as_slice-from-items.ensures) c.in_ok-ways.ensures in
     let found =
-    smallest_at (λ u. ComesFrom c.args.map.now c.args.constraints.now c.args.time c.args.layer.now c.args.cell u) c.loop-from.smallest c.unwrap.result c.unwrap.ensures
-    (met_before c.args.map.now c.args.constraints.now c.args.time c.args.layer.now c.args.cell c.as_slice-from-items.result.now c.loop-from.from-index c.loop-from.smallest whole ways c.loop-from.invariant) in
+    smallest_at (λ u. ComesFrom c.args.query.now (c.args.time + 1) (g.R.Reached.has c.args.reached.now c.args.time) c.args.cell u) c.loop-from.smallest c.unwrap.result c.unwrap.ensures
+    (met_before c.args.query.now (c.args.time + 1) (g.R.Reached.has c.args.reached.now c.args.time) c.args.cell c.as_slice-from-items.result.now c.loop-from.from-index c.loop-from.smallest whole ways c.loop-from.invariant) in
     record { comes = found.0; smallest = found.1 }

@@ -1,0 +1,48 @@
+-- What a search by classes found is an agent's own path.
+use Rattle.std.proofs.Common.{◌≡◌, ◌⊎◌, ℕ, ◌+◌, ◌<◌, ◌≤◌, List, Option, Some, None, All, inl, inr, subst, arith}
+use Rattle.std.proofs.lemmas.Bool.{cases_lt}
+use Rattle.std.specs.Option.{unwrap_or}
+use Rattle.mapf_grid.specs.Grid.{Grid, IsFree, HasSizes}
+use Rattle.mapf_low.specs.Query.{Query, IsPosed}
+use Rattle.mapf_low.specs.declared.constraint.Constraint.{Constraint}
+use Rattle.mapf_low.specs.Constraints.{IsAllowed, IsOwnPath}
+use Rattle.mapf_low.specs.Kept.{HasTwoEnds}
+use Rattle.mapf_low.specs.Walk.{AreDistances}
+use Rattle.mapf_low.specs.Classes.{InClasses, IsSearched}
+use Rattle.mapf_low.specs.Reached.{Arrives, AreLinked, IsReadBack}
+use Rattle.mapf_low.proofs.FirstArrival.{Setting, own, none_by_limit}
+use Rattle.mapf_low.proofs.Limits.{own_by_bound}
+use Rattle.mapf_low.proofs.Reading.{are_linked}
+
+module _ (query : Query) (nearest : ℕ) (classes : List (List ℕ)) (posed : IsPosed query) where
+  pub setting : (end : Option ℕ) → IsSearched query nearest classes end → (count : ℕ) → Setting query (unwrap_or end query.limit) (InClasses query nearest classes) count
+  setting end s count = record { posed = posed; reached_are = s.reached count }
+
+  known : (end other : Option ℕ) → end ≡ other → IsSearched query nearest classes end → IsSearched query nearest classes other
+  known end other is s = subst (IsSearched query nearest classes) is s
+
+  -- what is needed to read it back
+  pub found_linked : (end : Option ℕ) (e : ℕ) → end ≡ Some e → IsSearched query nearest classes end → AreLinked query (InClasses query nearest classes) e
+  found_linked end e is s = are_linked query e (InClasses query nearest classes) (e + 1) e (setting (Some e) (known end (Some e) is s) (e + 1)) (omega arith)
+
+  -- the path that was read back is the agent's own
+  pub found_own : (end : Option ℕ) (e : ℕ) (q : List ℕ) → end ≡ Some e → IsSearched query nearest classes end → IsReadBack query (InClasses query nearest classes) q 0 e → IsOwnPath query.grid query.start query.goal query.limit query.constraints q
+  found_own end e q is s read =
+      let t = known end (Some e) is s in
+      own_by_bound query.grid query.constraints e query.limit query.start query.goal q t.within
+      (own query e (InClasses query nearest classes) (e + 1) (setting (Some e) t (e + 1)) e q (omega arith) (omega arith) read t.ends t.before)
+
+  -- where there is no sum with which the agent can end, it may take no path
+  pub found_none : (end : Option ℕ) → end ≡ None → IsSearched query nearest classes end → (p : List ℕ) → ¬ IsAllowed query.grid query.start query.goal query.limit query.constraints p
+  found_none end is s =
+      none_by_limit query query.limit (InClasses query nearest classes) (query.limit + 1) (setting None none (query.limit + 1)) (omega arith) before
+    where
+      none : IsSearched query nearest classes None
+      none = known end None is s
+
+      before : (t : ℕ) → t < query.limit + 1 → ¬ Arrives query (InClasses query nearest classes) t
+      before t l = go (cases_lt t query.limit)
+        where
+          go : (t < query.limit) ⊎ (query.limit ≤ t) → ¬ Arrives query (InClasses query nearest classes) t
+          go (inl m) = none.before t m
+          go (inr m) = subst (λ k. ¬ Arrives query (InClasses query nearest classes) k) (let e : query.limit ≡ t = omega (arith, l, m) in e) none.ends

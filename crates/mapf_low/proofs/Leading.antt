@@ -1,0 +1,101 @@
+-- Where the cells of a class lead.
+use Rattle.mapf_low.specs.Walk.{distance_at}
+use Rattle.std.proofs.Common.{◌≡◌, ◌⊎◌, ◌↔◌, ℕ, ◌+◌, ◌-◌, ◌<◌, ◌≤◌, Bool, true, false, List, length, take, get_or, slice_index_or, Option, Some, MatchOption, IsTrue, Contains, inl, inr, subst, sym, refl, ap, ◌∙◌, arith}
+use Rattle.mapf_grid.specs.Grid.{Grid, IsFree, IsBeside, Next, cells, HasSizes}
+use Rattle.mapf_low.specs.Query.{Query}
+use Rattle.mapf_low.specs.declared.constraint.Constraint.{Constraint}
+use Rattle.mapf_low.specs.declared.constraint.Constraint.TheVariants.{Vertex, Edge}
+use Rattle.mapf_low.specs.Classes.{Grows, IsWithin, IsAllowedStep, Admits, Leads}
+use Rattle.mapf_low.proofs.Growing.{members_more, none_in_front, all_in_front}
+use Rattle.mapf_low.proofs.Grown.{grows_as, grows_both, grows_not}
+use Rattle.mapf_low.proofs.Places.{free_below}
+
+module _ (query : Query) (t far u : ℕ) where
+  abbrev Fits : List ℕ → ℕ → Type 0
+  Fits sides v = ((u ≡ v) ⊎ Contains sides v) × Admits query t far u v
+
+  -- first the cell itself
+  pub leads_none : (sides old new : List ℕ) → Grows (λ v. (u ≡ v) × Admits query t far u v) old new → Grows (λ v. ((u ≡ v) ⊎ Contains (take 0 sides) v) × Admits query t far u v) old new
+  leads_none sides old new h = grows_as (λ v. (u ≡ v) × Admits query t far u v) (Fits (take 0 sides)) old new (λ v. ((λ p. (inl p.0, p.1)), λ p. (only v p.0, p.1))) h
+    where
+      only : (v : ℕ) → (u ≡ v) ⊎ Contains (take 0 sides) v → u ≡ v
+      only v (inl e) = e
+      only v (inr i) = absurd (none_in_front sides v i)
+
+  -- then one side more
+  pub leads_more : (sides old mid new : List ℕ) (k x : ℕ) → k < length sides → x ≡ get_or sides k x → Grows (λ v. ((u ≡ v) ⊎ Contains (take k sides) v) × Admits query t far u v) old mid →
+      Grows (λ v. (x ≡ v) × Admits query t far u v) mid new → Grows (λ v. ((u ≡ v) ⊎ Contains (take (k + 1) sides) v) × Admits query t far u v) old new
+  leads_more sides old mid new k x l is h one =
+      grows_as (λ v. Fits (take k sides) v ⊎ ((x ≡ v) × Admits query t far u v)) (Fits (take (k + 1) sides)) old new (λ v. (to v, λ p. from v p.0 p.1))
+      (grows_both (Fits (take k sides)) (λ v. (x ≡ v) × Admits query t far u v) old mid new h one)
+    where
+      wider : (v : ℕ) → (u ≡ v) ⊎ Contains (take k sides) v → (u ≡ v) ⊎ Contains (take (k + 1) sides) v
+      wider v (inl e) = inl e
+      wider v (inr i) = inr ((members_more sides k x v l is).1 (inl i))
+
+      to : (v : ℕ) → Fits (take k sides) v ⊎ ((x ≡ v) × Admits query t far u v) → Fits (take (k + 1) sides) v
+      to v (inl p) = (wider v p.0, p.1)
+      to v (inr p) = (inr ((members_more sides k x v l is).1 (inr p.0)), p.1)
+
+      either : (v : ℕ) → Contains (take k sides) v ⊎ (x ≡ v) → Admits query t far u v → Fits (take k sides) v ⊎ ((x ≡ v) × Admits query t far u v)
+      either v (inl i) a = inl (inr i, a)
+      either v (inr e) a = inr (e, a)
+
+      from : (v : ℕ) → (u ≡ v) ⊎ Contains (take (k + 1) sides) v → Admits query t far u v → Fits (take k sides) v ⊎ ((x ≡ v) × Admits query t far u v)
+      from v (inl e) a = inl (inl e, a)
+      from v (inr i) a = either v ((members_more sides k x v l is).0 i) a
+
+  -- in the end all
+  pub leads_all : (sides old new : List ℕ) (k : ℕ) → k ≡ length sides → Grows (λ v. ((u ≡ v) ⊎ Contains (take k sides) v) × Admits query t far u v) old new → Grows (λ v. ((u ≡ v) ⊎ Contains sides v) × Admits query t far u v) old new
+  leads_all sides old new k e h = grows_as (Fits (take k sides)) (Fits sides) old new (λ v. ((λ p. (to v p.0, p.1)), λ p. (from v p.0, p.1))) h
+    where
+      to : (v : ℕ) → (u ≡ v) ⊎ Contains (take k sides) v → (u ≡ v) ⊎ Contains sides v
+      to v (inl e) = inl e
+      to v (inr i) = inr ((all_in_front sides k v e).0 i)
+
+      from : (v : ℕ) → (u ≡ v) ⊎ Contains sides v → (u ≡ v) ⊎ Contains (take k sides) v
+      from v (inl e) = inl e
+      from v (inr i) = inr ((all_in_front sides k v e).1 i)
+
+-- two distances of one cell
+pub same_distance : (o : Option ℕ) (m n : ℕ) → o ≡ Some m → o ≡ Some n → m ≡ n
+same_distance o m n e f = cc
+
+module _ (query : Query) (sum : ℕ) where
+  -- the steps from a cell are those to itself and to its sides
+  pub leads_are : (more u near far t : ℕ) (sides old new : List ℕ) → IsFree query.grid u → distance_at query.table u ≡ Some near → far + 1 ≡ near + more → t ≡ sum - near + 1 →
+      ((v : ℕ) → Contains sides v ↔ (IsFree query.grid v × IsBeside query.grid u v)) →
+      Grows (λ v. ((u ≡ v) ⊎ Contains sides v) × Admits query t far u v) old new → Grows (Leads query sum more u) old new
+  leads_are more u near far t sides old new free near_is apart time beside h =
+      grows_as (λ v. ((u ≡ v) ⊎ Contains sides v) × Admits query t far u v) (Leads query sum more u) old new
+      (λ v. ((λ p. to v (next v p.0) p.1), from v)) h
+    where
+      next : (v : ℕ) → (u ≡ v) ⊎ Contains sides v → Next query.grid u v
+      next v (inl e) = (free, subst (IsFree query.grid) e free, inl e)
+      next v (inr i) = let p = (beside v).0 i in (free, p.0, inr p.1)
+
+      back : (v : ℕ) → Next query.grid u v → (u ≡ v) ⊎ Contains sides v
+      back v (a, b, inl e) = inl e
+      back v (a, b, inr s) = inr ((beside v).1 (b, s))
+
+      to : (v : ℕ) → Next query.grid u v → Admits query t far u v → Leads query sum more u v
+      to v n a = record { near = near; far = far; near_is = near_is; apart = apart; enters = (n, subst (λ k. Admits query k far u v) time a) }
+
+      from : (v : ℕ) → Leads query sum more u v → ((u ≡ v) ⊎ Contains sides v) × Admits query t far u v
+      from v l =
+          let m : near ≡ l.near = same_distance (distance_at query.table u) near l.near near_is l.near_is in
+          let f : l.far ≡ far = omega (arith, m, apart, l.apart) in
+          let k : sum - l.near + 1 ≡ t = ap (λ n. sum - n + 1) (sym m) ∙ sym time in
+          (back v l.enters.0, subst (λ n. Admits query n far u v) k (subst (λ n. Admits query (sum - l.near + 1) n u v) f l.enters.1))
+
+  -- from the goal no step lowers the distance
+  pub leads_not : (u : ℕ) (old : List ℕ) → distance_at query.table u ≡ Some 0 → Grows (Leads query sum 0 u) old old
+  leads_not u old at = grows_not (Leads query sum 0 u) old (λ v l. absurd (omega (arith, l.apart, same_distance (distance_at query.table u) 0 l.near at l.near_is)))
+
+  -- a cell that is led to is placed, as the one that leads there
+  pub placed_next : (more u v : ℕ) → HasSizes query.grid → IsWithin query sum u → Leads query sum more u v → IsFree query.grid v × (v < cells query.grid) × IsWithin query (sum + more) v
+  placed_next more u v sizes near l =
+      (l.enters.0.1, free_below query.grid v sizes l.enters.0.1, subst (λ (o : Option ℕ). MatchOption o ⊥ (λ n. n ≤ sum + more)) (sym l.enters.1.0) (omega (arith, l.apart, within)))
+    where
+      within : l.near ≤ sum
+      within = subst (λ (o : Option ℕ). MatchOption o ⊥ (λ n. n ≤ sum)) l.near_is near

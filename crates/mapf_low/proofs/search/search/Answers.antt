@@ -1,0 +1,115 @@
+use Rattle.std.proofs.Common.{◌≡◌, ◌≤◌, ◌<◌, ◌+◌, ◌-◌, ◌∷◌, [], ◌++◌, ℕ, length, None, Some, Contains, IsTrue, subst, sym, refl, ap, ◌∙◌, arith, length-append}
+use Rattle.mapf_low.specs.Query.{MayEnd}
+use Rattle.mapf_low.specs.Walk.{distance_at}
+use Rattle.mapf_low.specs.Classes.{IsAdded, Grows, SomeLeads, Closes, ArePlaced, IsSearched, InClasses}
+use Rattle.mapf_low.specs.Reached.{IsOpen, Arrives}
+use Rattle.mapf_low.proofs.Rising.{not_true}
+use Rattle.mapf_low.proofs.Classing.{ground_of, AreClasses, match_at}
+use Rattle.mapf_low.proofs.Searching.{IsSearching}
+use Rattle.mapf_low.proofs.ClassLists.{Has, all, last_has, search_first, placed_now, last_classes, before_last, search_on, whole_search, before_end, nothing_left, no_arrival, never_arrives, searched_to, searched_none}
+use Rattle.mapf_low.proofs.search.search.Goals as goal
+
+pub loop-sum-init : goal.loop-sum-init
+loop-sum-init c =
+    let ground = ground_of c.args.query.now c.start-start.result c.unwrap-nearest.result c.distance.result c.limit-limit.ensures.posed c.start-start.ensures c.distance.ensures c.unwrap-nearest.ensures in
+    let none : c.new-classes.result.items ≡ [] = c.new-classes.ensures.items in
+    record {
+      long = omega (arith, ap length none);
+      searching =
+          search_first c.args.query.now c.unwrap-nearest.result ground c.new-classes.result.items c.make_room.new.self c.add.new.self c.new-next.result c.new-after.result
+          none (c.in_ok-make_room.ensures ∙ c.new-now.ensures) c.new-next.ensures c.new-after.ensures c.limit-limit.ensures.posed.start
+          (subst (λ s. IsOpen c.args.query.now c.args.query.now.limit 0 s) c.start-start.ensures (c.is_open.ensures.0 c.if-not-is_open.false)).0 (subst (λ s. IsAdded s c.make_room.new.self c.add.new.self) c.start-start.ensures c.in_ok-add.ensures);
+    }
+
+pub close-requires-clause-placed : goal.close-requires-clause-placed
+close-requires-clause-placed c =
+    let ground = ground_of c.args.query.now c.start-start.result c.unwrap-nearest.result c.distance.result c.limit-limit.ensures.posed c.start-start.ensures c.distance.ensures c.unwrap-nearest.ensures in
+    subst (λ n. ArePlaced c.args.query.now n c.loop-sum.now) (sym c.loop-sum.invariant.long)
+    (placed_now c.args.query.now c.unwrap-nearest.result ground c.loop-sum.classes.items c.loop-sum.now c.loop-sum.next c.loop-sum.after c.loop-sum.invariant.searching)
+
+pub returns-then-can_end-clause-searched : goal.returns-then-can_end-clause-searched
+returns-then-can_end-clause-searched c =
+    let ground = ground_of c.args.query.now c.start-start.result c.unwrap-nearest.result c.distance.result c.limit-limit.ensures.posed c.start-start.ensures c.distance.ensures c.unwrap-nearest.ensures in
+    let long = c.loop-sum.invariant.long in
+    let closes : Closes c.args.query.now (c.unwrap-nearest.result + length c.loop-sum.classes.items) c.loop-sum.now c.close.new.class =
+    subst (λ n. Closes c.args.query.now n c.loop-sum.now c.close.new.class) long c.in_ok-close.ensures.closes in
+    let placed : ArePlaced c.args.query.now (c.unwrap-nearest.result + length c.loop-sum.classes.items) c.close.new.class =
+    subst (λ n. ArePlaced c.args.query.now n c.close.new.class) long c.in_ok-close.ensures.placed in
+    let met = c.can_end.ensures.0 c.if-can_end.true in
+    let found : AreClasses c.args.query.now c.loop-sum.sum c.unwrap-nearest.result (Has (c.loop-sum.classes.items ++ c.close.new.class ∷ [])) =
+    subst (λ n. AreClasses c.args.query.now n c.unwrap-nearest.result (Has (c.loop-sum.classes.items ++ c.close.new.class ∷ []))) (sym long)
+    (last_classes c.args.query.now c.unwrap-nearest.result ground c.loop-sum.classes.items c.loop-sum.now c.loop-sum.next c.loop-sum.after c.loop-sum.invariant.searching c.close.new.class closes placed) in
+    let before : (t : ℕ) → t < c.loop-sum.sum → ¬ Arrives c.args.query.now (InClasses c.args.query.now c.unwrap-nearest.result (c.loop-sum.classes.items ++ c.close.new.class ∷ [])) t =
+    λ t l. no_arrival c.args.query.now c.unwrap-nearest.result ground (c.loop-sum.classes.items ++ c.close.new.class ∷ []) (length c.loop-sum.classes.items)
+    (before_last c.args.query.now c.unwrap-nearest.result ground c.loop-sum.classes.items c.loop-sum.now c.loop-sum.next c.loop-sum.after c.loop-sum.invariant.searching c.close.new.class closes placed) t (omega (arith, l, long)) in
+    subst (λ ls. IsSearched c.args.query.now c.unwrap-nearest.result ls (Some c.loop-sum.sum)) (sym c.in_ok-push.ensures.items)
+    (searched_to c.args.query.now c.unwrap-nearest.result ground c.loop-sum.sum (c.loop-sum.classes.items ++ c.close.new.class ∷ []) (omega arith) found before (omega (arith, long))
+    (last_has c.loop-sum.classes.items c.close.new.class (c.loop-sum.sum - c.unwrap-nearest.result) c.args.query.now.goal (omega (arith, long)) met.0)
+    met.1
+    (omega (arith, long, length-append c.loop-sum.classes.items (c.close.new.class ∷ []))))
+
+pub returns-then-is_empty-2-clause-searched : goal.returns-then-is_empty-2-clause-searched
+returns-then-is_empty-2-clause-searched c =
+    let ground = ground_of c.args.query.now c.start-start.result c.unwrap-nearest.result c.distance.result c.limit-limit.ensures.posed c.start-start.ensures c.distance.ensures c.unwrap-nearest.ensures in
+    let long = c.loop-sum.invariant.long in
+    let closes : Closes c.args.query.now (c.unwrap-nearest.result + length c.loop-sum.classes.items) c.loop-sum.now c.close.new.class =
+    subst (λ n. Closes c.args.query.now n c.loop-sum.now c.close.new.class) long c.in_ok-close.ensures.closes in
+    let placed : ArePlaced c.args.query.now (c.unwrap-nearest.result + length c.loop-sum.classes.items) c.close.new.class =
+    subst (λ n. ArePlaced c.args.query.now n c.close.new.class) long c.in_ok-close.ensures.placed in
+    let to_next : Grows (SomeLeads c.args.query.now (c.unwrap-nearest.result + length c.loop-sum.classes.items) 1 c.close.new.class) c.loop-sum.next c.spill.new.next =
+    subst (λ n. Grows (SomeLeads c.args.query.now n 1 c.close.new.class) c.loop-sum.next c.spill.new.next) long c.in_ok-spill.ensures.next in
+    let to_after : Grows (SomeLeads c.args.query.now (c.unwrap-nearest.result + length c.loop-sum.classes.items) 2 c.close.new.class) c.loop-sum.after c.spill.new.after =
+    subst (λ n. Grows (SomeLeads c.args.query.now n 2 c.close.new.class) c.loop-sum.after c.spill.new.after) long c.in_ok-spill.ensures.after in
+    let none : Contains c.close.new.class c.args.query.now.goal → ¬ MayEnd c.args.query.now (c.unwrap-nearest.result + length c.loop-sum.classes.items) =
+    λ i e. not_true c.can_end.result (Contains c.close.new.class c.args.query.now.goal × MayEnd c.args.query.now c.loop-sum.sum) c.can_end.ensures c.if-can_end.false
+    (i, subst (λ n. MayEnd c.args.query.now n) (sym long) e) in
+    let goes_on : IsSearching c.args.query.now c.unwrap-nearest.result (length (c.loop-sum.classes.items ++ c.close.new.class ∷ [])) (Has (all (c.loop-sum.classes.items ++ c.close.new.class ∷ []) c.spill.new.next c.spill.new.after [])) =
+    search_on c.args.query.now c.unwrap-nearest.result ground c.loop-sum.classes.items c.loop-sum.now c.loop-sum.next c.loop-sum.after c.loop-sum.invariant.searching c.close.new.class closes placed c.spill.new.next c.spill.new.after to_next to_after none in
+    let one_more : length (c.loop-sum.classes.items ++ c.close.new.class ∷ []) ≡ length c.loop-sum.classes.items + 1 = length-append c.loop-sum.classes.items (c.close.new.class ∷ []) in
+    let no_next : c.spill.new.next ≡ [] = c.is_empty.ensures.0 c.if-is_empty.true in
+    let no_after : c.spill.new.after ≡ [] = c.is_empty-then-is_empty.ensures.0 c.if-is_empty-2.true in
+    let found : AreClasses c.args.query.now c.args.query.now.limit c.unwrap-nearest.result (Has (c.loop-sum.classes.items ++ c.close.new.class ∷ [])) =
+    whole_search c.args.query.now c.unwrap-nearest.result ground (c.loop-sum.classes.items ++ c.close.new.class ∷ []) c.spill.new.next c.spill.new.after [] goes_on c.args.query.now.limit (omega (arith, long, one_more))
+    (λ k v l _. nothing_left c.args.query.now c.unwrap-nearest.result ground (c.loop-sum.classes.items ++ c.close.new.class ∷ []) c.spill.new.next c.spill.new.after [] goes_on no_next no_after refl k v l) in
+    subst (λ ls. IsSearched c.args.query.now c.unwrap-nearest.result ls None) (sym c.in_ok-push-2.ensures.items)
+    (searched_none c.args.query.now c.unwrap-nearest.result ground (c.loop-sum.classes.items ++ c.close.new.class ∷ []) found
+    (λ t _. never_arrives c.args.query.now c.unwrap-nearest.result ground (c.loop-sum.classes.items ++ c.close.new.class ∷ [])
+    (before_end c.args.query.now c.unwrap-nearest.result ground (c.loop-sum.classes.items ++ c.close.new.class ∷ []) c.spill.new.next c.spill.new.after [] goes_on) t)
+    (omega (arith, long, one_more)))
+
+pub loop-sum-preserved : goal.loop-sum-preserved
+loop-sum-preserved c =
+    let ground = ground_of c.args.query.now c.start-start.result c.unwrap-nearest.result c.distance.result c.limit-limit.ensures.posed c.start-start.ensures c.distance.ensures c.unwrap-nearest.ensures in
+    let long = c.loop-sum.invariant.long in
+    let closes : Closes c.args.query.now (c.unwrap-nearest.result + length c.loop-sum.classes.items) c.loop-sum.now c.close.new.class =
+    subst (λ n. Closes c.args.query.now n c.loop-sum.now c.close.new.class) long c.in_ok-close.ensures.closes in
+    let placed : ArePlaced c.args.query.now (c.unwrap-nearest.result + length c.loop-sum.classes.items) c.close.new.class =
+    subst (λ n. ArePlaced c.args.query.now n c.close.new.class) long c.in_ok-close.ensures.placed in
+    let to_next : Grows (SomeLeads c.args.query.now (c.unwrap-nearest.result + length c.loop-sum.classes.items) 1 c.close.new.class) c.loop-sum.next c.spill.new.next =
+    subst (λ n. Grows (SomeLeads c.args.query.now n 1 c.close.new.class) c.loop-sum.next c.spill.new.next) long c.in_ok-spill.ensures.next in
+    let to_after : Grows (SomeLeads c.args.query.now (c.unwrap-nearest.result + length c.loop-sum.classes.items) 2 c.close.new.class) c.loop-sum.after c.spill.new.after =
+    subst (λ n. Grows (SomeLeads c.args.query.now n 2 c.close.new.class) c.loop-sum.after c.spill.new.after) long c.in_ok-spill.ensures.after in
+    let none : Contains c.close.new.class c.args.query.now.goal → ¬ MayEnd c.args.query.now (c.unwrap-nearest.result + length c.loop-sum.classes.items) =
+    λ i e. not_true c.can_end.result (Contains c.close.new.class c.args.query.now.goal × MayEnd c.args.query.now c.loop-sum.sum) c.can_end.ensures c.if-can_end.false
+    (i, subst (λ n. MayEnd c.args.query.now n) (sym long) e) in
+    let goes_on : IsSearching c.args.query.now c.unwrap-nearest.result (length (c.loop-sum.classes.items ++ c.close.new.class ∷ [])) (Has (all (c.loop-sum.classes.items ++ c.close.new.class ∷ []) c.spill.new.next c.spill.new.after [])) =
+    search_on c.args.query.now c.unwrap-nearest.result ground c.loop-sum.classes.items c.loop-sum.now c.loop-sum.next c.loop-sum.after c.loop-sum.invariant.searching c.close.new.class closes placed c.spill.new.next c.spill.new.after to_next to_after none in
+    let one_more : length (c.loop-sum.classes.items ++ c.close.new.class ∷ []) ≡ length c.loop-sum.classes.items + 1 = length-append c.loop-sum.classes.items (c.close.new.class ∷ []) in
+    let is : c.push-in-loop-sum.new.self.items ≡ c.loop-sum.classes.items ++ c.close.new.class ∷ [] = c.in_ok-push-2.ensures.items in
+    record {
+      long = omega (arith, long, one_more, ap length is);
+      searching =
+          subst (λ ls. IsSearching c.args.query.now c.unwrap-nearest.result (length ls) (Has (all ls c.spill.new.next c.spill.new.after c.new-after-in-loop-sum.result))) (sym is)
+          (subst (λ xs. IsSearching c.args.query.now c.unwrap-nearest.result (length (c.loop-sum.classes.items ++ c.close.new.class ∷ [])) (Has (all (c.loop-sum.classes.items ++ c.close.new.class ∷ []) c.spill.new.next c.spill.new.after xs))) (sym c.new-after-in-loop-sum.ensures) goes_on);
+    }
+
+pub returns-clause-searched : goal.returns-clause-searched
+returns-clause-searched c =
+    let ground = ground_of c.args.query.now c.start-start.result c.unwrap-nearest.result c.distance.result c.limit-limit.ensures.posed c.start-start.ensures c.distance.ensures c.unwrap-nearest.ensures in
+    let long = c.loop-sum.invariant.long in
+    let near : 0 + c.unwrap-nearest.result ≤ c.args.query.now.limit = match_at (distance_at c.args.query.now.table c.args.query.now.start) c.unwrap-nearest.result (λ n. 0 + n ≤ c.args.query.now.limit) ground.nearest_is (subst (λ s. IsOpen c.args.query.now c.args.query.now.limit 0 s) c.start-start.ensures (c.is_open.ensures.0 c.if-not-is_open.false)).1 in
+    let last : c.loop-sum.sum ≡ c.args.query.now.limit + 1 = omega (arith, near) in
+    searched_none c.args.query.now c.unwrap-nearest.result ground c.loop-sum.classes.items
+    (whole_search c.args.query.now c.unwrap-nearest.result ground c.loop-sum.classes.items c.loop-sum.now c.loop-sum.next c.loop-sum.after c.loop-sum.invariant.searching c.args.query.now.limit (omega (arith, long, last)) (λ k v l m. absurd (omega (arith, l, m, long, last))))
+    (λ t _. never_arrives c.args.query.now c.unwrap-nearest.result ground c.loop-sum.classes.items (before_end c.args.query.now c.unwrap-nearest.result ground c.loop-sum.classes.items c.loop-sum.now c.loop-sum.next c.loop-sum.after c.loop-sum.invariant.searching) t)
+    (omega (arith, long, last))

@@ -1,0 +1,45 @@
+-- What the low-level search is asked (Sharon et al. 2015: the low level finds a path for one agent under its constraints).
+use Rattle.std.specs.Prelude.{ℕ, ◌+◌, ◌≤◌, List, Option, MatchOption, Bool, All, Contains}
+use Rattle.mapf_grid.specs.Grid.{Grid, IsFree, HasSizes}
+use Rattle.mapf_low.specs.declared.constraint.Constraint.{Constraint}
+use Rattle.mapf_low.specs.declared.constraint.Constraint.TheVariants.{Vertex}
+use Rattle.mapf_low.specs.Best.{IsGreatest}
+use Rattle.mapf_low.specs.Constraints.{IsAllowed, IsOwnPath}
+use Rattle.mapf_low.specs.Kept.{HasTwoEnds}
+use Rattle.mapf_low.specs.Times.{AreMarked}
+use Rattle.mapf_low.specs.Walk.{AreDistances}
+
+-- one agent's own path on a map from its start to its goal, under constraints, at a cost of at most the limit
+pub record Query : Type 0 where
+  pub grid : Grid
+  pub table : List (Option ℕ)
+  pub constraints : List Constraint
+  pub start : ℕ
+  pub goal : ℕ
+  pub limit : ℕ
+
+-- start and goal are free, and the table has the distances to the goal
+pub record IsPosed (query : Query) : Type 0 where
+  pub sizes : HasSizes query.grid
+  pub start : IsFree query.grid query.start
+  pub goal : IsFree query.grid query.goal
+  pub distances : AreDistances query.grid query.goal query.table
+  pub ends : All HasTwoEnds query.constraints
+  pub limit : query.limit ≤ 1000000
+
+-- from this time on nothing forbids the goal
+abbrev pub MayEnd : Query → ℕ → Type 0
+MayEnd query t = (s : ℕ) → t ≤ s → ¬ Contains query.constraints (Vertex query.goal s)
+
+-- the times of which there is a constraint are marked, and the last one at which the goal is forbidden is known
+pub record IsPrepared (query : Query) (marks : List Bool) (last : Option ℕ) : Type 0 where
+  pub posed : IsPosed query
+  pub marked : AreMarked query.constraints (query.limit + 1) marks
+  pub last_is : IsGreatest (λ t. Contains query.constraints (Vertex query.goal t)) last
+
+-- the agent's own path; none exactly where there is no path that it may take
+abbrev pub IsFound : Query → Option (List ℕ) → Type 0
+IsFound query found =
+    MatchOption found
+    ((p : List ℕ) → ¬ IsAllowed query.grid query.start query.goal query.limit query.constraints p)
+    (IsOwnPath query.grid query.start query.goal query.limit query.constraints)

@@ -1,0 +1,200 @@
+ghost use Rattle.std.specs.Prelude.{◌≡◌, ◌⊎◌, ◌↔◌, ℕ, ◌+◌, ◌<◌, ◌≤◌, IsTrue, Some, OnOk, Contains};
+ghost use Rattle.mapf_grid.specs.Grid.{cells, IsFree};
+ghost use Rattle.mapf_low.specs.Walk.{distance_at};
+ghost use Rattle.mapf_low.specs.Query.{IsPosed};
+ghost use Rattle.mapf_low.specs.Classes.{Grows, IsWithin, Admits, Leads, SomeLeads, Closes, ArePlaced};
+
+use crate::class::Class;
+use crate::query::Query;
+use mapf_grid::{Cell, NoMemory};
+
+/// Whether the goal is this far from the cell.
+#[inline]
+fn is_at(query: &Query, cell: Cell, far: u32) -> bool
+    ensures { IsTrue result ↔ (distance_at query.now.table cell ≡ Some far) }
+{
+    match query.distance(cell) {
+        Some(distance) => distance == far,
+        None => false,
+    }
+}
+
+/// Adds a cell to the class, if it is this far from the goal and nothing forbids to arrive on it at this time step.
+#[inline]
+fn offer(
+    query: &Query,
+    from: Cell,
+    to: Cell,
+    time: u32,
+    far: u32,
+    class: &mut Class,
+) -> Result<(), NoMemory>
+    requires { time ≤ query.now.limit + 1 }
+    ensures { OnOk result (Grows (λ v. (to ≡ v) × Admits query.now time far from v) class.old class.new) }
+{
+    if is_at(query, to, far) && query.allows(from, to, time) {
+        class.add(to)?;
+    }
+    Ok(())
+}
+
+/// The same of a cell itself and of its sides.
+#[inline]
+fn offer_ways(
+    query: &Query,
+    from: Cell,
+    sides: &[Cell],
+    time: u32,
+    far: u32,
+    class: &mut Class,
+) -> Result<(), NoMemory>
+    requires { time ≤ query.now.limit + 1 }
+    ensures { OnOk result (Grows (λ v. ((from ≡ v) ⊎ Contains sides.now v) × Admits query.now time far from v) class.old class.new) }
+{
+    offer(query, from, from, time, far, class)?;
+    for to in sides {
+        offer(query, from, *to, time, far, class)?;
+    }
+    Ok(())
+}
+
+/// Adds the cells that a cell of the class leads to with the same sum.
+#[inline]
+fn approach(query: &Query, sum: u32, from: Cell, class: &mut Class) -> Result<(), NoMemory>
+    requires free { IsFree query.now.grid from }
+    requires inside { from < cells query.now.grid }
+    requires near { IsWithin query.now sum from }
+    requires sum { sum ≤ query.now.limit }
+    ensures { OnOk result (Grows (Leads query.now sum 0 from) class.old class.new) }
+{
+    let near = query.distance(from).unwrap();
+    if near == 0 {
+        return Ok(());
+    }
+    let sides = query.sides(from);
+    offer_ways(
+        query,
+        from,
+        sides.as_slice(),
+        sum - near + 1,
+        near - 1,
+        class,
+    )?;
+    Ok(())
+}
+
+/// Empties a class: adds all that its cells lead to with the same sum.
+pub fn close(query: &Query, sum: u32, class: &mut Class) -> Result<(), NoMemory>
+    requires posed { IsPosed query.now }
+    requires placed { ArePlaced query.now sum class.old }
+    requires sum { sum ≤ query.now.limit }
+    ensures closes { OnOk result (Closes query.now sum class.old class.new) }
+    ensures placed { OnOk result (ArePlaced query.now sum class.new) }
+{
+    let mut place = 0;
+    while place < class.cells().len() {
+        let from = class.cells()[place];
+        approach(query, sum, from, class)?;
+        place += 1;
+    }
+    Ok(())
+}
+
+/// Adds a cell to the next class or to the one after, if it is as far from the goal as `near` or one farther, and nothing
+/// forbids to arrive on it at this time step.
+#[inline]
+fn offer_later(
+    query: &Query,
+    from: Cell,
+    to: Cell,
+    time: u32,
+    near: u32,
+    next: &mut Class,
+    after: &mut Class,
+) -> Result<(), NoMemory>
+    requires time { time ≤ query.now.limit + 1 }
+    requires small { near ≤ 1000000 }
+    ensures next { OnOk result (Grows (λ v. (to ≡ v) × Admits query.now time near from v) next.old next.new) }
+    ensures after { OnOk result (Grows (λ v. (to ≡ v) × Admits query.now time (near + 1) from v) after.old after.new) }
+{
+    offer(query, from, to, time, near, next)?;
+    offer(query, from, to, time, near + 1, after)?;
+    Ok(())
+}
+
+/// The same of a cell itself and of its sides.
+#[inline]
+fn offer_ways_later(
+    query: &Query,
+    from: Cell,
+    sides: &[Cell],
+    time: u32,
+    near: u32,
+    next: &mut Class,
+    after: &mut Class,
+) -> Result<(), NoMemory>
+    requires time { time ≤ query.now.limit + 1 }
+    requires small { near ≤ 1000000 }
+    ensures next { OnOk result (Grows (λ v. ((from ≡ v) ⊎ Contains sides.now v) × Admits query.now time near from v) next.old next.new) }
+    ensures after { OnOk result (Grows (λ v. ((from ≡ v) ⊎ Contains sides.now v) × Admits query.now time (near + 1) from v) after.old after.new) }
+{
+    offer_later(query, from, from, time, near, next, after)?;
+    for to in sides {
+        offer_later(query, from, *to, time, near, next, after)?;
+    }
+    Ok(())
+}
+
+/// Adds the cells that a cell of a class leads to with a sum that is higher by one or by two.
+#[inline]
+fn depart(
+    query: &Query,
+    sum: u32,
+    from: Cell,
+    next: &mut Class,
+    after: &mut Class,
+) -> Result<(), NoMemory>
+    requires free { IsFree query.now.grid from }
+    requires inside { from < cells query.now.grid }
+    requires near { IsWithin query.now sum from }
+    requires sum { sum ≤ query.now.limit }
+    requires small { sum ≤ 1000000 }
+    ensures next { OnOk result (Grows (Leads query.now sum 1 from) next.old next.new) }
+    ensures after { OnOk result (Grows (Leads query.now sum 2 from) after.old after.new) }
+{
+    let near = query.distance(from).unwrap();
+    let sides = query.sides(from);
+    offer_ways_later(
+        query,
+        from,
+        sides.as_slice(),
+        sum - near + 1,
+        near,
+        next,
+        after,
+    )?;
+    Ok(())
+}
+
+/// Adds the cells that a class leads to with a sum that is higher by one or by two.
+pub fn spill(
+    query: &Query,
+    sum: u32,
+    class: &Class,
+    next: &mut Class,
+    after: &mut Class,
+) -> Result<(), NoMemory>
+    requires placed { ArePlaced query.now sum class.now }
+    requires sum { sum ≤ query.now.limit }
+    requires small { sum ≤ 1000000 }
+    ensures next { OnOk result (Grows (SomeLeads query.now sum 1 class.now) next.old next.new) }
+    ensures after { OnOk result (Grows (SomeLeads query.now sum 2 class.now) after.old after.new) }
+{
+    // Mostly each cell leads to itself in the next class, and to few others.
+    next.make_room(2 * class.cells().len())?;
+    after.make_room(class.cells().len())?;
+    for from in class.cells() {
+        depart(query, sum, *from, next, after)?;
+    }
+    Ok(())
+}

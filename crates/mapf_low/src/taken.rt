@@ -1,0 +1,24 @@
+ghost use Rattle.std.specs.Prelude.{IfOk};
+ghost use Rattle.mapf_low.specs.Taken.{AreTakenBy};
+
+use crate::own_path::find;
+use crate::query::Query;
+use crate::states::list_class;
+use mapf_grid::{Cell, NoMemory};
+use std::alloc::Global;
+
+/// The states that the search for an own path takes, in the order in which it takes them.
+pub fn taken_by(alloc: Global, query: &Query) -> Result<Vec<(Cell, u32)>, NoMemory>
+    ensures { IfOk result (λ states. AreTakenBy query.now states.items) }
+{
+    let mut states = Vec::new(alloc);
+    if !query.may_end(query.limit()) {
+        return Ok(states);
+    }
+    let (searched, _path) = find(alloc, query)?;
+    for more in 0..searched.classes.len() {
+        let sum = searched.nearest + more as u32;
+        list_class(query, sum, &searched.classes[more], &mut states)?;
+    }
+    Ok(states)
+}
