@@ -30,7 +30,7 @@ pub plan_costs : (inst : Instance) (bound : ℕ) (pair : Pair) (plan : List (Lis
 plan_costs inst bound pair plan has i h = (has.own i (subst (λ k. i < k) has.agents h)).member.within
 
 -- lists of own paths of one pair are equal
-same_paths : (inst : Instance) (bound : ℕ) (pair : Pair) (plan other : List (List ℕ)) → length plan ≡ length inst.starts → length other ≡ length inst.starts → ((i : ℕ) → i < length inst.starts → OwnAt inst bound pair i (path_of plan i)) → ((i : ℕ) → i < length inst.starts → OwnAt inst bound pair i (path_of other i)) → plan ≡ other
+pub same_paths : (inst : Instance) (bound : ℕ) (pair : Pair) (plan other : List (List ℕ)) → length plan ≡ length inst.starts → length other ≡ length inst.starts → ((i : ℕ) → i < length inst.starts → OwnAt inst bound pair i (path_of plan i)) → ((i : ℕ) → i < length inst.starts → OwnAt inst bound pair i (path_of other i)) → plan ≡ other
 same_paths inst bound pair plan other n m own own' =
     ext_get_or [] plan other (n ∙ sym m) (λ i l. let k = subst (λ m. i < m) n l in same_own _ _ _ _ _ _ _ (own i k) (own' i k))
 

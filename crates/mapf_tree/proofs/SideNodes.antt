@@ -1,23 +1,26 @@
 -- From a search for the agent of one side of a node's conflict to that side of the tree.
-use Rattle.std.proofs.Common.{◌≡◌, ◌⊎◌, ◌↔◌, ℕ, ◌<◌, ◌≤◌, List, [], ◌∷◌, ◌++◌, length, get_or, set, Option, Some, None, inl, inr, subst, sym, ap, ◌∙◌, arith, Contains, get_or-set_same, get_or-set_other}
+use Rattle.std.proofs.Common.{◌≡◌, ◌⊎◌, ◌↔◌, ℕ, ◌+◌, ◌<◌, ◌≤◌, List, [], ◌∷◌, ◌++◌, length, get_or, set, Option, Some, None, inl, inr, subst, sym, ap, ◌∙◌, arith, Contains, get_or-set_same, get_or-set_other}
 use Rattle.std.proofs.lemmas.List.{length-set, get_or_default}
+use Rattle.std.proofs.lemmas.List.Sums.{sum_by-set, get_or-le-sum_by}
 use native.Mathlib.Decide.{ℕ_discrete}
 use Rattle.mapf_plan.specs.declared.conflict.Conflict.{Conflict}
+use Rattle.mapf_plan.specs.Path.{cost}
 use Rattle.mapf_plan.specs.Plan.{IsFirstConflict, path_of, plan_cost}
 use Rattle.mapf_low.specs.declared.constraint.Constraint.{Constraint}
 use Rattle.mapf_low.specs.Constraints.{IsOwnPath}
+use Rattle.mapf_low.proofs.Limits.{own_by_bound}
 use Rattle.mapf_low.proofs.Sets.{own_set, none_set}
 use Rattle.mapf_tree.specs.declared.side.Side.{Side}
 use Rattle.mapf_tree.specs.Problem.{Problem}
 use Rattle.mapf_tree.specs.Tree.{Pair, HasPlan, side, side_of, agent_on, constraint_on, constraints_of}
 use Rattle.mapf_tree.specs.Search.{Planned}
 use Rattle.mapf_tree.specs.Nodes.{Shown, Shows, IsConflictOf, IsSameSet}
-use Rattle.mapf_tree.specs.Family.{IsSide, IsOwn}
+use Rattle.mapf_tree.specs.Family.{IsSide, IsOwn, IsOwnWithin, Leaves, NoneIsDearer}
 use Rattle.mapf_grid.proofs.Orders.{In}
 use Rattle.mapf_tree.proofs.Branch.{agent_below}
 use Rattle.mapf_tree.proofs.Measure.{grown_all}
 use Rattle.mapf_tree.proofs.Members.{Contains-In, In-Contains}
-use Rattle.mapf_tree.proofs.Plans.{OwnAt, dear_plan}
+use Rattle.mapf_tree.proofs.Plans.{OwnAt, same_paths}
 
 -- what one set more holds
 abbrev pub IsWith : Constraint → List Constraint → List Constraint → Type 0
@@ -36,17 +39,22 @@ IsWith-cons k cs old more same is x = ((λ h. forth ((is x).0 h)), (λ h. back (
     back (inr h) = (is x).1 (inr ((same x).1 (Contains-In cs x h)))
 
 -- what was searched: agent a under one constraint k more than it had at the node
-pub record IsSearched (p : Problem) (node : Shown) (c : Conflict) (s : Side) (a : ℕ) (k : Constraint) (old more : List Constraint) (found : Option (List ℕ)) : Type 0 where
+pub record IsSearched (p : Problem) (node : Shown) (c : Conflict) (s : Side) (a limit : ℕ) (k : Constraint) (old more : List Constraint) (found : Option (List ℕ)) : Type 0 where
   pub agent : a ≡ agent_on c s
   pub forbidden : k ≡ constraint_on c s
   pub before : old ≡ get_or node.constraints a old
   pub after : IsWith k old more
-  pub own : IsOwn p a more found
+  pub leaves : Leaves p node.plan a limit
+  pub own : IsOwnWithin p limit a more found
 
 -- an own path is that of the set of constraints
-IsOwn-set : (p : Problem) (i : ℕ) (xs ys : List Constraint) (found : Option (List ℕ)) → IsSameSet xs ys → IsOwn p i xs found → IsOwn p i ys found
-IsOwn-set p i xs ys None same none = none_set _ _ _ _ xs ys same none
-IsOwn-set p i xs ys (Some path) same own = own_set _ _ _ _ xs ys path same own
+IsOwn-set : (p : Problem) (limit i : ℕ) (xs ys : List Constraint) (found : Option (List ℕ)) → IsSameSet xs ys → IsOwnWithin p limit i xs found → IsOwnWithin p limit i ys found
+IsOwn-set p limit i xs ys None same none = none_set _ _ _ _ xs ys same none
+IsOwn-set p limit i xs ys (Some path) same own = own_set _ _ _ _ xs ys path same own
+
+-- no plan of a pair has a dearer path than the other agents leave of the bound
+pub none_is_dearer : NoneIsDearer
+none_is_dearer p pair plan i limit has leaves = omega (arith, leaves, has.within)
 
 module _ (p : Problem) (node : Shown) (m : Planned) (c : Conflict) (s : Side) (shows : Shows p.inst p.bound node m) (is : node.conflict ≡ Some c) where
   -- the node branches on its plan's first conflict
@@ -74,19 +82,20 @@ module _ (p : Problem) (node : Shown) (m : Planned) (c : Conflict) (s : Side) (s
       (IsWith-cons (constraint_on c s) (constraints_of m.0 (agent_on c s)) old more same after)
 
   -- what was found is the own path of the side's agent, or none
-  found_there : (a : ℕ) (k : Constraint) (old more : List Constraint) (found : Option (List ℕ)) → IsSearched p node c s a k old more found → IsOwn p (agent_on c s) (constraints_of there (agent_on c s)) found
-  found_there a k old more found h = IsOwn-set p (agent_on c s) more (constraints_of there (agent_on c s)) found (same h) (subst (λ i. IsOwn p i more found) h.agent h.own)
+  found_there : (a limit : ℕ) (k : Constraint) (old more : List Constraint) (found : Option (List ℕ)) → IsSearched p node c s a limit k old more found → IsOwnWithin p limit (agent_on c s) (constraints_of there (agent_on c s)) found
+  found_there a limit k old more found h = IsOwn-set p limit (agent_on c s) more (constraints_of there (agent_on c s)) found (same h) (subst (λ i. IsOwnWithin p limit i more found) h.agent h.own)
     where
-      same : IsSearched p node c s a k old more found → IsSameSet more (constraints_of there (agent_on c s))
+      same : IsSearched p node c s a limit k old more found → IsSameSet more (constraints_of there (agent_on c s))
       same h = set_there old more (h.before ∙ ap (λ i. get_or node.constraints i old) h.agent) (subst (λ x. IsWith x old more) h.forbidden h.after)
+
+  -- the side's agent has a path in the node's plan
+  in_plan : agent_on c s < length node.plan
+  in_plan = subst (λ n. agent_on c s < n) (sym (ap length shows.plan ∙ shows.member.plan.agents)) agent_inside
 
   -- with that path the plan has the own path of every agent on this side
   own_there : (path : List ℕ) → IsOwn p (agent_on c s) (constraints_of there (agent_on c s)) (Some path) → (i : ℕ) → i < length p.inst.starts → OwnAt p.inst p.bound there i (path_of (set node.plan (agent_on c s) path) i)
   own_there path own i h = go (ℕ_discrete i (agent_on c s))
     where
-      in_plan : agent_on c s < length node.plan
-      in_plan = subst (λ n. agent_on c s < n) (sym (ap length shows.plan ∙ shows.member.plan.agents)) agent_inside
-
       At : ℕ → List Constraint → List ℕ → Type 0
       At j cs q = IsOwnPath p.inst.grid (get_or p.inst.starts j 0) (get_or p.inst.goals j 0) p.bound cs q
 
@@ -101,29 +110,60 @@ module _ (p : Problem) (node : Shown) (m : Planned) (c : Conflict) (s : Side) (s
           subst (λ l. At i l (path_of (set node.plan (agent_on c s) path) i)) (sym cs)
           (subst (At i (constraints_of m.0 i)) (sym q) (shows.member.plan.own i h))
 
-  -- no path for the agent: the side isn't in the tree
-  pub no_side : (a : ℕ) (k : Constraint) (old more : List Constraint) → IsSearched p node c s a k old more None → IsSide p m c s None
-  no_side a k old more h plan has = found_there a k old more None h (path_of plan (agent_on c s)) (has.own (agent_on c s) agent_inside).member
+  -- what a path may cost, and what the plan costs with it
+  costs_with : (limit : ℕ) (path : List ℕ) → Leaves p node.plan (agent_on c s) limit → plan_cost (set node.plan (agent_on c s) path) + limit ≡ p.bound + cost path
+  costs_with limit path leaves =
+      let changed : plan_cost (set node.plan (agent_on c s) path) + cost (path_of node.plan (agent_on c s)) ≡ plan_cost node.plan + cost path = sum_by-set cost node.plan (agent_on c s) path [] in_plan in
+      omega (arith, changed, leaves)
+
+  -- no path for the agent within what the others leave of the bound: the side isn't in the tree
+  pub no_side : (a limit : ℕ) (k : Constraint) (old more : List Constraint) → IsSearched p node c s a limit k old more None → IsSide p m c s None
+  no_side a limit k old more h plan has = found_there a limit k old more None h path (record { path = own.member.path; within = within; obeys = own.member.obeys })
+    where
+      path : List ℕ
+      path = path_of plan (agent_on c s)
+
+      own : OwnAt p.inst p.bound there (agent_on c s) path
+      own = has.own (agent_on c s) agent_inside
+
+      -- the other agents have the paths that they had
+      same : plan ≡ set node.plan (agent_on c s) path
+      same = same_paths p.inst p.bound there plan (set node.plan (agent_on c s) path) has.agents (length-set node.plan (agent_on c s) path ∙ ap length shows.plan ∙ shows.member.plan.agents) has.own (own_there path own)
+
+      within : cost path ≤ limit
+      within =
+          let leaves : Leaves p node.plan (agent_on c s) limit = subst (λ i. Leaves p node.plan i limit) h.agent h.leaves in
+          let leaves_here : Leaves p plan (agent_on c s) limit = omega (arith, costs_with limit path leaves, ap plan_cost same) in
+          none_is_dearer p there plan (agent_on c s) limit has leaves_here
 
   -- the plan has as many paths as there are agents
   same_length : (plan : List (List ℕ)) (a : ℕ) (path : List ℕ) → plan ≡ set node.plan a path → length plan ≡ length p.inst.starts
   same_length plan a path e = ap length e ∙ length-set node.plan a path ∙ ap length shows.plan ∙ shows.member.plan.agents
 
-  module _ (a : ℕ) (k : Constraint) (old more : List Constraint) (path : List ℕ) (plan : List (List ℕ)) (searched : IsSearched p node c s a k old more (Some path)) (is_plan : plan ≡ set node.plan a path) where
+  module _ (a limit : ℕ) (k : Constraint) (old more : List Constraint) (path : List ℕ) (plan : List (List ℕ)) (searched : IsSearched p node c s a limit k old more (Some path)) (is_plan : plan ≡ set node.plan a path) where
+    leaves : Leaves p node.plan (agent_on c s) limit
+    leaves = subst (λ i. Leaves p node.plan i limit) searched.agent searched.leaves
+
+    replaced : set node.plan (agent_on c s) path ≡ plan
+    replaced = ap (λ j. set node.plan j path) (sym searched.agent) ∙ sym is_plan
+
+    found : IsOwnWithin p limit (agent_on c s) (constraints_of there (agent_on c s)) (Some path)
+    found = found_there a limit k old more (Some path) searched
+
     -- the plan has each agent's own path on this side
     all_there : (i : ℕ) → i < length p.inst.starts → OwnAt p.inst p.bound there i (path_of plan i)
     all_there i h =
-        let e : set node.plan (agent_on c s) path ≡ plan = ap (λ j. set node.plan j path) (sym searched.agent) ∙ sym is_plan in
-        subst (λ l. OwnAt p.inst p.bound there i (path_of l i)) e (own_there path (found_there a k old more (Some path) searched) i h)
+        let less : limit ≤ p.bound = omega (arith, leaves, get_or-le-sum_by cost node.plan (agent_on c s) [] in_plan) in
+        subst (λ l. OwnAt p.inst p.bound there i (path_of l i)) replaced (own_there path (own_by_bound _ _ limit p.bound _ _ path less found) i h)
 
-    -- the plan costs too much: the side isn't in the tree
-    pub dear_side : p.bound < plan_cost plan → IsSide p m c s None
-    dear_side dear other has = dear_plan p.inst p.bound there plan other (same_length plan a path is_plan) all_there dear has
+    -- and costs at most the bound
+    within : plan_cost plan ≤ p.bound
+    within = omega (arith, costs_with limit path leaves, ap plan_cost replaced, found.member.within)
 
-    -- otherwise the new node stands for the side
-    pub side_shown : (new : Shown) → plan_cost plan ≤ p.bound → new.name ≡ node.name ++ s ∷ [] → new.constraints ≡ set node.constraints a more →
+    -- so the new node stands for the side
+    pub side_shown : (new : Shown) → new.name ≡ node.name ++ s ∷ [] → new.constraints ≡ set node.constraints a more →
         new.plan ≡ plan → IsConflictOf plan new.conflict → IsSide p m c s (Some new)
-    side_shown new within name constraints shown conflict = (
+    side_shown new name constraints shown conflict = (
       plan,
       record {
         member = record { inside = side s shows.member.inside shows.member.plan first has; plan = has };

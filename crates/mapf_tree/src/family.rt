@@ -1,10 +1,11 @@
 //! The members of the constraint tree: its root, and the children of a node.
 
-ghost use Rattle.std.specs.Prelude.{◌≡◌, ◌<◌, ◌++◌, [], ◌∷◌, length, IfOk, IsSome, Some, None, MatchOption};
+ghost use Rattle.std.specs.Prelude.{◌≡◌, ◌<◌, ◌≤◌, ◌++◌, [], ◌∷◌, length, IfOk, IsSome, Some, None, MatchOption};
 ghost use Rattle.mapf_plan.specs.declared.conflict.Conflict.{Conflict};
+ghost use Rattle.mapf_plan.specs.Plan.{plan_cost};
 ghost use Rattle.mapf_tree.specs.Search.{Planned};
 ghost use Rattle.mapf_tree.specs.Nodes.{Shows};
-ghost use Rattle.mapf_tree.specs.Family.{AreRootPaths, IsOwn, IsRoot, IsSide};
+ghost use Rattle.mapf_tree.specs.Family.{AreRootPaths, IsOwn, IsOwnWithin, IsRoot, IsSide, Leaves};
 
 use crate::constraint_sets::{copies_but, none_for};
 use crate::sides::{agent_of, constraint_of};
@@ -58,13 +59,11 @@ pub fn child(
     let agent = agent_of(&conflict, side);
     let forbidden = constraint_of(&conflict, side);
     let constraints = node.constraints[agent].with(forbidden)?;
-    let Some(path) = own_path(alloc, problem, agent, &constraints)? else {
+    let limit = left_for(problem, &node.plan, agent);
+    let Some(path) = own_path(alloc, problem, agent, &constraints, limit)? else {
         return Ok(None);
     };
     let plan = node.plan.with(alloc, agent, path)?;
-    if plan.cost() > u64::from(problem.bound()) {
-        return Ok(None);
-    }
     let constraints = copies_but(alloc, &node.constraints, agent, constraints)?;
     let name = longer(alloc, &node.key.name, side)?;
     Ok(Some(Node::of(name, constraints, plan)))
@@ -76,7 +75,7 @@ pub fn root_path(alloc: Global, problem: &Problem, agent: usize) -> Result<Optio
     ensures { IfOk result (IsOwn problem.now agent []) }
 {
     let free = Constraints::new(alloc);
-    own_path(alloc, problem, agent, &free)
+    own_path(alloc, problem, agent, &free, problem.bound())
 }
 
 // Each agent's own path under no constraints, if every agent has one; otherwise the root isn't in the tree.
@@ -94,15 +93,28 @@ fn root_paths(alloc: Global, problem: &Problem) -> Result<Option<Vec<Path>>, NoM
     Ok(Some(paths))
 }
 
-// An agent's own path under these constraints.
+// What the other agents' paths leave of the bound: with a dearer path of this agent no plan is in the tree.
+fn left_for(problem: &Problem, plan: &Plan, agent: usize) -> u32
+    requires agent { agent < length plan.now }
+    requires within { plan_cost plan.now ≤ problem.now.bound }
+    ensures leaves { Leaves problem.now plan.now agent result }
+    ensures small { result ≤ 1000000 }
+{
+    let others = plan.cost() - u64::from(plan.paths()[agent].cost());
+    (u64::from(problem.bound()) - others) as u32
+}
+
+// An agent's own path under these constraints, at a cost of at most the limit.
 fn own_path(
     alloc: Global,
     problem: &Problem,
     agent: usize,
     constraints: &Constraints,
+    limit: u32,
 ) -> Result<Option<Path>, NoMemory>
-    requires { agent < length problem.now.inst.starts }
-    ensures { IfOk result (IsOwn problem.now agent constraints.now) }
+    requires agent { agent < length problem.now.inst.starts }
+    requires small { limit ≤ 1000000 }
+    ensures { IfOk result (IsOwnWithin problem.now limit agent constraints.now) }
 {
     let instance = problem.instance();
     cheapest(
@@ -112,7 +124,7 @@ fn own_path(
         instance.start(agent),
         instance.goal(agent),
         constraints,
-        problem.bound(),
+        limit,
     )
 }
 

@@ -3,6 +3,7 @@
 
 ghost use Rattle.mapf_tree.specs.OneAgent.{OneAgentsAnswer};
 ghost use Rattle.mapf_tree.specs.Sides.{ObeysOneSide, ConstraintIsNew, ConstraintIsEarly, ObeyedIsInCost};
+ghost use Rattle.mapf_tree.specs.Family.{NoneIsDearer};
 ghost use Rattle.mapf_tree.specs.Finite.{DepthIsBounded, TreeIsFinite, AnswerExists};
 ghost use Rattle.mapf_tree.specs.Optimal.{AnswerIsUnique, AnswerIsOptimum, NoneIsNone};
 ghost use Rattle.mapf_tree.specs.Turns.{SearchStarts, TurnTakesNext, EndsAtAnswer, TakenAreBounded};
@@ -31,6 +32,11 @@ pub fn constraint_is_early()
 /// If a valid plan within the bound obeys a pair, the pair has a plan, which costs no more.
 pub fn obeyed_is_in_cost()
     ensures { ObeyedIsInCost }
+{}
+
+/// An agent's path in the plan of a pair costs at most what the other agents' paths leave of the bound.
+pub fn none_is_dearer()
+    ensures { NoneIsDearer }
 {}
 
 /// No name in the tree is longer than there are constraints for all agents up to the bound.
