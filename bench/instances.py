@@ -67,6 +67,39 @@ def rooms(size, room, random):
     return grid
 
 
+def corridor(length, width):
+    """A corridor one cell wide of so many cells, in rows that are as wide and two blocked rows apart; and its cells."""
+    cells, x, y, step = [], 0, 0, 1
+    while len(cells) < length:
+        cells.append((x, y))
+        if y % 3 == 0 and 0 <= x + step < width:
+            x += step
+        else:
+            y += 1
+            if y % 3 == 0:
+                step = -step
+    grid = [[False] * width for _ in range(max(y for _, y in cells) + 1)]
+    for x, y in cells:
+        grid[y][x] = True
+    return grid, cells
+
+
+def pocket(folder, steps):
+    """A corridor of so many steps and one cell at its middle's side; agent 0 goes through it, and agent 1 stays in the middle."""
+    width = 126 if steps < 50000 else 1022
+    grid, cells = corridor(steps + 1, width)
+    x, y = cells[steps // 2]
+    if y % 3 != 0 or not 0 < x < width - 1:
+        sys.exit("the corridor's middle isn't inside a row")
+    grid[y + 1][x] = True
+    name = f"pocket-{steps}"
+    lines = ["version 1"]
+    for start, goal, length in ((cells[0], cells[steps], steps), ((x, y), (x, y), 0)):
+        places = f"{start[0]}\t{start[1]}\t{goal[0]}\t{goal[1]}"
+        lines.append(f"0\t{name}.map\t{len(grid[0])}\t{len(grid)}\t{places}\t{length}")
+    write(folder, name, grid, lines)
+
+
 def steps_from(grid, start):
     """The number of steps to each cell that is reached from this one."""
     height, width = len(grid), len(grid[0])
@@ -151,6 +184,8 @@ def main():
         places = f"{100 * row}\t0\t{100 * row + 50}\t2"
         lines.append(f"0\tlarge-2048-2048.map\t2048\t2048\t{places}\t52")
     write(folder, "large-2048-2048", large, lines)
+    pocket(folder, 16000)
+    pocket(folder, 100000)
 
 
 if __name__ == "__main__":
