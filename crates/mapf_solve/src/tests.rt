@@ -2,5 +2,4 @@ mod devices;
 mod files;
 mod gates;
 mod refusals;
-mod refused;
 mod worked;
