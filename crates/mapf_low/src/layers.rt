@@ -10,7 +10,7 @@ use mapf_grid::{Cell, NoMemory};
 use std::alloc::Global;
 
 /// Adds the cell to those that are reached, if it is open and no constraint forbids the step.
-fn offer(
+fn generate(
     query: &Query,
     from: Cell,
     to: Cell,
@@ -27,15 +27,15 @@ fn offer(
 }
 
 /// Adds the cells that the agent may enter from this cell at this time step.
-fn spread(query: &Query, from: Cell, time: u32, reached: &mut Vec<Cell>) -> Result<(), NoMemory>
+fn expand(query: &Query, from: Cell, time: u32, reached: &mut Vec<Cell>) -> Result<(), NoMemory>
     requires free { IsFree query.now.grid from }
     requires inside { from < cells query.now.grid }
     ensures { OnOk result ((v : ℕ) → Contains reached.new.items v
         ↔ (Contains reached.old.items v ⊎ (IsOpen query.now query.now.limit time v × MayStep query.now time from v))) }
 {
-    offer(query, from, from, time, reached)?;
+    generate(query, from, from, time, reached)?;
     for to in query.sides(from).as_slice() {
-        offer(query, from, *to, time, reached)?;
+        generate(query, from, *to, time, reached)?;
     }
     Ok(())
 }
@@ -59,7 +59,7 @@ pub fn next_layer(alloc: Global, query: &Query, layer: &Layer, time: u32) -> Res
 {
     let mut reached = Vec::with_capacity(alloc, 2 * layer.cells().len())?;
     for from in layer.cells() {
-        spread(query, *from, time, &mut reached)?;
+        expand(query, *from, time, &mut reached)?;
     }
     Ok(Layer::of(reached))
 }

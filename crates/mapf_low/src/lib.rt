@@ -8,7 +8,7 @@ mod class;
 mod constraint;
 mod constraints;
 mod distances;
-mod entering;
+mod expansion;
 pub mod laws;
 mod layer;
 mod layers;

@@ -3,7 +3,7 @@ ghost use Rattle.mapf_low.specs.Query.{IsPosed, MayEnd};
 ghost use Rattle.mapf_low.specs.Classes.{IsSearched};
 
 use crate::class::Class;
-use crate::entering::{close, spill};
+use crate::expansion::{expand_class, fill_later_classes};
 use crate::query::Query;
 use mapf_grid::NoMemory;
 use std::alloc::Global;
@@ -52,7 +52,7 @@ pub fn search(alloc: Global, query: &Query) -> Result<Searched, NoMemory>
     now.make_room(first_room(nearest))?;
     now.add(start)?;
     for sum in nearest..limit + 1 {
-        close(query, sum, &mut now)?;
+        expand_class(query, sum, &mut now)?;
         if can_end(query, &now, sum) {
             classes.push(now)?;
             return Ok(Searched {
@@ -61,7 +61,7 @@ pub fn search(alloc: Global, query: &Query) -> Result<Searched, NoMemory>
                 end: Some(sum),
             });
         }
-        spill(query, sum, &now, &mut next, &mut after)?;
+        fill_later_classes(query, sum, &now, &mut next, &mut after)?;
         classes.push(now)?;
         if next.is_empty() && after.is_empty() {
             return Ok(Searched {

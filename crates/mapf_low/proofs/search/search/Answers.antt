@@ -21,8 +21,8 @@ loop-sum-init c =
           (subst (λ s. IsOpen c.args.query.now c.args.query.now.limit 0 s) c.start-start.ensures (c.is_open.ensures.0 c.if-not-is_open.false)).0 (subst (λ s. IsAdded s c.make_room.new.self c.add.new.self) c.start-start.ensures c.in_ok-add.ensures);
     }
 
-pub close-requires-clause-placed : goal.close-requires-clause-placed
-close-requires-clause-placed c =
+pub expand_class-requires-clause-placed : goal.expand_class-requires-clause-placed
+expand_class-requires-clause-placed c =
     let ground = ground_of c.args.query.now c.start-start.result c.unwrap-nearest.result c.distance.result c.limit-limit.ensures.posed c.start-start.ensures c.distance.ensures c.unwrap-nearest.ensures in
     subst (λ n. ArePlaced c.args.query.now n c.loop-sum.now) (sym c.loop-sum.invariant.long)
     (placed_now c.args.query.now c.unwrap-nearest.result ground c.loop-sum.classes.items c.loop-sum.now c.loop-sum.next c.loop-sum.after c.loop-sum.invariant.searching)
@@ -31,76 +31,76 @@ pub returns-then-can_end-clause-searched : goal.returns-then-can_end-clause-sear
 returns-then-can_end-clause-searched c =
     let ground = ground_of c.args.query.now c.start-start.result c.unwrap-nearest.result c.distance.result c.limit-limit.ensures.posed c.start-start.ensures c.distance.ensures c.unwrap-nearest.ensures in
     let long = c.loop-sum.invariant.long in
-    let closes : Closes c.args.query.now (c.unwrap-nearest.result + length c.loop-sum.classes.items) c.loop-sum.now c.close.new.class =
-    subst (λ n. Closes c.args.query.now n c.loop-sum.now c.close.new.class) long c.in_ok-close.ensures.closes in
-    let placed : ArePlaced c.args.query.now (c.unwrap-nearest.result + length c.loop-sum.classes.items) c.close.new.class =
-    subst (λ n. ArePlaced c.args.query.now n c.close.new.class) long c.in_ok-close.ensures.placed in
+    let closes : Closes c.args.query.now (c.unwrap-nearest.result + length c.loop-sum.classes.items) c.loop-sum.now c.expand_class.new.class =
+    subst (λ n. Closes c.args.query.now n c.loop-sum.now c.expand_class.new.class) long c.in_ok-expand_class.ensures.closes in
+    let placed : ArePlaced c.args.query.now (c.unwrap-nearest.result + length c.loop-sum.classes.items) c.expand_class.new.class =
+    subst (λ n. ArePlaced c.args.query.now n c.expand_class.new.class) long c.in_ok-expand_class.ensures.placed in
     let met = c.can_end.ensures.0 c.if-can_end.true in
-    let found : AreClasses c.args.query.now c.loop-sum.sum c.unwrap-nearest.result (Has (c.loop-sum.classes.items ++ c.close.new.class ∷ [])) =
-    subst (λ n. AreClasses c.args.query.now n c.unwrap-nearest.result (Has (c.loop-sum.classes.items ++ c.close.new.class ∷ []))) (sym long)
-    (last_classes c.args.query.now c.unwrap-nearest.result ground c.loop-sum.classes.items c.loop-sum.now c.loop-sum.next c.loop-sum.after c.loop-sum.invariant.searching c.close.new.class closes placed) in
-    let before : (t : ℕ) → t < c.loop-sum.sum → ¬ Arrives c.args.query.now (InClasses c.args.query.now c.unwrap-nearest.result (c.loop-sum.classes.items ++ c.close.new.class ∷ [])) t =
-    λ t l. no_arrival c.args.query.now c.unwrap-nearest.result ground (c.loop-sum.classes.items ++ c.close.new.class ∷ []) (length c.loop-sum.classes.items)
-    (before_last c.args.query.now c.unwrap-nearest.result ground c.loop-sum.classes.items c.loop-sum.now c.loop-sum.next c.loop-sum.after c.loop-sum.invariant.searching c.close.new.class closes placed) t (omega (arith, l, long)) in
+    let found : AreClasses c.args.query.now c.loop-sum.sum c.unwrap-nearest.result (Has (c.loop-sum.classes.items ++ c.expand_class.new.class ∷ [])) =
+    subst (λ n. AreClasses c.args.query.now n c.unwrap-nearest.result (Has (c.loop-sum.classes.items ++ c.expand_class.new.class ∷ []))) (sym long)
+    (last_classes c.args.query.now c.unwrap-nearest.result ground c.loop-sum.classes.items c.loop-sum.now c.loop-sum.next c.loop-sum.after c.loop-sum.invariant.searching c.expand_class.new.class closes placed) in
+    let before : (t : ℕ) → t < c.loop-sum.sum → ¬ Arrives c.args.query.now (InClasses c.args.query.now c.unwrap-nearest.result (c.loop-sum.classes.items ++ c.expand_class.new.class ∷ [])) t =
+    λ t l. no_arrival c.args.query.now c.unwrap-nearest.result ground (c.loop-sum.classes.items ++ c.expand_class.new.class ∷ []) (length c.loop-sum.classes.items)
+    (before_last c.args.query.now c.unwrap-nearest.result ground c.loop-sum.classes.items c.loop-sum.now c.loop-sum.next c.loop-sum.after c.loop-sum.invariant.searching c.expand_class.new.class closes placed) t (omega (arith, l, long)) in
     subst (λ ls. IsSearched c.args.query.now c.unwrap-nearest.result ls (Some c.loop-sum.sum)) (sym c.in_ok-push.ensures.items)
-    (searched_to c.args.query.now c.unwrap-nearest.result ground c.loop-sum.sum (c.loop-sum.classes.items ++ c.close.new.class ∷ []) (omega arith) found before (omega (arith, long))
-    (last_has c.loop-sum.classes.items c.close.new.class (c.loop-sum.sum - c.unwrap-nearest.result) c.args.query.now.goal (omega (arith, long)) met.0)
+    (searched_to c.args.query.now c.unwrap-nearest.result ground c.loop-sum.sum (c.loop-sum.classes.items ++ c.expand_class.new.class ∷ []) (omega arith) found before (omega (arith, long))
+    (last_has c.loop-sum.classes.items c.expand_class.new.class (c.loop-sum.sum - c.unwrap-nearest.result) c.args.query.now.goal (omega (arith, long)) met.0)
     met.1
-    (omega (arith, long, length-append c.loop-sum.classes.items (c.close.new.class ∷ []))))
+    (omega (arith, long, length-append c.loop-sum.classes.items (c.expand_class.new.class ∷ []))))
 
 pub returns-then-is_empty-2-clause-searched : goal.returns-then-is_empty-2-clause-searched
 returns-then-is_empty-2-clause-searched c =
     let ground = ground_of c.args.query.now c.start-start.result c.unwrap-nearest.result c.distance.result c.limit-limit.ensures.posed c.start-start.ensures c.distance.ensures c.unwrap-nearest.ensures in
     let long = c.loop-sum.invariant.long in
-    let closes : Closes c.args.query.now (c.unwrap-nearest.result + length c.loop-sum.classes.items) c.loop-sum.now c.close.new.class =
-    subst (λ n. Closes c.args.query.now n c.loop-sum.now c.close.new.class) long c.in_ok-close.ensures.closes in
-    let placed : ArePlaced c.args.query.now (c.unwrap-nearest.result + length c.loop-sum.classes.items) c.close.new.class =
-    subst (λ n. ArePlaced c.args.query.now n c.close.new.class) long c.in_ok-close.ensures.placed in
-    let to_next : Grows (SomeLeads c.args.query.now (c.unwrap-nearest.result + length c.loop-sum.classes.items) 1 c.close.new.class) c.loop-sum.next c.spill.new.next =
-    subst (λ n. Grows (SomeLeads c.args.query.now n 1 c.close.new.class) c.loop-sum.next c.spill.new.next) long c.in_ok-spill.ensures.next in
-    let to_after : Grows (SomeLeads c.args.query.now (c.unwrap-nearest.result + length c.loop-sum.classes.items) 2 c.close.new.class) c.loop-sum.after c.spill.new.after =
-    subst (λ n. Grows (SomeLeads c.args.query.now n 2 c.close.new.class) c.loop-sum.after c.spill.new.after) long c.in_ok-spill.ensures.after in
-    let none : Contains c.close.new.class c.args.query.now.goal → ¬ MayEnd c.args.query.now (c.unwrap-nearest.result + length c.loop-sum.classes.items) =
-    λ i e. not_true c.can_end.result (Contains c.close.new.class c.args.query.now.goal × MayEnd c.args.query.now c.loop-sum.sum) c.can_end.ensures c.if-can_end.false
+    let closes : Closes c.args.query.now (c.unwrap-nearest.result + length c.loop-sum.classes.items) c.loop-sum.now c.expand_class.new.class =
+    subst (λ n. Closes c.args.query.now n c.loop-sum.now c.expand_class.new.class) long c.in_ok-expand_class.ensures.closes in
+    let placed : ArePlaced c.args.query.now (c.unwrap-nearest.result + length c.loop-sum.classes.items) c.expand_class.new.class =
+    subst (λ n. ArePlaced c.args.query.now n c.expand_class.new.class) long c.in_ok-expand_class.ensures.placed in
+    let to_next : Grows (SomeLeads c.args.query.now (c.unwrap-nearest.result + length c.loop-sum.classes.items) 1 c.expand_class.new.class) c.loop-sum.next c.fill_later_classes.new.next =
+    subst (λ n. Grows (SomeLeads c.args.query.now n 1 c.expand_class.new.class) c.loop-sum.next c.fill_later_classes.new.next) long c.in_ok-fill_later_classes.ensures.next in
+    let to_after : Grows (SomeLeads c.args.query.now (c.unwrap-nearest.result + length c.loop-sum.classes.items) 2 c.expand_class.new.class) c.loop-sum.after c.fill_later_classes.new.after =
+    subst (λ n. Grows (SomeLeads c.args.query.now n 2 c.expand_class.new.class) c.loop-sum.after c.fill_later_classes.new.after) long c.in_ok-fill_later_classes.ensures.after in
+    let none : Contains c.expand_class.new.class c.args.query.now.goal → ¬ MayEnd c.args.query.now (c.unwrap-nearest.result + length c.loop-sum.classes.items) =
+    λ i e. not_true c.can_end.result (Contains c.expand_class.new.class c.args.query.now.goal × MayEnd c.args.query.now c.loop-sum.sum) c.can_end.ensures c.if-can_end.false
     (i, subst (λ n. MayEnd c.args.query.now n) (sym long) e) in
-    let goes_on : IsSearching c.args.query.now c.unwrap-nearest.result (length (c.loop-sum.classes.items ++ c.close.new.class ∷ [])) (Has (all (c.loop-sum.classes.items ++ c.close.new.class ∷ []) c.spill.new.next c.spill.new.after [])) =
-    search_on c.args.query.now c.unwrap-nearest.result ground c.loop-sum.classes.items c.loop-sum.now c.loop-sum.next c.loop-sum.after c.loop-sum.invariant.searching c.close.new.class closes placed c.spill.new.next c.spill.new.after to_next to_after none in
-    let one_more : length (c.loop-sum.classes.items ++ c.close.new.class ∷ []) ≡ length c.loop-sum.classes.items + 1 = length-append c.loop-sum.classes.items (c.close.new.class ∷ []) in
-    let no_next : c.spill.new.next ≡ [] = c.is_empty.ensures.0 c.if-is_empty.true in
-    let no_after : c.spill.new.after ≡ [] = c.is_empty-then-is_empty.ensures.0 c.if-is_empty-2.true in
-    let found : AreClasses c.args.query.now c.args.query.now.limit c.unwrap-nearest.result (Has (c.loop-sum.classes.items ++ c.close.new.class ∷ [])) =
-    whole_search c.args.query.now c.unwrap-nearest.result ground (c.loop-sum.classes.items ++ c.close.new.class ∷ []) c.spill.new.next c.spill.new.after [] goes_on c.args.query.now.limit (omega (arith, long, one_more))
-    (λ k v l _. nothing_left c.args.query.now c.unwrap-nearest.result ground (c.loop-sum.classes.items ++ c.close.new.class ∷ []) c.spill.new.next c.spill.new.after [] goes_on no_next no_after refl k v l) in
+    let goes_on : IsSearching c.args.query.now c.unwrap-nearest.result (length (c.loop-sum.classes.items ++ c.expand_class.new.class ∷ [])) (Has (all (c.loop-sum.classes.items ++ c.expand_class.new.class ∷ []) c.fill_later_classes.new.next c.fill_later_classes.new.after [])) =
+    search_on c.args.query.now c.unwrap-nearest.result ground c.loop-sum.classes.items c.loop-sum.now c.loop-sum.next c.loop-sum.after c.loop-sum.invariant.searching c.expand_class.new.class closes placed c.fill_later_classes.new.next c.fill_later_classes.new.after to_next to_after none in
+    let one_more : length (c.loop-sum.classes.items ++ c.expand_class.new.class ∷ []) ≡ length c.loop-sum.classes.items + 1 = length-append c.loop-sum.classes.items (c.expand_class.new.class ∷ []) in
+    let no_next : c.fill_later_classes.new.next ≡ [] = c.is_empty.ensures.0 c.if-is_empty.true in
+    let no_after : c.fill_later_classes.new.after ≡ [] = c.is_empty-then-is_empty.ensures.0 c.if-is_empty-2.true in
+    let found : AreClasses c.args.query.now c.args.query.now.limit c.unwrap-nearest.result (Has (c.loop-sum.classes.items ++ c.expand_class.new.class ∷ [])) =
+    whole_search c.args.query.now c.unwrap-nearest.result ground (c.loop-sum.classes.items ++ c.expand_class.new.class ∷ []) c.fill_later_classes.new.next c.fill_later_classes.new.after [] goes_on c.args.query.now.limit (omega (arith, long, one_more))
+    (λ k v l _. nothing_left c.args.query.now c.unwrap-nearest.result ground (c.loop-sum.classes.items ++ c.expand_class.new.class ∷ []) c.fill_later_classes.new.next c.fill_later_classes.new.after [] goes_on no_next no_after refl k v l) in
     subst (λ ls. IsSearched c.args.query.now c.unwrap-nearest.result ls None) (sym c.in_ok-push-2.ensures.items)
-    (searched_none c.args.query.now c.unwrap-nearest.result ground (c.loop-sum.classes.items ++ c.close.new.class ∷ []) found
-    (λ t _. never_arrives c.args.query.now c.unwrap-nearest.result ground (c.loop-sum.classes.items ++ c.close.new.class ∷ [])
-    (before_end c.args.query.now c.unwrap-nearest.result ground (c.loop-sum.classes.items ++ c.close.new.class ∷ []) c.spill.new.next c.spill.new.after [] goes_on) t)
+    (searched_none c.args.query.now c.unwrap-nearest.result ground (c.loop-sum.classes.items ++ c.expand_class.new.class ∷ []) found
+    (λ t _. never_arrives c.args.query.now c.unwrap-nearest.result ground (c.loop-sum.classes.items ++ c.expand_class.new.class ∷ [])
+    (before_end c.args.query.now c.unwrap-nearest.result ground (c.loop-sum.classes.items ++ c.expand_class.new.class ∷ []) c.fill_later_classes.new.next c.fill_later_classes.new.after [] goes_on) t)
     (omega (arith, long, one_more)))
 
 pub loop-sum-preserved : goal.loop-sum-preserved
 loop-sum-preserved c =
     let ground = ground_of c.args.query.now c.start-start.result c.unwrap-nearest.result c.distance.result c.limit-limit.ensures.posed c.start-start.ensures c.distance.ensures c.unwrap-nearest.ensures in
     let long = c.loop-sum.invariant.long in
-    let closes : Closes c.args.query.now (c.unwrap-nearest.result + length c.loop-sum.classes.items) c.loop-sum.now c.close.new.class =
-    subst (λ n. Closes c.args.query.now n c.loop-sum.now c.close.new.class) long c.in_ok-close.ensures.closes in
-    let placed : ArePlaced c.args.query.now (c.unwrap-nearest.result + length c.loop-sum.classes.items) c.close.new.class =
-    subst (λ n. ArePlaced c.args.query.now n c.close.new.class) long c.in_ok-close.ensures.placed in
-    let to_next : Grows (SomeLeads c.args.query.now (c.unwrap-nearest.result + length c.loop-sum.classes.items) 1 c.close.new.class) c.loop-sum.next c.spill.new.next =
-    subst (λ n. Grows (SomeLeads c.args.query.now n 1 c.close.new.class) c.loop-sum.next c.spill.new.next) long c.in_ok-spill.ensures.next in
-    let to_after : Grows (SomeLeads c.args.query.now (c.unwrap-nearest.result + length c.loop-sum.classes.items) 2 c.close.new.class) c.loop-sum.after c.spill.new.after =
-    subst (λ n. Grows (SomeLeads c.args.query.now n 2 c.close.new.class) c.loop-sum.after c.spill.new.after) long c.in_ok-spill.ensures.after in
-    let none : Contains c.close.new.class c.args.query.now.goal → ¬ MayEnd c.args.query.now (c.unwrap-nearest.result + length c.loop-sum.classes.items) =
-    λ i e. not_true c.can_end.result (Contains c.close.new.class c.args.query.now.goal × MayEnd c.args.query.now c.loop-sum.sum) c.can_end.ensures c.if-can_end.false
+    let closes : Closes c.args.query.now (c.unwrap-nearest.result + length c.loop-sum.classes.items) c.loop-sum.now c.expand_class.new.class =
+    subst (λ n. Closes c.args.query.now n c.loop-sum.now c.expand_class.new.class) long c.in_ok-expand_class.ensures.closes in
+    let placed : ArePlaced c.args.query.now (c.unwrap-nearest.result + length c.loop-sum.classes.items) c.expand_class.new.class =
+    subst (λ n. ArePlaced c.args.query.now n c.expand_class.new.class) long c.in_ok-expand_class.ensures.placed in
+    let to_next : Grows (SomeLeads c.args.query.now (c.unwrap-nearest.result + length c.loop-sum.classes.items) 1 c.expand_class.new.class) c.loop-sum.next c.fill_later_classes.new.next =
+    subst (λ n. Grows (SomeLeads c.args.query.now n 1 c.expand_class.new.class) c.loop-sum.next c.fill_later_classes.new.next) long c.in_ok-fill_later_classes.ensures.next in
+    let to_after : Grows (SomeLeads c.args.query.now (c.unwrap-nearest.result + length c.loop-sum.classes.items) 2 c.expand_class.new.class) c.loop-sum.after c.fill_later_classes.new.after =
+    subst (λ n. Grows (SomeLeads c.args.query.now n 2 c.expand_class.new.class) c.loop-sum.after c.fill_later_classes.new.after) long c.in_ok-fill_later_classes.ensures.after in
+    let none : Contains c.expand_class.new.class c.args.query.now.goal → ¬ MayEnd c.args.query.now (c.unwrap-nearest.result + length c.loop-sum.classes.items) =
+    λ i e. not_true c.can_end.result (Contains c.expand_class.new.class c.args.query.now.goal × MayEnd c.args.query.now c.loop-sum.sum) c.can_end.ensures c.if-can_end.false
     (i, subst (λ n. MayEnd c.args.query.now n) (sym long) e) in
-    let goes_on : IsSearching c.args.query.now c.unwrap-nearest.result (length (c.loop-sum.classes.items ++ c.close.new.class ∷ [])) (Has (all (c.loop-sum.classes.items ++ c.close.new.class ∷ []) c.spill.new.next c.spill.new.after [])) =
-    search_on c.args.query.now c.unwrap-nearest.result ground c.loop-sum.classes.items c.loop-sum.now c.loop-sum.next c.loop-sum.after c.loop-sum.invariant.searching c.close.new.class closes placed c.spill.new.next c.spill.new.after to_next to_after none in
-    let one_more : length (c.loop-sum.classes.items ++ c.close.new.class ∷ []) ≡ length c.loop-sum.classes.items + 1 = length-append c.loop-sum.classes.items (c.close.new.class ∷ []) in
-    let is : c.push-in-loop-sum.new.self.items ≡ c.loop-sum.classes.items ++ c.close.new.class ∷ [] = c.in_ok-push-2.ensures.items in
+    let goes_on : IsSearching c.args.query.now c.unwrap-nearest.result (length (c.loop-sum.classes.items ++ c.expand_class.new.class ∷ [])) (Has (all (c.loop-sum.classes.items ++ c.expand_class.new.class ∷ []) c.fill_later_classes.new.next c.fill_later_classes.new.after [])) =
+    search_on c.args.query.now c.unwrap-nearest.result ground c.loop-sum.classes.items c.loop-sum.now c.loop-sum.next c.loop-sum.after c.loop-sum.invariant.searching c.expand_class.new.class closes placed c.fill_later_classes.new.next c.fill_later_classes.new.after to_next to_after none in
+    let one_more : length (c.loop-sum.classes.items ++ c.expand_class.new.class ∷ []) ≡ length c.loop-sum.classes.items + 1 = length-append c.loop-sum.classes.items (c.expand_class.new.class ∷ []) in
+    let is : c.push-in-loop-sum.new.self.items ≡ c.loop-sum.classes.items ++ c.expand_class.new.class ∷ [] = c.in_ok-push-2.ensures.items in
     record {
       long = omega (arith, long, one_more, ap length is);
       searching =
-          subst (λ ls. IsSearching c.args.query.now c.unwrap-nearest.result (length ls) (Has (all ls c.spill.new.next c.spill.new.after c.new-after-in-loop-sum.result))) (sym is)
-          (subst (λ xs. IsSearching c.args.query.now c.unwrap-nearest.result (length (c.loop-sum.classes.items ++ c.close.new.class ∷ [])) (Has (all (c.loop-sum.classes.items ++ c.close.new.class ∷ []) c.spill.new.next c.spill.new.after xs))) (sym c.new-after-in-loop-sum.ensures) goes_on);
+          subst (λ ls. IsSearching c.args.query.now c.unwrap-nearest.result (length ls) (Has (all ls c.fill_later_classes.new.next c.fill_later_classes.new.after c.new-after-in-loop-sum.result))) (sym is)
+          (subst (λ xs. IsSearching c.args.query.now c.unwrap-nearest.result (length (c.loop-sum.classes.items ++ c.expand_class.new.class ∷ [])) (Has (all (c.loop-sum.classes.items ++ c.expand_class.new.class ∷ []) c.fill_later_classes.new.next c.fill_later_classes.new.after xs))) (sym c.new-after-in-loop-sum.ensures) goes_on);
     }
 
 pub returns-clause-searched : goal.returns-clause-searched

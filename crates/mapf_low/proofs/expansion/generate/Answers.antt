@@ -3,8 +3,8 @@ use Rattle.std.proofs.Common.{◌≡◌, Some, subst, sym}
 use Rattle.mapf_low.specs.Classes.{IsAllowedStep, Admits}
 use Rattle.mapf_low.proofs.Grown.{grows_added, grows_not}
 use Rattle.mapf_low.proofs.Rising.{not_true}
-use Rattle.mapf_low.proofs.entering.offer.Goals as goal
-use Rattle.mapf_low.proofs.entering.offer.Goals.{else-is_at-via-then-is_at+else-allows, else-is_at-via-else-is_at}
+use Rattle.mapf_low.proofs.expansion.generate.Goals as goal
+use Rattle.mapf_low.proofs.expansion.generate.Goals.{else-is_at-via-then-is_at+else-allows, else-is_at-via-else-is_at}
 
 pub returns-in_ok-add : goal.returns-in_ok-add
 returns-in_ok-add c =

@@ -19,9 +19,10 @@ fn is_at(query: &Query, cell: Cell, far: u32) -> bool
     }
 }
 
-/// Adds a cell to the class, if it is this far from the goal and nothing forbids to arrive on it at this time step.
+/// Generates a state: adds a cell to the class, if it is this far from the goal and nothing forbids to arrive on it at this
+/// time step.
 #[inline]
-fn offer(
+fn generate(
     query: &Query,
     from: Cell,
     to: Cell,
@@ -40,7 +41,7 @@ fn offer(
 
 /// The same of a cell itself and of its sides.
 #[inline]
-fn offer_ways(
+fn generate_all(
     query: &Query,
     from: Cell,
     sides: &[Cell],
@@ -51,16 +52,16 @@ fn offer_ways(
     requires { time ≤ query.now.limit + 1 }
     ensures { OnOk result (Grows (λ v. ((from ≡ v) ⊎ Contains sides.now v) × Admits query.now time far from v) class.old class.new) }
 {
-    offer(query, from, from, time, far, class)?;
+    generate(query, from, from, time, far, class)?;
     for to in sides {
-        offer(query, from, *to, time, far, class)?;
+        generate(query, from, *to, time, far, class)?;
     }
     Ok(())
 }
 
-/// Adds the cells that a cell of the class leads to with the same sum.
+/// Expands a state within its class: adds the cells that it leads to with the same sum.
 #[inline]
-fn approach(query: &Query, sum: u32, from: Cell, class: &mut Class) -> Result<(), NoMemory>
+fn expand_within(query: &Query, sum: u32, from: Cell, class: &mut Class) -> Result<(), NoMemory>
     requires free { IsFree query.now.grid from }
     requires inside { from < cells query.now.grid }
     requires near { IsWithin query.now sum from }
@@ -72,7 +73,7 @@ fn approach(query: &Query, sum: u32, from: Cell, class: &mut Class) -> Result<()
         return Ok(());
     }
     let sides = query.sides(from);
-    offer_ways(
+    generate_all(
         query,
         from,
         sides.as_slice(),
@@ -83,8 +84,8 @@ fn approach(query: &Query, sum: u32, from: Cell, class: &mut Class) -> Result<()
     Ok(())
 }
 
-/// Empties a class: adds all that its cells lead to with the same sum.
-pub fn close(query: &Query, sum: u32, class: &mut Class) -> Result<(), NoMemory>
+/// Empties a class: expands all its states within it.
+pub fn expand_class(query: &Query, sum: u32, class: &mut Class) -> Result<(), NoMemory>
     requires posed { IsPosed query.now }
     requires placed { ArePlaced query.now sum class.old }
     requires sum { sum ≤ query.now.limit }
@@ -94,16 +95,16 @@ pub fn close(query: &Query, sum: u32, class: &mut Class) -> Result<(), NoMemory>
     let mut place = 0;
     while place < class.cells().len() {
         let from = class.cells()[place];
-        approach(query, sum, from, class)?;
+        expand_within(query, sum, from, class)?;
         place += 1;
     }
     Ok(())
 }
 
-/// Adds a cell to the next class or to the one after, if it is as far from the goal as `near` or one farther, and nothing
-/// forbids to arrive on it at this time step.
+/// Generates a state of a later class: adds a cell to the next one or to the one after, if it is as far from the goal as
+/// `near` or one farther, and nothing forbids to arrive on it at this time step.
 #[inline]
-fn offer_later(
+fn generate_later(
     query: &Query,
     from: Cell,
     to: Cell,
@@ -117,14 +118,14 @@ fn offer_later(
     ensures next { OnOk result (Grows (λ v. (to ≡ v) × Admits query.now time near from v) next.old next.new) }
     ensures after { OnOk result (Grows (λ v. (to ≡ v) × Admits query.now time (near + 1) from v) after.old after.new) }
 {
-    offer(query, from, to, time, near, next)?;
-    offer(query, from, to, time, near + 1, after)?;
+    generate(query, from, to, time, near, next)?;
+    generate(query, from, to, time, near + 1, after)?;
     Ok(())
 }
 
 /// The same of a cell itself and of its sides.
 #[inline]
-fn offer_ways_later(
+fn generate_all_later(
     query: &Query,
     from: Cell,
     sides: &[Cell],
@@ -138,16 +139,16 @@ fn offer_ways_later(
     ensures next { OnOk result (Grows (λ v. ((from ≡ v) ⊎ Contains sides.now v) × Admits query.now time near from v) next.old next.new) }
     ensures after { OnOk result (Grows (λ v. ((from ≡ v) ⊎ Contains sides.now v) × Admits query.now time (near + 1) from v) after.old after.new) }
 {
-    offer_later(query, from, from, time, near, next, after)?;
+    generate_later(query, from, from, time, near, next, after)?;
     for to in sides {
-        offer_later(query, from, *to, time, near, next, after)?;
+        generate_later(query, from, *to, time, near, next, after)?;
     }
     Ok(())
 }
 
-/// Adds the cells that a cell of a class leads to with a sum that is higher by one or by two.
+/// Expands a state beyond its class: adds the cells that it leads to with a sum that is higher by one or by two.
 #[inline]
-fn depart(
+fn expand_beyond(
     query: &Query,
     sum: u32,
     from: Cell,
@@ -164,7 +165,7 @@ fn depart(
 {
     let near = query.distance(from).unwrap();
     let sides = query.sides(from);
-    offer_ways_later(
+    generate_all_later(
         query,
         from,
         sides.as_slice(),
@@ -176,8 +177,8 @@ fn depart(
     Ok(())
 }
 
-/// Adds the cells that a class leads to with a sum that is higher by one or by two.
-pub fn spill(
+/// Fills the next two classes: expands all states of a class beyond it.
+pub fn fill_later_classes(
     query: &Query,
     sum: u32,
     class: &Class,
@@ -194,7 +195,7 @@ pub fn spill(
     next.make_room(2 * class.cells().len())?;
     after.make_room(class.cells().len())?;
     for from in class.cells() {
-        depart(query, sum, *from, next, after)?;
+        expand_beyond(query, sum, *from, next, after)?;
     }
     Ok(())
 }

@@ -1,6 +1,6 @@
 use Rattle.std.proofs.Common.{take}
 use Rattle.mapf_low.specs.Classes.{Grows, SomeLeads}
-use Rattle.mapf_low.proofs.entering.spill.Given as goal
+use Rattle.mapf_low.proofs.expansion.fill_later_classes.Given as goal
 
 abbrev pub invariant-loop-from : goal.invariant-loop-from
 invariant-loop-from l =

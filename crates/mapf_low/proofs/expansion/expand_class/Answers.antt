@@ -1,13 +1,13 @@
 use Rattle.std.proofs.Common.{◌≡◌, ◌<◌, ◌≤◌, length, get_or, subst, sym, arith}
 use Rattle.mapf_grid.specs.Grid.{cells}
 use Rattle.mapf_low.proofs.Closing.{closing_first, closing_next, closing_last, places_few}
-use Rattle.mapf_low.proofs.entering.close.Goals as goal
+use Rattle.mapf_low.proofs.expansion.expand_class.Goals as goal
 
 pub loop-place-init : goal.loop-place-init
 loop-place-init c = closing_first c.args.query.now c.args.sum c.args.class.now c.requires.placed
 
-pub approach-requires : goal.approach-requires
-approach-requires c =
+pub expand_within-requires : goal.expand_within-requires
+expand_within-requires c =
     let inside : c.loop-place.place < length c.loop-place.class = subst (λ xs. c.loop-place.place < length xs) c.cells.ensures.cells c.loop-place-test.true in
     let is : c.index-cells-place.result ≡ get_or c.loop-place.class c.loop-place.place c.index-cells-place.result = subst (λ xs. c.index-cells-place.result ≡ get_or xs c.loop-place.place c.index-cells-place.result) c.cells-in-loop-place.ensures.cells c.index-cells-place.is in
     let placed = c.loop-place.invariant.placed c.index-cells-place.result (c.loop-place.place, inside, sym is) in
@@ -23,8 +23,8 @@ pub loop-place-preserved : goal.loop-place-preserved
 loop-place-preserved c =
     let inside : c.loop-place.place < length c.loop-place.class = subst (λ xs. c.loop-place.place < length xs) c.cells.ensures.cells c.loop-place-test.true in
     let is : c.index-cells-place.result ≡ get_or c.loop-place.class c.loop-place.place c.index-cells-place.result = subst (λ xs. c.index-cells-place.result ≡ get_or xs c.loop-place.place c.index-cells-place.result) c.cells-in-loop-place.ensures.cells c.index-cells-place.is in
-    closing_next c.args.query.now c.args.sum c.args.class.now c.loop-place.class c.approach.new.class c.loop-place.place c.index-cells-place.result
-    c.requires.posed.sizes inside is c.loop-place.invariant c.in_ok-approach.ensures
+    closing_next c.args.query.now c.args.sum c.args.class.now c.loop-place.class c.expand_within.new.class c.loop-place.place c.index-cells-place.result
+    c.requires.posed.sizes inside is c.loop-place.invariant c.in_ok-expand_within.ensures
 
 pub returns-clause-closes : goal.returns-clause-closes
 returns-clause-closes c =

@@ -1,6 +1,6 @@
 use Rattle.std.proofs.Common.{◌≡◌, ◌⊎◌, ◌+◌, take, Contains}
 use Rattle.mapf_low.specs.Classes.{Grows, Admits}
-use Rattle.mapf_low.proofs.entering.offer_ways_later.Given as goal
+use Rattle.mapf_low.proofs.expansion.generate_all_later.Given as goal
 
 abbrev pub invariant-loop-to : goal.invariant-loop-to
 invariant-loop-to l =

@@ -1,7 +1,7 @@
 use Rattle.std.proofs.Common.{◌≡◌, [], length, Contains, subst, sym, arith}
 use Rattle.mapf_low.specs.Classes.{Grows, SomeLeads}
 use Rattle.mapf_low.proofs.Closing.{some_none, some_more, some_all}
-use Rattle.mapf_low.proofs.entering.spill.Goals as goal
+use Rattle.mapf_low.proofs.expansion.fill_later_classes.Goals as goal
 
 pub loop-from-init : goal.loop-from-init
 loop-from-init c = record {
@@ -9,17 +9,17 @@ loop-from-init c = record {
   after = subst (Grows (SomeLeads c.args.query.now c.args.sum 2 []) c.args.after.now) (sym c.in_ok-make_room-2.ensures) (some_none c.args.query.now c.args.sum 2 c.cells-from-items.result.now c.args.after.now);
 }
 
-pub depart-requires : goal.depart-requires
-depart-requires c =
+pub expand_beyond-requires : goal.expand_beyond-requires
+expand_beyond-requires c =
     let placed = c.requires.placed c.from-item.result (subst (λ xs. Contains xs c.from-item.result) c.cells-from-items.ensures.cells (c.loop-from.from-index, c.loop-from-test.true, sym c.from-item.is)) in
     record { free = placed.0; inside = placed.1; near = placed.2; sum = c.requires.sum; small = c.requires.small }
 
 pub loop-from-preserved : goal.loop-from-preserved
 loop-from-preserved c = record {
-  next = some_more c.args.query.now c.args.sum 1 c.loop-from.from-index c.from-item.result c.cells-from-items.result.now c.args.next.now c.loop-from.next c.depart.new.next
-      c.loop-from-test.true c.from-item.is c.loop-from.invariant.next c.in_ok-depart.ensures.next;
-  after = some_more c.args.query.now c.args.sum 2 c.loop-from.from-index c.from-item.result c.cells-from-items.result.now c.args.after.now c.loop-from.after c.depart.new.after
-      c.loop-from-test.true c.from-item.is c.loop-from.invariant.after c.in_ok-depart.ensures.after;
+  next = some_more c.args.query.now c.args.sum 1 c.loop-from.from-index c.from-item.result c.cells-from-items.result.now c.args.next.now c.loop-from.next c.expand_beyond.new.next
+      c.loop-from-test.true c.from-item.is c.loop-from.invariant.next c.in_ok-expand_beyond.ensures.next;
+  after = some_more c.args.query.now c.args.sum 2 c.loop-from.from-index c.from-item.result c.cells-from-items.result.now c.args.after.now c.loop-from.after c.expand_beyond.new.after
+      c.loop-from-test.true c.from-item.is c.loop-from.invariant.after c.in_ok-expand_beyond.ensures.after;
 }
 
 pub returns-clause-next : goal.returns-clause-next
