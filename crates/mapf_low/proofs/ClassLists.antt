@@ -212,3 +212,8 @@ module _ (query : Query) (nearest : ℕ) (ground : Ground query nearest) where
     few = few;
     placed = h.placed;
   }
+
+-- the same, of what was made of them
+pub searched_as : (query : Query) (n m : ℕ) (xs ys : List (List ℕ)) (a b : Option ℕ) → n ≡ m → xs ≡ ys → a ≡ b → IsSearched query m ys b → IsSearched query n xs a
+searched_as query n m xs ys a b e f g s =
+    subst (λ k. IsSearched query k xs a) (sym e) (subst (λ ls. IsSearched query m ls a) (sym f) (subst (IsSearched query m ys) (sym g) s))

@@ -1,4 +1,4 @@
-ghost use Rattle.std.specs.Prelude.{◌↔◌, IsTrue, IfOk, Contains};
+ghost use Rattle.std.specs.Prelude.{◌≡◌, ◌↔◌, IsTrue, IfOk, Contains};
 ghost use Rattle.mapf_low.specs.Query.{IsPosed, MayEnd};
 ghost use Rattle.mapf_low.specs.Classes.{IsSearched};
 
@@ -15,6 +15,21 @@ pub struct Searched {
     pub nearest: u32,
     pub classes: Vec<Class>,
     pub end: Option<u32>,
+}
+
+impl Searched {
+    /// A search that emptied these classes and ends with this sum, or with none.
+    fn of(nearest: u32, classes: Vec<Class>, end: Option<u32>) -> Searched
+        ensures nearest { result.nearest ≡ nearest }
+        ensures classes { result.classes.items ≡ classes.items }
+        ensures end { result.end ≡ end }
+    {
+        Searched {
+            nearest,
+            classes,
+            end,
+        }
+    }
 }
 
 /// Whether the agent can end in a class of this sum.
@@ -55,28 +70,16 @@ pub fn search(alloc: Global, query: &Query) -> Result<Searched, NoMemory>
         expand_class(query, sum, &mut now)?;
         if can_end(query, &now, sum) {
             classes.push(now)?;
-            return Ok(Searched {
-                nearest,
-                classes,
-                end: Some(sum),
-            });
+            return Ok(Searched::of(nearest, classes, Some(sum)));
         }
         fill_later_classes(query, sum, &now, &mut next, &mut after)?;
         classes.push(now)?;
         if next.is_empty() && after.is_empty() {
-            return Ok(Searched {
-                nearest,
-                classes,
-                end: None,
-            });
+            return Ok(Searched::of(nearest, classes, None));
         }
         now = next;
         next = after;
         after = Class::new(alloc);
     }
-    Ok(Searched {
-        nearest,
-        classes,
-        end: None,
-    })
+    Ok(Searched::of(nearest, classes, None))
 }

@@ -6,7 +6,7 @@ use Rattle.mapf_low.specs.Reached.{IsOpen, Arrives}
 use Rattle.mapf_low.proofs.Rising.{not_true}
 use Rattle.mapf_low.proofs.Classing.{ground_of, AreClasses, match_at}
 use Rattle.mapf_low.proofs.Searching.{IsSearching}
-use Rattle.mapf_low.proofs.ClassLists.{Has, all, last_has, search_first, placed_now, last_classes, before_last, search_on, whole_search, before_end, nothing_left, no_arrival, never_arrives, searched_to, searched_none}
+use Rattle.mapf_low.proofs.ClassLists.{Has, all, last_has, search_first, placed_now, last_classes, before_last, search_on, whole_search, before_end, nothing_left, no_arrival, never_arrives, searched_to, searched_none, searched_as}
 use Rattle.mapf_low.proofs.search.search.Goals as goal
 
 pub loop-sum-init : goal.loop-sum-init
@@ -42,11 +42,13 @@ returns-then-can_end-clause-searched c =
     let before : (t : ℕ) → t < c.loop-sum.sum → ¬ Arrives c.args.query.now (InClasses c.args.query.now c.unwrap-nearest.result (c.loop-sum.classes.items ++ c.expand_class.new.class ∷ [])) t =
     λ t l. no_arrival c.args.query.now c.unwrap-nearest.result ground (c.loop-sum.classes.items ++ c.expand_class.new.class ∷ []) (length c.loop-sum.classes.items)
     (before_last c.args.query.now c.unwrap-nearest.result ground c.loop-sum.classes.items c.loop-sum.now c.loop-sum.next c.loop-sum.after c.loop-sum.invariant.searching c.expand_class.new.class closes placed) t (omega (arith, l, long)) in
+    searched_as c.args.query.now c.of.result.nearest _ c.of.result.classes.items _ c.of.result.end _ c.of.ensures.nearest c.of.ensures.classes c.of.ensures.end (
     subst (λ ls. IsSearched c.args.query.now c.unwrap-nearest.result ls (Some c.loop-sum.sum)) (sym c.in_ok-push.ensures.items)
     (searched_to c.args.query.now c.unwrap-nearest.result ground c.loop-sum.sum (c.loop-sum.classes.items ++ c.expand_class.new.class ∷ []) (omega arith) found before (omega (arith, long))
     (last_has c.loop-sum.classes.items c.expand_class.new.class (c.loop-sum.sum - c.unwrap-nearest.result) c.args.query.now.goal (omega (arith, long)) met.0)
     met.1
     (omega (arith, long, length-append c.loop-sum.classes.items (c.expand_class.new.class ∷ []))))
+    )
 
 pub returns-then-is_empty-2-clause-searched : goal.returns-then-is_empty-2-clause-searched
 returns-then-is_empty-2-clause-searched c =
@@ -71,11 +73,13 @@ returns-then-is_empty-2-clause-searched c =
     let found : AreClasses c.args.query.now c.args.query.now.limit c.unwrap-nearest.result (Has (c.loop-sum.classes.items ++ c.expand_class.new.class ∷ [])) =
     whole_search c.args.query.now c.unwrap-nearest.result ground (c.loop-sum.classes.items ++ c.expand_class.new.class ∷ []) c.fill_later_classes.new.next c.fill_later_classes.new.after [] goes_on c.args.query.now.limit (omega (arith, long, one_more))
     (λ k v l _. nothing_left c.args.query.now c.unwrap-nearest.result ground (c.loop-sum.classes.items ++ c.expand_class.new.class ∷ []) c.fill_later_classes.new.next c.fill_later_classes.new.after [] goes_on no_next no_after refl k v l) in
+    searched_as c.args.query.now c.of-then-is_empty-2.result.nearest _ c.of-then-is_empty-2.result.classes.items _ c.of-then-is_empty-2.result.end _ c.of-then-is_empty-2.ensures.nearest c.of-then-is_empty-2.ensures.classes c.of-then-is_empty-2.ensures.end (
     subst (λ ls. IsSearched c.args.query.now c.unwrap-nearest.result ls None) (sym c.in_ok-push-2.ensures.items)
     (searched_none c.args.query.now c.unwrap-nearest.result ground (c.loop-sum.classes.items ++ c.expand_class.new.class ∷ []) found
     (λ t _. never_arrives c.args.query.now c.unwrap-nearest.result ground (c.loop-sum.classes.items ++ c.expand_class.new.class ∷ [])
     (before_end c.args.query.now c.unwrap-nearest.result ground (c.loop-sum.classes.items ++ c.expand_class.new.class ∷ []) c.fill_later_classes.new.next c.fill_later_classes.new.after [] goes_on) t)
     (omega (arith, long, one_more)))
+    )
 
 pub loop-sum-preserved : goal.loop-sum-preserved
 loop-sum-preserved c =
@@ -109,7 +113,9 @@ returns-clause-searched c =
     let long = c.loop-sum.invariant.long in
     let near : 0 + c.unwrap-nearest.result ≤ c.args.query.now.limit = match_at (distance_at c.args.query.now.table c.args.query.now.start) c.unwrap-nearest.result (λ n. 0 + n ≤ c.args.query.now.limit) ground.nearest_is (subst (λ s. IsOpen c.args.query.now c.args.query.now.limit 0 s) c.start-start.ensures (c.is_open.ensures.0 c.if-not-is_open.false)).1 in
     let last : c.loop-sum.sum ≡ c.args.query.now.limit + 1 = omega (arith, near) in
+    searched_as c.args.query.now c.of-2.result.nearest _ c.of-2.result.classes.items _ c.of-2.result.end _ c.of-2.ensures.nearest c.of-2.ensures.classes c.of-2.ensures.end (
     searched_none c.args.query.now c.unwrap-nearest.result ground c.loop-sum.classes.items
     (whole_search c.args.query.now c.unwrap-nearest.result ground c.loop-sum.classes.items c.loop-sum.now c.loop-sum.next c.loop-sum.after c.loop-sum.invariant.searching c.args.query.now.limit (omega (arith, long, last)) (λ k v l m. absurd (omega (arith, l, m, long, last))))
     (λ t _. never_arrives c.args.query.now c.unwrap-nearest.result ground c.loop-sum.classes.items (before_end c.args.query.now c.unwrap-nearest.result ground c.loop-sum.classes.items c.loop-sum.now c.loop-sum.next c.loop-sum.after c.loop-sum.invariant.searching) t)
     (omega (arith, long, last))
+    )
