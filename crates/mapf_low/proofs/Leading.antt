@@ -10,7 +10,44 @@ use Rattle.mapf_low.proofs.Growing.{members_more, none_in_front, all_in_front}
 use Rattle.mapf_low.proofs.Grown.{grows_as, grows_both, grows_not}
 use Rattle.mapf_low.proofs.Places.{free_below}
 
+-- two distances of one cell
+pub same_distance : (o : Option ℕ) (m n : ℕ) → o ≡ Some m → o ≡ Some n → m ≡ n
+same_distance o m n e f = cc
+
 module _ (query : Query) (t far u : ℕ) where
+  -- the sides alone, one after another
+  abbrev FitsBeside : List ℕ → ℕ → Type 0
+  FitsBeside sides v = Contains sides v × Admits query t far u v
+
+  pub sides_none : (sides old : List ℕ) → Grows (λ v. Contains (take 0 sides) v × Admits query t far u v) old old
+  sides_none sides old = grows_not (FitsBeside (take 0 sides)) old (λ v p. absurd (none_in_front sides v p.0))
+
+  pub sides_more : (sides old mid new : List ℕ) (k x : ℕ) → k < length sides → x ≡ get_or sides k x → Grows (λ v. Contains (take k sides) v × Admits query t far u v) old mid →
+      Grows (λ v. (x ≡ v) × Admits query t far u v) mid new → Grows (λ v. Contains (take (k + 1) sides) v × Admits query t far u v) old new
+  sides_more sides old mid new k x l is h one =
+      grows_as (λ v. FitsBeside (take k sides) v ⊎ ((x ≡ v) × Admits query t far u v)) (FitsBeside (take (k + 1) sides)) old new (λ v. (to v, λ p. from v ((members_more sides k x v l is).0 p.0) p.1))
+      (grows_both (FitsBeside (take k sides)) (λ v. (x ≡ v) × Admits query t far u v) old mid new h one)
+    where
+      to : (v : ℕ) → FitsBeside (take k sides) v ⊎ ((x ≡ v) × Admits query t far u v) → FitsBeside (take (k + 1) sides) v
+      to v (inl p) = ((members_more sides k x v l is).1 (inl p.0), p.1)
+      to v (inr p) = ((members_more sides k x v l is).1 (inr p.0), p.1)
+
+      from : (v : ℕ) → Contains (take k sides) v ⊎ (x ≡ v) → Admits query t far u v → FitsBeside (take k sides) v ⊎ ((x ≡ v) × Admits query t far u v)
+      from v (inl i) a = inl (i, a)
+      from v (inr e) a = inr (e, a)
+
+  pub sides_all : (sides old new : List ℕ) (k : ℕ) → k ≡ length sides → Grows (λ v. Contains (take k sides) v × Admits query t far u v) old new → Grows (λ v. Contains sides v × Admits query t far u v) old new
+  sides_all sides old new k e h = grows_as (FitsBeside (take k sides)) (FitsBeside sides) old new (λ v. ((λ p. ((all_in_front sides k v e).0 p.0, p.1)), λ p. ((all_in_front sides k v e).1 p.0, p.1))) h
+
+  -- a cell itself is no nearer to the goal, so the sides are all
+  pub sides_suffice : (near : ℕ) (sides old new : List ℕ) → distance_at query.table u ≡ Some near → far + 1 ≡ near → Grows (λ v. Contains sides v × Admits query t far u v) old new →
+      Grows (λ v. ((u ≡ v) ⊎ Contains sides v) × Admits query t far u v) old new
+  sides_suffice near sides old new at apart h = grows_as (FitsBeside sides) (λ v. ((u ≡ v) ⊎ Contains sides v) × Admits query t far u v) old new (λ v. ((λ p. (inr p.0, p.1)), λ p. from v p.0 p.1)) h
+    where
+      from : (v : ℕ) → (u ≡ v) ⊎ Contains sides v → Admits query t far u v → FitsBeside sides v
+      from v (inl e) a = absurd (omega (arith, apart, same_distance (distance_at query.table v) far near a.0 (subst (λ w. distance_at query.table w ≡ Some near) e at)))
+      from v (inr i) a = (i, a)
+
   abbrev Fits : List ℕ → ℕ → Type 0
   Fits sides v = ((u ≡ v) ⊎ Contains sides v) × Admits query t far u v
 
@@ -56,10 +93,6 @@ module _ (query : Query) (t far u : ℕ) where
       from : (v : ℕ) → (u ≡ v) ⊎ Contains sides v → (u ≡ v) ⊎ Contains (take k sides) v
       from v (inl e) = inl e
       from v (inr i) = inr ((all_in_front sides k v e).1 i)
-
--- two distances of one cell
-pub same_distance : (o : Option ℕ) (m n : ℕ) → o ≡ Some m → o ≡ Some n → m ≡ n
-same_distance o m n e f = cc
 
 module _ (query : Query) (sum : ℕ) where
   -- the steps from a cell are those to itself and to its sides

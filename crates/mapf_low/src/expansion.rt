@@ -39,7 +39,7 @@ fn generate(
     Ok(())
 }
 
-/// The same of a cell itself and of its sides.
+/// The same of all sides of a cell.
 #[inline]
 fn generate_all(
     query: &Query,
@@ -50,9 +50,8 @@ fn generate_all(
     class: &mut Class,
 ) -> Result<(), NoMemory>
     requires { time ≤ query.now.limit + 1 }
-    ensures { OnOk result (Grows (λ v. ((from ≡ v) ⊎ Contains sides.now v) × Admits query.now time far from v) class.old class.new) }
+    ensures { OnOk result (Grows (λ v. Contains sides.now v × Admits query.now time far from v) class.old class.new) }
 {
-    generate(query, from, from, time, far, class)?;
     for to in sides {
         generate(query, from, *to, time, far, class)?;
     }
@@ -72,6 +71,7 @@ fn expand_within(query: &Query, sum: u32, from: Cell, class: &mut Class) -> Resu
     if near == 0 {
         return Ok(());
     }
+    // A wait doesn't bring the goal nearer, so the sides are all.
     let sides = query.sides(from);
     generate_all(
         query,

@@ -39,9 +39,11 @@ fn can_end(query: &Query, class: &Class, sum: u32) -> bool
     query.may_end(sum) && class.contains(query.goal())
 }
 
-/// For how many cells the first class gets room, by the distance from the start to the goal.
+/// For how many cells the first class gets room, by the distance from the start to the goal: on open ground the shortest
+/// ways to the goal may go over a quarter of its square.
 fn first_room(nearest: u32) -> usize {
-    4 * (nearest as usize).min(256) + 4
+    let near = (nearest as usize).min(256);
+    4 * near + near * near / 8 + 4
 }
 
 /// Takes the states, cells at time steps, by rising sum of time and distance to the goal, class by class, up to the first
