@@ -2,9 +2,8 @@
 use Rattle.std.proofs.Common.{◌≡◌, ◌⊎◌, ◌↔◌, ℕ, zero, suc, ◌+◌, ◌-◌, ◌<◌, ◌≤◌, List, [], ◌∷◌, ◌++◌, length, Option, Some, None, Contains, inl, inr, subst, subst₂, sym, refl, ap, ◌∙◌, arith}
 use Rattle.std.proofs.lemmas.Bool.{cases_lt}
 use Rattle.std.proofs.lemmas.List.{get_or_append_left, get_or-append-add, get_or_past, length-append}
-use Rattle.mapf_grid.specs.Grid.{Grid, IsFree, cells}
+use Rattle.mapf_grid.specs.Grid.{IsFree, cells}
 use Rattle.mapf_low.specs.Query.{Query, MayEnd}
-use Rattle.mapf_low.specs.declared.constraint.Constraint.{Constraint}
 use Rattle.mapf_low.specs.declared.constraint.Constraint.TheVariants.{Vertex}
 use Rattle.mapf_low.specs.Walk.{distance_at}
 use Rattle.mapf_low.specs.Classes.{class_at, IsAdded, IsWithin, Grows, SomeLeads, Closes, ArePlaced, InClasses, IsSearched}

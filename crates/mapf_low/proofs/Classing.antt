@@ -1,10 +1,9 @@
 -- Classes of one sum have just those states that an agent may reach.
-use Rattle.std.proofs.Common.{◌≡◌, ℕ, suc, ◌+◌, ◌-◌, ◌<◌, ◌≤◌, List, Option, Some, None, MatchOption, Contains, subst, sym, refl, ap, ◌∙◌, arith}
-use Rattle.mapf_grid.specs.Grid.{Grid, IsFree, Next, cells, HasSizes}
+use Rattle.std.proofs.Common.{◌≡◌, ℕ, suc, ◌+◌, ◌-◌, ◌<◌, ◌≤◌, Option, Some, None, MatchOption, Contains, subst, sym, refl, ap, ◌∙◌, arith}
+use Rattle.mapf_grid.specs.Grid.{Next, cells}
 use Rattle.mapf_low.specs.Query.{Query, IsPosed}
-use Rattle.mapf_low.specs.declared.constraint.Constraint.{Constraint}
 use Rattle.mapf_low.specs.declared.constraint.Constraint.TheVariants.{Vertex}
-use Rattle.mapf_low.specs.Walk.{IsWalk, IsDistance, AreDistances}
+use Rattle.mapf_low.specs.Walk.{IsWalk, IsDistance}
 use Rattle.mapf_low.specs.Walk.{distance_at}
 use Rattle.mapf_low.specs.Classes.{IsWithin, Admits, Leads}
 use Rattle.mapf_low.specs.Reached.{IsOpen, MayStep, ComesFrom, AreReached}

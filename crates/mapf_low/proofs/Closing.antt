@@ -1,13 +1,12 @@
 -- A class that is emptied, cell by cell, and the later classes that its cells lead to.
-use Rattle.std.proofs.Common.{◌≡◌, ◌⊎◌, ℕ, ◌+◌, ◌<◌, ◌≤◌, eqb, List, length, take, get_or, Option, Contains, inl, inr, subst, sym, refl, ap, ◌∙◌, arith}
+use Rattle.std.proofs.Common.{◌≡◌, ◌⊎◌, ℕ, ◌+◌, ◌<◌, ◌≤◌, eqb, List, length, take, get_or, Contains, inl, inr, subst, sym, refl, ap, ◌∙◌, arith}
 use Rattle.std.specs.List.{IsDistinct}
 use Rattle.std.proofs.lemmas.Bool.{eqb-true}
 use Rattle.std.proofs.lemmas.List.{take_all, take-append-le}
 use Rattle.std.proofs.lemmas.Map.Steps.{length-le_from_distinct_below}
 use Rattle.indexmap.proofs.CallerLemmas.{Contains-list_any}
-use Rattle.mapf_grid.specs.Grid.{Grid, IsFree, cells, HasSizes}
+use Rattle.mapf_grid.specs.Grid.{IsFree, cells, HasSizes}
 use Rattle.mapf_low.specs.Query.{Query}
-use Rattle.mapf_low.specs.declared.constraint.Constraint.{Constraint}
 use Rattle.mapf_low.specs.Classes.{Grows, IsWithin, Leads, SomeLeads, Closes, ArePlaced}
 use Rattle.mapf_low.proofs.Growing.{members_more, none_in_front, all_in_front}
 use Rattle.mapf_low.proofs.Grown.{grows_as, grows_both, grows_not}

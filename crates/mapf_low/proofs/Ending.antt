@@ -3,7 +3,6 @@ use Rattle.std.proofs.Common.{◌⊎◌, ℕ, ◌<◌, ◌≤◌, List, Option, 
 use borrow.Author.Tests.{ltb-true, lt-ltb}
 use Rattle.std.proofs.lemmas.Bool.{cases_lt}
 use Rattle.mapf_low.specs.Query.{Query, MayEnd}
-use Rattle.mapf_low.specs.declared.constraint.Constraint.{Constraint}
 use Rattle.mapf_low.specs.declared.constraint.Constraint.TheVariants.{Vertex}
 use Rattle.mapf_plan.proofs.Paths.{at_past}
 use Rattle.mapf_low.specs.Constraints.{IsAllowed}

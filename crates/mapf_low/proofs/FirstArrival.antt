@@ -1,16 +1,15 @@
 -- The path that is read back is an agent's own path.
-use Rattle.std.proofs.Common.{◌≡◌, ◌≢◌, ◌⊎◌, ℕ, zero, suc, ◌<◌, ◌≤◌, ◌+◌, ◌-◌, true, false, List, length, slice_index, slice_index_or, Option, Some, None, is_some, MatchOption, Contains, All, inl, inr, subst, subst₂, sym, refl, ap, ◌∙◌, arith}
+use Rattle.std.proofs.Common.{◌≡◌, ◌≢◌, ◌⊎◌, ℕ, zero, suc, ◌<◌, ◌≤◌, ◌+◌, ◌-◌, List, length, slice_index, slice_index_or, Option, Some, None, MatchOption, Contains, inl, inr, subst, subst₂, sym, refl, ap, ◌∙◌, arith}
 use Rattle.std.proofs.lemmas.Bool.{cases_lt}
 use Rattle.std.proofs.lemmas.List.Elements.{All-contains}
 use Rattle.mapf_grid.specs.Least.{Precedes}
-use Rattle.mapf_grid.specs.Grid.{Grid, IsFree, HasSizes}
 use Rattle.mapf_plan.specs.Path.{cost, at, IsPath}
 use Rattle.mapf_plan.proofs.Paths.{at_inside, at_past, place_free}
 use Rattle.mapf_low.specs.Query.{Query, IsPosed, MayEnd}
 use Rattle.mapf_low.specs.declared.constraint.Constraint.{Constraint}
 use Rattle.mapf_low.specs.declared.constraint.Constraint.TheVariants.{Vertex, Edge}
 use Rattle.mapf_low.specs.Constraints.{Breaks, IsAllowed, IsOwnPath, path_rank, IsSmallerAtLast}
-use Rattle.mapf_low.specs.Walk.{IsWalk, IsDistance, AreDistances}
+use Rattle.mapf_low.specs.Walk.{IsWalk, IsDistance}
 use Rattle.mapf_low.specs.Kept.{HasTwoEnds}
 use Rattle.mapf_low.specs.Reached.{IsOpen, MayStep, ComesFrom, AreReached, Arrives, IsReadBack}
 use Rattle.mapf_low.proofs.ByLast.{order_is_by_last}

@@ -1,13 +1,9 @@
 -- What a search by classes found is an agent's own path.
-use Rattle.std.proofs.Common.{◌≡◌, ◌⊎◌, ℕ, ◌+◌, ◌<◌, ◌≤◌, List, Option, Some, None, All, inl, inr, subst, arith}
+use Rattle.std.proofs.Common.{◌≡◌, ◌⊎◌, ℕ, ◌+◌, ◌<◌, ◌≤◌, List, Option, Some, None, inl, inr, subst, arith}
 use Rattle.std.proofs.lemmas.Bool.{cases_lt}
 use Rattle.std.specs.Option.{unwrap_or}
-use Rattle.mapf_grid.specs.Grid.{Grid, IsFree, HasSizes}
 use Rattle.mapf_low.specs.Query.{Query, IsPosed}
-use Rattle.mapf_low.specs.declared.constraint.Constraint.{Constraint}
 use Rattle.mapf_low.specs.Constraints.{IsAllowed, IsOwnPath}
-use Rattle.mapf_low.specs.Kept.{HasTwoEnds}
-use Rattle.mapf_low.specs.Walk.{AreDistances}
 use Rattle.mapf_low.specs.Classes.{InClasses, IsSearched}
 use Rattle.mapf_low.specs.Reached.{Arrives, AreLinked, IsReadBack}
 use Rattle.mapf_low.proofs.FirstArrival.{Setting, own, none_by_limit}

@@ -1,8 +1,6 @@
 -- Whole lists of layers.
-use Rattle.std.proofs.Common.{ℕ, ◌+◌, ◌<◌, List, length, Option}
-use Rattle.mapf_grid.specs.Grid.{Grid}
+use Rattle.std.proofs.Common.{ℕ, ◌+◌, ◌<◌, List, length}
 use Rattle.mapf_low.specs.Query.{Query}
-use Rattle.mapf_low.specs.declared.constraint.Constraint.{Constraint}
 use Rattle.mapf_low.specs.Layers.{IsFirstLayer, IsNextLayer, InLayers, layer_at}
 use Rattle.mapf_low.specs.Reached.{AreReached}
 

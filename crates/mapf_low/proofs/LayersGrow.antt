@@ -1,10 +1,8 @@
 -- Layers, one more at a time.
-use Rattle.std.proofs.Common.{◌≡◌, ◌⊎◌, ℕ, ◌+◌, ◌<◌, ◌≤◌, List, [], ◌∷◌, ◌++◌, length, Option, Contains, inl, inr, subst, subst₂, sym, ap, arith}
+use Rattle.std.proofs.Common.{◌≡◌, ◌⊎◌, ℕ, ◌+◌, ◌<◌, ◌≤◌, List, [], ◌∷◌, ◌++◌, length, Contains, inl, inr, subst, subst₂, sym, ap, arith}
 use Rattle.std.proofs.lemmas.Bool.{cases_lt}
 use Rattle.std.proofs.lemmas.List.{get_or_append_left, get_or_at, length-append}
-use Rattle.mapf_grid.specs.Grid.{Grid}
 use Rattle.mapf_low.specs.Query.{Query}
-use Rattle.mapf_low.specs.declared.constraint.Constraint.{Constraint}
 use Rattle.mapf_low.specs.Layers.{IsFirstLayer, IsNextLayer, InLayers, layer_at}
 use Rattle.mapf_low.specs.Reached.{Arrives}
 use Rattle.mapf_low.proofs.Layering.{AreLayers}

@@ -1,11 +1,9 @@
 -- Where the cells of a class lead.
 use Rattle.mapf_low.specs.Walk.{distance_at}
-use Rattle.std.proofs.Common.{◌≡◌, ◌⊎◌, ◌↔◌, ℕ, ◌+◌, ◌-◌, ◌<◌, ◌≤◌, Bool, true, false, List, length, take, get_or, slice_index_or, Option, Some, MatchOption, IsTrue, Contains, inl, inr, subst, sym, refl, ap, ◌∙◌, arith}
-use Rattle.mapf_grid.specs.Grid.{Grid, IsFree, IsBeside, Next, cells, HasSizes}
+use Rattle.std.proofs.Common.{◌≡◌, ◌⊎◌, ◌↔◌, ℕ, ◌+◌, ◌-◌, ◌<◌, ◌≤◌, List, length, take, get_or, Option, Some, MatchOption, Contains, inl, inr, subst, sym, ap, ◌∙◌, arith}
+use Rattle.mapf_grid.specs.Grid.{IsFree, IsBeside, Next, cells, HasSizes}
 use Rattle.mapf_low.specs.Query.{Query}
-use Rattle.mapf_low.specs.declared.constraint.Constraint.{Constraint}
-use Rattle.mapf_low.specs.declared.constraint.Constraint.TheVariants.{Vertex, Edge}
-use Rattle.mapf_low.specs.Classes.{Grows, IsWithin, IsAllowedStep, Admits, Leads}
+use Rattle.mapf_low.specs.Classes.{Grows, IsWithin, Admits, Leads}
 use Rattle.mapf_low.proofs.Growing.{members_more, none_in_front, all_in_front}
 use Rattle.mapf_low.proofs.Grown.{grows_as, grows_both, grows_not}
 use Rattle.mapf_low.proofs.Places.{free_below}

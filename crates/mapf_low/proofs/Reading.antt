@@ -1,10 +1,9 @@
 -- A path that is read back, one cell more at a time.
-use Rattle.std.proofs.Common.{◌≡◌, ◌≢◌, ◌⊎◌, ℕ, zero, suc, ◌+◌, ◌<◌, ◌≤◌, List, get_or, slice_index, set, replicate, Option, inl, inr, subst, subst₂, sym, ◌∙◌, arith}
+use Rattle.std.proofs.Common.{◌≡◌, ◌≢◌, ◌⊎◌, ℕ, zero, suc, ◌+◌, ◌<◌, ◌≤◌, List, get_or, slice_index, set, replicate, inl, inr, subst, subst₂, sym, ◌∙◌, arith}
 use Rattle.std.proofs.lemmas.Bool.{cases_lt}
 use Rattle.std.proofs.lemmas.List.{length-set, get_or-set_other, get_or-set_same, length-replicate, get_or-replicate, get_or_default}
-use Rattle.mapf_grid.specs.Grid.{Grid, IsFree, cells}
+use Rattle.mapf_grid.specs.Grid.{IsFree, cells}
 use Rattle.mapf_low.specs.Query.{Query}
-use Rattle.mapf_low.specs.declared.constraint.Constraint.{Constraint}
 use Rattle.mapf_low.specs.Reached.{AreLinked, ComesFrom, IsSmallestBefore, IsReadBack}
 use Rattle.mapf_low.proofs.Places.{free_below}
 use Rattle.mapf_low.proofs.FirstArrival.{Setting}

@@ -1,22 +1,17 @@
 -- Layers as rising lists, and what the cells of a layer are.
-use Rattle.std.proofs.Common.{◌≡◌, ◌⊎◌, ◌↔◌, ℕ, ◌<◌, ◌≤◌, ◌==◌, Bool, true, false, List, [], ◌∷◌, ◌++◌, length, get_or, take, Result, Ok, Err, MatchResult, Option, IfOk, IsTrue, Contains, IsPermutation, eqb, inl, inr, subst, sym, refl, ap, ◌∙◌, arith}
+use Rattle.std.proofs.Common.{◌≡◌, ◌⊎◌, ◌↔◌, ℕ, ◌<◌, ◌≤◌, Bool, true, false, List, [], ◌∷◌, ◌++◌, length, get_or, take, Result, Ok, Err, MatchResult, Option, IsTrue, Contains, IsPermutation, eqb, inl, inr, subst, sym, ap, ◌∙◌, arith}
 use Rattle.std.specs.Result.{is_ok}
 use Rattle.std.specs.Ordering.{nat_cmp}
-use Rattle.std.specs.List.{dedup, list_any}
+use Rattle.std.specs.List.{dedup}
 use Rattle.std.specs.List.Sorted.{IsStrictlyIncreasing, IsBinarySearchResult}
 use Rattle.std.proofs.lemmas.Bool.{cases_lt}
-use Rattle.mapf_plan.proofs.Cuts.{eqb-refl}
 use Rattle.std.proofs.lemmas.List.{get_or_default}
-use Rattle.std.proofs.lemmas.List.Folds.{list_any_at}
 use Rattle.std.proofs.lemmas.List.Kept.{AllPairs-from_increasing, Contains-dedup_nat, Contains-from_dedup}
 use Rattle.std.proofs.lemmas.List.Sorted.{searched, Contains-permutation, IsPermutation-sym}
 use Rattle.mapf_grid.specs.Grid.{Grid, IsFree, IsBeside, Next}
-use Rattle.mapf_grid.specs.declared.fault.NoMemory.{NoMemory}
 use Rattle.mapf_low.specs.Query.{Query}
-use Rattle.mapf_low.specs.declared.constraint.Constraint.{Constraint}
-use Rattle.mapf_low.specs.declared.constraint.Constraint.TheVariants.{Vertex, Edge}
-use Rattle.mapf_low.specs.Times.{time_of}
-use Rattle.mapf_low.specs.Layers.{MayEnter, IsNextLayer}
+use Rattle.mapf_low.specs.declared.constraint.Constraint.TheVariants.{Edge}
+use Rattle.mapf_low.specs.Layers.{MayEnter}
 use Rattle.mapf_low.specs.Reached.{IsOpen, MayStep, ComesFrom}
 use Rattle.mapf_low.proofs.Growing.{members_push, all_in_front, Grown}
 use Rattle.mapf_low.proofs.LevelSearch.{Next_back}

@@ -1,9 +1,8 @@
 -- A search by classes of one sum, class by class.
-use Rattle.std.proofs.Common.{◌≡◌, ◌⊎◌, ◌↔◌, ℕ, ◌+◌, ◌<◌, ◌≤◌, List, Option, Contains, inl, inr, subst, sym, refl, arith}
+use Rattle.std.proofs.Common.{◌≡◌, ◌⊎◌, ◌↔◌, ℕ, ◌+◌, ◌<◌, ◌≤◌, List, Contains, inl, inr, subst, sym, refl, arith}
 use Rattle.std.proofs.lemmas.Bool.{cases_lt, cases_order}
-use Rattle.mapf_grid.specs.Grid.{Grid, IsFree, cells}
+use Rattle.mapf_grid.specs.Grid.{IsFree, cells}
 use Rattle.mapf_low.specs.Query.{Query, MayEnd}
-use Rattle.mapf_low.specs.declared.constraint.Constraint.{Constraint}
 use Rattle.mapf_low.specs.declared.constraint.Constraint.TheVariants.{Vertex}
 use Rattle.mapf_low.specs.Classes.{IsWithin, Leads, SomeLeads, Closes, ArePlaced}
 use Rattle.mapf_low.proofs.Classing.{Origin, begins, follows, AreClasses, Ground}

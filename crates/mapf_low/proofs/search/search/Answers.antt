@@ -1,4 +1,4 @@
-use Rattle.std.proofs.Common.{◌≡◌, ◌≤◌, ◌<◌, ◌+◌, ◌-◌, ◌∷◌, [], ◌++◌, ℕ, length, None, Some, Contains, IsTrue, subst, sym, refl, ap, ◌∙◌, arith, length-append}
+use Rattle.std.proofs.Common.{◌≡◌, ◌≤◌, ◌<◌, ◌+◌, ◌-◌, ◌∷◌, [], ◌++◌, ℕ, length, None, Some, Contains, subst, sym, refl, ap, ◌∙◌, arith, length-append}
 use Rattle.mapf_low.specs.Query.{MayEnd}
 use Rattle.mapf_low.specs.Walk.{distance_at}
 use Rattle.mapf_low.specs.Classes.{IsAdded, Grows, SomeLeads, Closes, ArePlaced, IsSearched, InClasses}
