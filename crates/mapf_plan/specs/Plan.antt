@@ -26,6 +26,20 @@ abbrev pub conflict_rank : Conflict → List ℕ
 conflict_rank (Vertex i j v t) = t ∷ 0 ∷ i ∷ j ∷ []
 conflict_rank (Swapping i j u v t) = t ∷ 1 ∷ i ∷ j ∷ []
 
+-- when a conflict is; a swapping conflict is where both agents have moved
+abbrev pub conflict_time : Conflict → ℕ
+conflict_time (Vertex i j v t) = t
+conflict_time (Swapping i j u v t) = t
+
+-- the agent with the smaller number, and the one with the larger
+abbrev pub first_agent : Conflict → ℕ
+first_agent (Vertex i j v t) = i
+first_agent (Swapping i j u v t) = i
+
+abbrev pub second_agent : Conflict → ℕ
+second_agent (Vertex i j v t) = j
+second_agent (Swapping i j u v t) = j
+
 -- the conflict that a node of the search branches on
 abbrev pub IsFirstConflict : List (List ℕ) → Conflict → Type 0
 IsFirstConflict plan c = IsLeast conflict_rank (IsConflict plan) c

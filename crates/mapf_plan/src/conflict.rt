@@ -1,3 +1,7 @@
+ghost use Rattle.std.specs.Prelude.{◌≡◌, ◌↔◌, IsTrue};
+ghost use Rattle.mapf_grid.specs.Least.{Precedes};
+ghost use Rattle.mapf_plan.specs.Plan.{conflict_rank, conflict_time};
+
 use mapf_grid::Cell;
 
 /// Two agents that collide, as Stern et al. 2019 name it; `first` is the agent with the smaller number.
@@ -18,4 +22,42 @@ pub enum Conflict {
         to: Cell,
         time: u32,
     },
+}
+
+impl Conflict {
+    /// The time step of the conflict; of a swapping conflict the one at which both agents have moved.
+    pub fn time(&self) -> u32
+        ensures { result ≡ conflict_time self.now }
+    {
+        let (Conflict::Vertex { time, .. } | Conflict::Swapping { time, .. }) = *self;
+        time
+    }
+
+    /// Whether this conflict comes before the other: by time, a vertex conflict before a swapping one,
+    /// then by the smaller agent, and then by the larger.
+    pub fn is_before(&self, other: &Conflict) -> bool
+        ensures { IsTrue result ↔ Precedes (conflict_rank self.now) (conflict_rank other.now) }
+    {
+        self.rank() < other.rank()
+    }
+
+    // What conflicts are ordered by.
+    fn rank(&self) -> [u64; 4]
+        ensures { result ≡ conflict_rank self.now }
+    {
+        match *self {
+            Conflict::Vertex {
+                first,
+                second,
+                time,
+                ..
+            } => [u64::from(time), 0, first as u64, second as u64],
+            Conflict::Swapping {
+                first,
+                second,
+                time,
+                ..
+            } => [u64::from(time), 1, first as u64, second as u64],
+        }
+    }
 }

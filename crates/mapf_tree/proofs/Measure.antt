@@ -12,9 +12,9 @@ use Rattle.mapf_grid.proofs.Orders.{In}
 use Rattle.mapf_plan.specs.Path.{IsPath}
 use Rattle.mapf_plan.specs.declared.conflict.Conflict.{Conflict}
 use Rattle.mapf_plan.specs.declared.conflict.Conflict.TheVariants.{Vertex, Swapping}
-use Rattle.mapf_plan.specs.Plan.{IsConflict, IsFirstConflict, path_of, place}
+use Rattle.mapf_plan.specs.Plan.{IsConflict, IsFirstConflict, path_of, place, conflict_time}
 use Rattle.mapf_plan.proofs.Paths.{place_free, moves}
-use Rattle.mapf_plan.proofs.Conflicts.{time_of, first_early}
+use Rattle.mapf_plan.proofs.Conflicts.{first_early}
 use Rattle.mapf_low.specs.declared.constraint.Constraint.{Constraint}
 use Rattle.mapf_low.specs.Constraints.{Obeys, Breaks}
 use Rattle.mapf_tree.specs.declared.side.Side.{Side}
@@ -85,7 +85,7 @@ side_fits inst bound pair plan c s has first = go c s first.member (first_early 
         let next = moves inst.grid _ _ (path_of plan i) (path i h) (t - 1) t (omega (arith, l)) (λ e. ne (sym eu ∙ e ∙ ev)) in
         subst₂ (λ a b. Next inst.grid a b) eu ev next
 
-    go : (c : Conflict) (s : Side) → IsConflict plan c → time_of c ≤ bound → Fits inst.grid bound (constraint_on c s)
+    go : (c : Conflict) (s : Side) → IsConflict plan c → conflict_time c ≤ bound → Fits inst.grid bound (constraint_on c s)
     go (Vertex i j v t) s h l = (cell j t v h.1 h.3, l)
     go (Swapping i j u v t) Left h l = (edge i t u v (omega (arith, h.0, h.1)) h.2 h.4 h.5 h.3, h.3, l)
     go (Swapping i j u v t) Right h l = (edge j t v u h.1 h.2 h.6 h.7 (λ e. h.3 (sym e)), (λ e. h.3 (sym e)), l)

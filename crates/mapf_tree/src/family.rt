@@ -40,7 +40,8 @@ pub fn root_with(
         return Ok(None);
     }
     let constraints = none_for(alloc, agents)?;
-    Ok(Some(Node::of(Vec::new(alloc), constraints, plan)))
+    let first = plan.first_conflict();
+    Ok(Some(Node::of(Vec::new(alloc), constraints, plan, first)))
 }
 
 /// The child of a node of the tree on one side of its conflict; none exactly where that isn't in the tree.
@@ -66,7 +67,8 @@ pub fn child(
     let plan = node.plan.with(alloc, agent, path)?;
     let constraints = copies_but(alloc, &node.constraints, agent, constraints)?;
     let name = longer(alloc, &node.key.name, side)?;
-    Ok(Some(Node::of(name, constraints, plan)))
+    let first = plan.first_conflict_of_changed(agent, conflict.time());
+    Ok(Some(Node::of(name, constraints, plan, first)))
 }
 
 /// An agent's own path under no constraints; none exactly where it may take no path.

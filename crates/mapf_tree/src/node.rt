@@ -34,14 +34,19 @@ impl Node {
     ghost use Rattle.mapf_tree.specs.Keys.{key_rank};
     ghost use Rattle.mapf_tree.specs.Nodes.{shown_key, IsConflictOf};
 
-    /// The node of this name, these constraints and this plan; its key and its conflict are worked out.
-    pub(crate) fn of(name: Vec<Side>, constraints: Vec<Constraints>, plan: Plan) -> Node
+    /// The node of this name, these constraints, this plan and the plan's first conflict.
+    pub(crate) fn of(
+        name: Vec<Side>,
+        constraints: Vec<Constraints>,
+        plan: Plan,
+        conflict: Option<Conflict>,
+    ) -> Node
+        requires { IsConflictOf plan conflict }
         ensures name { result.name ≡ name.items }
         ensures constraints { result.constraints ≡ constraints.items }
         ensures plan { result.plan ≡ plan }
-        ensures conflict { IsConflictOf plan result.conflict }
+        ensures conflict { result.conflict ≡ conflict }
     {
-        let conflict = plan.first_conflict();
         let key = Key {
             cost: plan.cost(),
             depth: name.len(),

@@ -1,7 +1,8 @@
-ghost use Rattle.std.specs.Prelude.{ℕ, ◌+◌, ◌<◌, ◌≤◌, [], ◌∷◌, length, MatchOption};
-ghost use Rattle.mapf_grid.specs.Least.{NoneBefore};
-ghost use Rattle.mapf_plan.specs.Path.{cost};
-ghost use Rattle.mapf_plan.specs.Plan.{path_of, conflict_rank, IsConflict, IsFirstConflict, HasNoConflict};
+ghost use Rattle.std.specs.Prelude.{◌≡◌, ◌≢◌, ◌⊎◌, ◌+◌, ◌<◌, ◌≤◌, [], ◌∷◌, length, MatchOption, ⊤};
+ghost use Rattle.mapf_grid.specs.Least.{IsLeast, NoneBefore, Precedes};
+ghost use Rattle.mapf_plan.specs.declared.conflict.Conflict.{Conflict};
+ghost use Rattle.mapf_plan.specs.Plan.{conflict_rank, first_agent, second_agent, IsConflict, IsFirstConflict, HasNoConflict};
+ghost use Rattle.mapf_plan.specs.FirstConflict.{IsConflictOfPair, IsConflictWithout, IsEarlier};
 
 use crate::{Conflict, Plan};
 
@@ -11,117 +12,167 @@ impl Plan {
     pub fn first_conflict(&self) -> Option<Conflict>
         ensures { MatchOption result (HasNoConflict self.now) (λ c. IsFirstConflict self.now c) }
     {
-        let last = self.longest();
-        for time in 0..last + 1 {
-            if let Some(found) = self.conflict_at(time) {
-                return Some(found);
-            }
-        }
-        None
+        let _ = &self.paths;
+        self.first_conflict_of_changed(0, 0)
     }
 
-    /// The cost of the longest path: from then on no agent moves.
-    fn longest(&self) -> u32
-        ensures longest { (i : ℕ) → i < length self.now → cost (path_of self.now i) ≤ result }
+    /// The first conflict of all times, where only one agent's path is new and the other agents are known to have no conflict
+    /// before a time step: the new path is looked at from its beginning, and the others from that time step on.
+    /// None if no two agents ever collide.
+    pub fn first_conflict_of_changed(&self, changed: usize, time: u32) -> Option<Conflict>
+        requires agent { changed < length self.now }
+        requires others { NoneBefore conflict_rank (IsConflictWithout self.now changed) (time ∷ []) }
+        ensures { MatchOption result (HasNoConflict self.now) (λ c. IsFirstConflict self.now c) }
+    {
+        let mut known = self.first_with(changed);
+        for agent in 0..self.paths().len() {
+            if agent == changed {
+                continue;
+            }
+            known = self.earlier_without(changed, agent, time, known);
+        }
+        known
+    }
+
+    // The first conflict that this agent has with another.
+    fn first_with(&self, agent: usize) -> Option<Conflict>
+        requires { agent < length self.now }
+        ensures conflict { MatchOption result ⊤ (λ c. IsConflict self.now c) }
+        ensures first { (c : Conflict) → IsConflict self.now c → (first_agent c ≡ agent) ⊎ (second_agent c ≡ agent) → ¬ IsEarlier c result }
+    {
+        let mut known = None;
+        for other in 0..self.paths().len() {
+            if other == agent {
+                continue;
+            }
+            known = self.earlier(agent.min(other), agent.max(other), 0, known);
+        }
+        known
+    }
+
+    // The conflict that is known, or an earlier one of this agent with one of a larger number, neither of them the one that changed.
+    fn earlier_without(
+        &self,
+        changed: usize,
+        agent: usize,
+        time: u32,
+        known: Option<Conflict>,
+    ) -> Option<Conflict>
+        requires agent { agent < length self.now }
+        requires unchanged { agent ≢ changed }
+        requires others { NoneBefore conflict_rank (IsConflictWithout self.now changed) (time ∷ []) }
+        requires conflict { MatchOption known ⊤ (λ c. IsConflict self.now c) }
+        ensures conflict { MatchOption result ⊤ (λ c. IsConflict self.now c) }
+        ensures keeps { (c : Conflict) → IsEarlier c result → IsEarlier c known }
+        ensures first { (c : Conflict) → IsConflictWithout self.now changed c → first_agent c ≡ agent → ¬ IsEarlier c result }
+    {
+        let agents = self.paths().len();
+        let mut earliest = known;
+        for other in agent + 1..agents {
+            if other == changed {
+                continue;
+            }
+            earliest = self.earlier(agent, other, time, earliest);
+        }
+        earliest
+    }
+
+    // The conflict that is known, or the first one of these two agents, where that is earlier; they have none before the time step.
+    fn earlier(
+        &self,
+        first: usize,
+        second: usize,
+        time: u32,
+        known: Option<Conflict>,
+    ) -> Option<Conflict>
+        requires agents { first < second }
+        requires plan { second < length self.now }
+        requires before { NoneBefore conflict_rank (IsConflictOfPair self.now first second) (time ∷ []) }
+        requires conflict { MatchOption known ⊤ (λ c. IsConflict self.now c) }
+        ensures conflict { MatchOption result ⊤ (λ c. IsConflict self.now c) }
+        ensures keeps { (c : Conflict) → IsEarlier c result → IsEarlier c known }
+        ensures first { (c : Conflict) → IsConflictOfPair self.now first second c → ¬ IsEarlier c result }
+    {
+        let last = self.last_worth(first, second, known);
+        let Some(found) = self.first_of_pair(first, second, time, last) else {
+            return known;
+        };
+        match &known {
+            Some(conflict) => Some(earlier_of(found, *conflict)),
+            None => Some(found),
+        }
+    }
+
+    // The last time step at which these two agents can have their first conflict so that it comes before the one that is known:
+    // from the end of the longer path on they stay where they are.
+    fn last_worth(&self, first: usize, second: usize, known: Option<Conflict>) -> u32
+        requires agents { first < second }
+        requires plan { second < length self.now }
         ensures small { result ≤ 1000000 }
+        ensures none { NoneBefore conflict_rank (IsConflictOfPair self.now first second) ((result + 1) ∷ [])
+            → (c : Conflict) → IsConflictOfPair self.now first second c → ¬ IsEarlier c known }
     {
-        let mut longest = 0;
-        for path in self.paths() {
-            longest = longest.max(path.cost());
+        let longer = self.paths()[first].cost().max(self.paths()[second].cost());
+        match known {
+            Some(conflict) => longer.min(conflict.time()),
+            None => longer,
         }
-        longest
     }
 
-    /// The first conflict at a time step, if there is none earlier.
-    fn conflict_at(&self, time: u32) -> Option<Conflict>
-        requires { NoneBefore conflict_rank (IsConflict self.now) (time ∷ []) }
-        ensures { MatchOption result (NoneBefore conflict_rank (IsConflict self.now) ((time + 1) ∷ [])) (λ c. IsFirstConflict self.now c) }
+    // The first conflict of these two agents, if there is one up to the last of these time steps; they have none before the first.
+    fn first_of_pair(&self, first: usize, second: usize, from: u32, last: u32) -> Option<Conflict>
+        requires agents { first < second }
+        requires plan { second < length self.now }
+        requires end { last ≤ 1000000 }
+        requires before { NoneBefore conflict_rank (IsConflictOfPair self.now first second) (from ∷ []) }
+        ensures { MatchOption result (NoneBefore conflict_rank (IsConflictOfPair self.now first second) ((last + 1) ∷ []))
+            (λ c. IsLeast conflict_rank (IsConflictOfPair self.now first second) c) }
     {
-        if let Some(found) = self.vertex_at(time) {
-            return Some(found);
-        }
-        if time == 0 {
-            return None;
-        }
-        self.swapping_at(time)
-    }
-
-    /// The first vertex conflict at a time step, if there is no conflict earlier.
-    fn vertex_at(&self, time: u32) -> Option<Conflict>
-        requires { NoneBefore conflict_rank (IsConflict self.now) (time ∷ []) }
-        ensures { MatchOption result (NoneBefore conflict_rank (IsConflict self.now) (time ∷ 1 ∷ [])) (λ c. IsFirstConflict self.now c) }
-    {
-        let agents = self.paths().len();
-        for first in 0..agents {
-            if let Some(found) = self.vertex_of(first, time) {
+        for time in from..last + 1 {
+            if let Some(found) = self.pair_at(first, second, time) {
                 return Some(found);
             }
         }
         None
     }
 
-    /// The first vertex conflict of this agent with one of a larger number, if there is no conflict before these.
-    fn vertex_of(&self, first: usize, time: u32) -> Option<Conflict>
-        requires agent { first < length self.now }
-        requires before { NoneBefore conflict_rank (IsConflict self.now) (time ∷ 0 ∷ first ∷ []) }
-        ensures { MatchOption result (NoneBefore conflict_rank (IsConflict self.now) (time ∷ 0 ∷ (first + 1) ∷ [])) (λ c. IsFirstConflict self.now c) }
+    // The conflict of these two agents at a time step, where they have none before it.
+    fn pair_at(&self, first: usize, second: usize, time: u32) -> Option<Conflict>
+        requires agents { first < second }
+        requires plan { second < length self.now }
+        requires before { NoneBefore conflict_rank (IsConflictOfPair self.now first second) (time ∷ []) }
+        ensures { MatchOption result (NoneBefore conflict_rank (IsConflictOfPair self.now first second) ((time + 1) ∷ []))
+            (λ c. IsLeast conflict_rank (IsConflictOfPair self.now first second) c) }
     {
-        let cell = self.at(first, time);
-        let agents = self.paths().len();
-        for second in first + 1..agents {
-            if self.at(second, time) == cell {
-                return Some(Conflict::Vertex {
-                    first,
-                    second,
-                    cell,
-                    time,
-                });
-            }
+        let (to, cell) = (self.at(first, time), self.at(second, time));
+        if to == cell {
+            return Some(Conflict::Vertex {
+                first,
+                second,
+                cell,
+                time,
+            });
         }
-        None
-    }
-
-    /// The first swapping conflict at a time step, if there is no conflict earlier and no vertex conflict then.
-    fn swapping_at(&self, time: u32) -> Option<Conflict>
-        requires positive { 0 < time }
-        requires before { NoneBefore conflict_rank (IsConflict self.now) (time ∷ 1 ∷ []) }
-        ensures { MatchOption result (NoneBefore conflict_rank (IsConflict self.now) ((time + 1) ∷ [])) (λ c. IsFirstConflict self.now c) }
-    {
-        let agents = self.paths().len();
-        for first in 0..agents {
-            if let Some(found) = self.swapping_of(first, time) {
-                return Some(found);
-            }
-        }
-        None
-    }
-
-    /// The first swapping conflict of this agent with one of a larger number, if there is no conflict before these.
-    fn swapping_of(&self, first: usize, time: u32) -> Option<Conflict>
-        requires agent { first < length self.now }
-        requires positive { 0 < time }
-        requires before { NoneBefore conflict_rank (IsConflict self.now) (time ∷ 1 ∷ first ∷ []) }
-        ensures { MatchOption result (NoneBefore conflict_rank (IsConflict self.now) (time ∷ 1 ∷ (first + 1) ∷ [])) (λ c. IsFirstConflict self.now c) }
-    {
-        let from = self.at(first, time - 1);
-        let to = self.at(first, time);
-        if from == to {
+        if time == 0 || self.at(first, time - 1) != cell || self.at(second, time - 1) != to {
             return None;
         }
-        let agents = self.paths().len();
-        for second in first + 1..agents {
-            if self.at(second, time - 1) == to && self.at(second, time) == from {
-                return Some(Conflict::Swapping {
-                    first,
-                    second,
-                    from,
-                    to,
-                    time,
-                });
-            }
-        }
-        None
+        Some(Conflict::Swapping {
+            first,
+            second,
+            from: cell,
+            to,
+            time,
+        })
     }
+}
+
+// The conflict that comes before the other.
+fn earlier_of(one: Conflict, other: Conflict) -> Conflict
+    ensures either { (result ≡ one) ⊎ (result ≡ other) }
+    ensures one { ¬ Precedes (conflict_rank one) (conflict_rank result) }
+    ensures other { ¬ Precedes (conflict_rank other) (conflict_rank result) }
+{
+    if other.is_before(&one) { other } else { one }
 }
 
 #[cfg(test)]

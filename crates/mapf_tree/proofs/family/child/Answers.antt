@@ -1,6 +1,6 @@
-use Rattle.std.proofs.Common.{◌≡◌, ◌++◌, ◌∷◌, [], get_or, set, ap, subst, ◌∙◌, arith}
+use Rattle.std.proofs.Common.{◌≡◌, ◌++◌, ◌∷◌, [], get_or, set, ap, subst, ◌∙◌, sym}
 use Rattle.mapf_tree.specs.Tree.{agent_on, constraint_on}
-use Rattle.mapf_tree.specs.Nodes.{Shown}
+use Rattle.mapf_tree.specs.Nodes.{Shown, IsConflictOf}
 use Rattle.mapf_tree.specs.Family.{IsOwnWithin, Leaves}
 use Rattle.mapf_tree.proofs.SideNodes.{no_side, side_shown}
 use Rattle.mapf_tree.proofs.family.child.Goals as goal
@@ -38,4 +38,4 @@ returns c m on shows is =
     (c.of.ensures.name ∙ c.in_ok-name.ensures ∙ ap (λ l. l ++ c.args.side ∷ []) (c.deref-2.ensures.value ∙ ap (λ (n : Shown). n.name) c.node.view_is))
     (c.of.ensures.constraints ∙ c.in_ok-constraints-2.ensures ∙ ap (λ l. set l c.agent_of-agent.result c.in_ok-constraints.constraints) (c.deref.ensures.value ∙ ap (λ (n : Shown). n.constraints) c.node.view_is))
     c.of.ensures.plan
-    c.of.ensures.conflict
+    (subst (λ found. IsConflictOf c.in_ok-plan.plan found) (sym c.of.ensures.conflict) c.first_conflict_of_changed-first.ensures)

@@ -1,4 +1,4 @@
-use Rattle.std.proofs.Common.{◌≡◌, [], ap, ◌∙◌, subst, length, replicate, arith}
+use Rattle.std.proofs.Common.{◌≡◌, [], ap, ◌∙◌, subst, sym, length, replicate, arith}
 use Rattle.mapf_plan.specs.Plan.{plan_cost}
 use Rattle.mapf_tree.specs.Nodes.{IsConflictOf}
 use Rattle.mapf_tree.proofs.RootNodes.{no_root, root_shown}
@@ -17,4 +17,4 @@ returns c =
     (c.of.ensures.name ∙ c.new.ensures.items)
     (c.of.ensures.constraints ∙ c.in_ok-constraints.ensures ∙ ap (λ n. replicate n []) agents)
     (c.of.ensures.plan ∙ c.of-plan.ensures)
-    (subst (λ plan. IsConflictOf plan c.of.result.conflict) c.of-plan.ensures c.of.ensures.conflict)
+    (subst (λ found. IsConflictOf c.args.paths.items found) (sym c.of.ensures.conflict) (subst (λ plan. IsConflictOf plan c.first_conflict-first.result) c.of-plan.ensures c.first_conflict-first.ensures))
