@@ -5,8 +5,6 @@ mod checker;
 pub mod laws;
 mod paths;
 mod steps;
-#[cfg(test)]
-mod tests;
 mod verdict;
 mod wording;
 

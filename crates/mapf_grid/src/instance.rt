@@ -2,8 +2,6 @@ ghost use Rattle.std.specs.Prelude.{◌≡◌, ◌≢◌, ◌<◌, ◌≤◌, le
 
 mod agents;
 mod taken;
-#[cfg(test)]
-mod tests;
 
 use crate::{Cell, InstanceFault, Map, Scenario};
 use agents::places_of;

@@ -4,8 +4,6 @@ ghost use Rattle.smallvec.specs.SmallVec.{HasRoomFor};
 
 mod header;
 mod reader;
-#[cfg(test)]
-mod tests;
 
 use crate::Cell;
 use smallvec::SmallVec;

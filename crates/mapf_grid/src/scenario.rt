@@ -2,8 +2,6 @@ ghost use Rattle.std.specs.Prelude.{◌≡◌};
 
 mod fields;
 mod reader;
-#[cfg(test)]
-mod tests;
 
 use crate::Bytes;
 use std::marker::Model;

@@ -24,6 +24,3 @@ pub use constraint::Constraint;
 pub use constraints::Constraints;
 pub use distances::Distances;
 pub use own_path::cheapest;
-
-#[cfg(test)]
-mod tests;

@@ -3,8 +3,6 @@
 mod counted;
 mod sink;
 mod source;
-#[cfg(test)]
-mod tests;
 mod whole;
 
 pub use counted::Counted;

@@ -4,8 +4,6 @@ mod cut;
 mod fault;
 mod number;
 mod reader;
-#[cfg(test)]
-mod tests;
 mod writer;
 
 pub use fault::TextFault;

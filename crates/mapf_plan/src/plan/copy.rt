@@ -36,26 +36,3 @@ fn push_copies(alloc: Global, to: &mut Vec<Path>, paths: &[Path]) -> Result<(), 
     }
     Ok(())
 }
-
-#[cfg(test)]
-mod tests {
-    use super::*;
-    use mapf_grid::Cell;
-    use std::test::Fail;
-
-    fn path(alloc: Global, start: u32, end: u32) -> Result<Path, Fail> {
-        Ok(Path::of(vec![in alloc; Cell::of(start), Cell::of(end)]?))
-    }
-
-    #[test]
-    fn copies_with_another_path_for_one_agent(rt: HostRuntime) -> Result<(), Fail> {
-        let alloc = rt.alloc();
-        let plan = Plan::of(vec![in alloc; path(alloc, 0, 1)?, path(alloc, 2, 3)?]?);
-        let copy = plan.copy(alloc)?;
-        assert_eq!(rt; copy.at(1, 1), Cell::of(3));
-        let other = copy.with(alloc, 1, path(alloc, 4, 5)?)?;
-        assert_eq!(rt; other.at(0, 1), Cell::of(1));
-        assert_eq!(rt; other.at(1, 1), Cell::of(5));
-        Ok(())
-    }
-}

@@ -1,5 +1,4 @@
-use super::Instance;
-use crate::{InstanceFault, Map, Scenario};
+use mapf_grid::{Instance, InstanceFault, Map, Scenario};
 use std::alloc::Global;
 use std::test::Fail;
 

@@ -1,4 +1,4 @@
-use crate::{Verdict, check, line};
+use mapf_check::{Verdict, check, line};
 use mapf_grid::{Cell, Instance, Map, Scenario};
 use mapf_plan::{Answer, Conflict, Path, Plan};
 use std::alloc::Global;

@@ -1,4 +1,4 @@
-use crate::{ScenFault, Scenario};
+use mapf_grid::{ScenFault, Scenario};
 use std::alloc::Global;
 use std::test::Fail;
 

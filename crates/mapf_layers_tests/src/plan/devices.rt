@@ -1,4 +1,4 @@
-use super::*;
+use mapf_plan::{Counted, ReadFault, Sink, Source, WriteFailed, read_whole, write_whole};
 use std::alloc::Global;
 use std::io;
 use std::io::{Error, ErrorKind, Read, Write};

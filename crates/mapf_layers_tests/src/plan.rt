@@ -1,0 +1,3 @@
+mod devices;
+mod plans;
+mod texts;
