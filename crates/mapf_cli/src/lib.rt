@@ -11,6 +11,3 @@ mod first_byte;
 pub use calls::{call, no_words};
 pub use check_fault::CheckFault;
 pub use checks::check_run;
-
-#[cfg(test)]
-mod tests;

@@ -11,8 +11,6 @@ mod rounds;
 mod run_fault;
 mod runs;
 mod solving;
-#[cfg(test)]
-mod tests;
 
 pub use answers::answer;
 pub use ask::Ask;

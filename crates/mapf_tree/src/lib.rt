@@ -17,8 +17,6 @@ mod progress;
 mod search;
 mod side;
 mod sides;
-#[cfg(test)]
-mod tests;
 mod turn;
 
 pub use alone::solve_alone;

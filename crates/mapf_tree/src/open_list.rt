@@ -78,18 +78,3 @@ impl OpenList {
         First::of(self.nodes.iter(), count)
     }
 }
-
-#[cfg(test)]
-mod tests {
-    use super::*;
-    use std::test::Fail;
-
-    #[test]
-    fn nothing_waits_at_first(rt: HostRuntime) -> Result<(), Fail> {
-        let mut waiting = OpenList::new(rt.alloc());
-        assert!(rt; waiting.is_empty());
-        assert!(rt; waiting.take_least().is_none());
-        assert!(rt; waiting.first(2).next().is_none());
-        Ok(())
-    }
-}

@@ -1,5 +1,0 @@
-mod devices;
-mod files;
-mod gates;
-mod refusals;
-mod worked;

@@ -1,0 +1,4 @@
+mod answers;
+mod devices;
+mod gates;
+mod refusals;

@@ -1,0 +1,123 @@
+//! The trees of two small problems, node by node: names, costs, paths and conflicts.
+
+ghost use Rattle.std.specs.Prelude.{IfOk, IfSome};
+ghost use Rattle.mapf_tree.specs.Search.{Planned};
+ghost use Rattle.mapf_tree.specs.Nodes.{Shows};
+
+use super::problem_of;
+use super::texts::{letters, push_conflict, push_paths};
+use crate::worked::{BAY, CHANGE};
+use mapf_grid::NoMemory;
+use mapf_tree::{Node, Problem, Side, child, root};
+use std::alloc::Global;
+use std::process::Abort;
+use std::test::Fail;
+
+// A line for each node, those on the left first: its name and cost, its paths, and its conflict.
+const BAY_TREE: &str = " 2: 1; 0 1 2; agents 0 and 1 on 1 at 1
+L 4: 1 0 1; 0 1 2; agents 0 and 1 swap 1 and 0 at 1
+LL 4: 1 2 1; 0 1 2; agents 0 and 1 swap 2 and 1 at 2
+LLL 4: 1 4 1; 0 1 2;
+R 3: 1; 0 0 1 2; agents 0 and 1 on 1 at 2
+RR 4: 1; 0 0 0 1 2; agents 0 and 1 on 1 at 3
+";
+
+const SQUARE_TREE: &str = " 2: 0 1; 1 0; agents 0 and 1 swap 0 and 1 at 1
+L 3: 0 0 1; 1 0; agents 0 and 1 on 0 at 1
+LL 4: 0 2 0 1; 1 0; agents 0 and 1 on 0 at 2
+LLL 4: 0 2 3 1; 1 0;
+LR 4: 0 0 1; 1 1 0; agents 0 and 1 swap 0 and 1 at 2
+R 3: 0 1; 1 1 0; agents 0 and 1 on 1 at 1
+RL 4: 0 0 1; 1 1 0; agents 0 and 1 swap 0 and 1 at 2
+RR 4: 0 1; 1 3 1 0; agents 0 and 1 on 1 at 2
+RRR 4: 0 1; 1 3 2 0;
+";
+
+// Under a smaller bound the tree ends earlier.
+const SQUARE_TREE_WITH_LESS: &str = " 2: 0 1; 1 0; agents 0 and 1 swap 0 and 1 at 1
+L 3: 0 0 1; 1 0; agents 0 and 1 on 0 at 1
+R 3: 0 1; 1 1 0; agents 0 and 1 on 1 at 1
+";
+
+// Writes the line of a node.
+fn write_node(rt: &impl Abort, alloc: Global, node: &Node, text: &mut String) -> Result<(), Fail> {
+    let key = node.key();
+    assert_eq!(rt; key.depth, key.name.len());
+    assert_eq!(rt; node.copy(alloc)?.key(), key);
+    write!(text, "{} {}:", letters(alloc, &key.name)?, key.cost)?;
+    push_paths(text, node.plan(alloc)?.paths())?;
+    if let Some(conflict) = node.conflict() {
+        push_conflict(text, conflict)?;
+    }
+    text.push('\n')?;
+    Ok(())
+}
+
+// The child on this side; none also where the node has no conflict.
+fn child_of(
+    alloc: Global,
+    problem: &Problem,
+    parent: &Node,
+    side: Side,
+) -> Result<Option<Node>, NoMemory>
+    requires { (m : Planned) × Shows problem.now.inst problem.now.bound parent.now m }
+    ensures { IfOk result (λ found. IfSome found (λ node. (m : Planned) × Shows problem.now.inst problem.now.bound node m)) }
+{
+    if parent.conflict().is_none() {
+        return Ok(None);
+    }
+    child(alloc, problem, parent, side)
+}
+
+// Writes the lines of a node and of those below it, if they are on no more than so many levels.
+fn write_nodes(
+    rt: &impl Abort,
+    alloc: Global,
+    problem: &Problem,
+    node: &Node,
+    levels: u8,
+    text: &mut String,
+) -> Result<(), Fail>
+    requires { (m : Planned) × Shows problem.now.inst problem.now.bound node.now m }
+{
+    assert!(rt; levels > 0);
+    write_node(rt, alloc, node, text)?;
+    for side in [Side::Left, Side::Right] {
+        if let Some(below) = child_of(alloc, problem, node, side)? {
+            write_nodes(rt, alloc, problem, &below, levels - 1, text)?;
+        }
+    }
+    Ok(())
+}
+
+// The lines of the whole tree.
+fn tree(rt: &impl Abort, alloc: Global, problem: &Problem) -> Result<String, Fail> {
+    let mut text = String::new(alloc);
+    let root = root(alloc, problem)?.ok_or("no root")?;
+    write_nodes(rt, alloc, problem, &root, 9, &mut text)?;
+    Ok(text)
+}
+
+#[test]
+fn corridor_with_bay(rt: HostRuntime) -> Result<(), Fail> {
+    let problem = problem_of(rt.alloc(), &BAY, 4)?;
+    assert_eq!(rt; tree(&rt, rt.alloc(), &problem)?.as_str(), BAY_TREE);
+    Ok(())
+}
+
+#[test]
+fn square(rt: HostRuntime) -> Result<(), Fail> {
+    let problem = problem_of(rt.alloc(), &CHANGE, 4)?;
+    assert_eq!(rt; tree(&rt, rt.alloc(), &problem)?.as_str(), SQUARE_TREE);
+    Ok(())
+}
+
+#[test]
+fn square_with_less(rt: HostRuntime) -> Result<(), Fail> {
+    let problem = problem_of(rt.alloc(), &CHANGE, 3)?;
+    assert_eq!(rt;
+        tree(&rt, rt.alloc(), &problem)?.as_str(),
+        SQUARE_TREE_WITH_LESS
+    );
+    Ok(())
+}
