@@ -22,34 +22,35 @@ fn two_agents(alloc: Global) -> Result<Instance, Fail> {
     )
 }
 
-fn path(rt: &impl Abort, alloc: Global, cells: &[u32]) -> Result<Path, Fail> {
-    let cells: Vec<Cell> = cells.iter().map(|number| Cell::of(*number)).collect(alloc)?;
-    assert!(rt; !cells.is_empty() && cells.len() < 100);
-    Ok(Path::of(cells))
+// The plan over these cells, named by their numbers.
+fn plan_of(rt: &impl Abort, alloc: Global, paths: &[&[u32]]) -> Result<Plan, Fail> {
+    let mut plan = Vec::new(alloc);
+    for cells in paths {
+        plan.push(path_of(rt, alloc, cells)?)?;
+    }
+    assert!(rt; !plan.is_empty() && plan.len() < 100);
+    Ok(Plan::of(plan))
 }
 
-fn one_path(rt: &impl Abort, alloc: Global, cells: &[u32]) -> Result<Plan, Fail> {
-    let mut paths = Vec::new(alloc);
-    paths.push(path(rt, alloc, cells)?)?;
-    Ok(Plan::of(paths))
-}
-
-fn two_paths(rt: &impl Abort, alloc: Global, first: &[u32], second: &[u32]) -> Result<Plan, Fail> {
-    let mut paths = Vec::new(alloc);
-    paths.push(path(rt, alloc, first)?)?;
-    paths.push(path(rt, alloc, second)?)?;
-    Ok(Plan::of(paths))
+fn path_of(rt: &impl Abort, alloc: Global, cells: &[u32]) -> Result<Path, Fail> {
+    let mut path = Vec::new(alloc);
+    for number in cells {
+        path.push(Cell::of(*number))?;
+    }
+    assert!(rt; !path.is_empty() && path.len() < 100);
+    Ok(Path::of(path))
 }
 
 // Checks a plan for the two agents, stated to cost so much.
 fn expect(
     rt: &impl Abort,
     alloc: Global,
-    plan: Plan,
+    paths: &[&[u32]],
     stated: u64,
     wanted: Verdict,
 ) -> Result<(), Fail> {
     let instance = two_agents(alloc)?;
+    let plan = plan_of(rt, alloc, paths)?;
     let answer = Answer::Plan { plan, stated };
     assert_eq!(rt; check(&instance, &answer), wanted);
     Ok(())
@@ -57,8 +58,8 @@ fn expect(
 
 #[test]
 fn valid_where_one_agent_makes_way(rt: HostRuntime) -> Result<(), Fail> {
-    let plan = two_paths(&rt, rt.alloc(), &[1, 4, 1], &[0, 1, 2])?;
-    expect(&rt, rt.alloc(), plan, 4, Verdict::Valid { cost: 4 })
+    let valid = Verdict::Valid { cost: 4 };
+    expect(&rt, rt.alloc(), &[&[1, 4, 1], &[0, 1, 2]], 4, valid)
 }
 
 #[test]
@@ -72,60 +73,54 @@ fn no_plan_is_no_fault(rt: HostRuntime) -> Result<(), Fail> {
 #[test]
 fn wrong_ends_of_paths(rt: HostRuntime) -> Result<(), Fail> {
     let alloc = rt.alloc();
-    let count = one_path(&rt, alloc, &[1])?;
-    expect(&rt, alloc, count, 0, Verdict::AgentCount { paths: 1 })?;
-    let start = two_paths(&rt, alloc, &[1], &[1, 2])?;
-    expect(&rt, alloc, start, 1, Verdict::WrongStart { agent: 1 })?;
-    let end = two_paths(&rt, alloc, &[1, 4], &[0, 1, 2])?;
-    expect(&rt, alloc, end, 3, Verdict::WrongEnd { agent: 0 })?;
-    let late = two_paths(&rt, alloc, &[1, 4, 1], &[0, 1, 2, 2])?;
-    expect(&rt, alloc, late, 5, Verdict::EndsLate { agent: 1 })
+    let count = Verdict::AgentCount { paths: 1 };
+    expect(&rt, alloc, &[&[1]], 0, count)?;
+    let start = Verdict::WrongStart { agent: 1 };
+    expect(&rt, alloc, &[&[1], &[1, 2]], 1, start)?;
+    let end = Verdict::WrongEnd { agent: 0 };
+    expect(&rt, alloc, &[&[1, 4], &[0, 1, 2]], 3, end)?;
+    let late = Verdict::EndsLate { agent: 1 };
+    expect(&rt, alloc, &[&[1, 4, 1], &[0, 1, 2, 2]], 5, late)
 }
 
 #[test]
 fn bad_steps(rt: HostRuntime) -> Result<(), Fail> {
     let alloc = rt.alloc();
-    let wall = two_paths(&rt, alloc, &[1], &[0, 3, 0, 1, 2])?;
-    let step = Verdict::BadStep { agent: 1, time: 1 };
-    expect(&rt, alloc, wall, 4, step)?;
-    let over_corner = two_paths(&rt, alloc, &[1, 2, 4, 1], &[0, 1, 2])?;
-    let step = Verdict::BadStep { agent: 0, time: 2 };
-    expect(&rt, alloc, over_corner, 5, step)?;
-    let outside = two_paths(&rt, alloc, &[1, 4, 7, 4, 1], &[0, 1, 2])?;
-    let step = Verdict::BadStep { agent: 0, time: 2 };
-    expect(&rt, alloc, outside, 6, step)
+    let onto_wall = Verdict::BadStep { agent: 1, time: 1 };
+    expect(&rt, alloc, &[&[1], &[0, 3, 0, 1, 2]], 4, onto_wall)?;
+    let over_corner = Verdict::BadStep { agent: 0, time: 2 };
+    expect(&rt, alloc, &[&[1, 2, 4, 1], &[0, 1, 2]], 5, over_corner)?;
+    let outside = Verdict::BadStep { agent: 0, time: 2 };
+    expect(&rt, alloc, &[&[1, 4, 7, 4, 1], &[0, 1, 2]], 6, outside)
 }
 
 #[test]
 fn conflicts(rt: HostRuntime) -> Result<(), Fail> {
     let alloc = rt.alloc();
-    let through_goal = two_paths(&rt, alloc, &[1], &[0, 1, 2])?;
-    let vertex = Conflict::Vertex {
+    let through_goal = Verdict::Conflict(Conflict::Vertex {
         first: 0,
         second: 1,
         cell: Cell::of(1),
         time: 1,
-    };
-    expect(&rt, alloc, through_goal, 2, Verdict::Conflict(vertex))?;
-    let changed_places = two_paths(&rt, alloc, &[1, 0, 1], &[0, 1, 2])?;
-    let swapping = Conflict::Swapping {
+    });
+    expect(&rt, alloc, &[&[1], &[0, 1, 2]], 2, through_goal)?;
+    let changed_places = Verdict::Conflict(Conflict::Swapping {
         first: 0,
         second: 1,
         from: Cell::of(1),
         to: Cell::of(0),
         time: 1,
-    };
-    expect(&rt, alloc, changed_places, 4, Verdict::Conflict(swapping))
+    });
+    expect(&rt, alloc, &[&[1, 0, 1], &[0, 1, 2]], 4, changed_places)
 }
 
 #[test]
 fn another_cost_is_stated(rt: HostRuntime) -> Result<(), Fail> {
-    let plan = two_paths(&rt, rt.alloc(), &[1, 4, 1], &[0, 1, 2])?;
     let cost = Verdict::WrongCost {
         stated: 5,
         found: 4,
     };
-    expect(&rt, rt.alloc(), plan, 5, cost)
+    expect(&rt, rt.alloc(), &[&[1, 4, 1], &[0, 1, 2]], 5, cost)
 }
 
 fn worded(rt: &impl Abort, alloc: Global, verdict: Verdict, wanted: &str) -> Result<(), Fail> {

@@ -63,9 +63,9 @@ fn no_plan(rt: HostRuntime) -> Result<(), Fail> {
     expect(&rt, rt.alloc(), LINE, b"none 1000000\n", "none 1000000")
 }
 
-// The fault of these bytes on the map `...`, if they have one.
-fn fault_of(alloc: Global, bytes: &[u8]) -> Result<Option<TextFault>, Fail> {
-    let map = Map::read(alloc, LINE)?;
+// The fault of these bytes on this map, if they have one.
+fn fault_of(alloc: Global, map: &[u8], bytes: &[u8]) -> Result<Option<TextFault>, Fail> {
+    let map = Map::read(alloc, map)?;
     Ok(read_answer(alloc, bytes, &map).err())
 }
 
@@ -100,24 +100,33 @@ fn tells_the_first_fault(rt: HostRuntime) -> Result<(), Fail> {
         ("none 1000000\n", None),
         ("", Some(TextFault::Head)),
     ] {
-        assert_eq!(rt; fault_of(rt.alloc(), text.as_bytes())?, fault, "{text:?}");
+        assert_eq!(rt;
+            fault_of(rt.alloc(), LINE, text.as_bytes())?,
+            fault,
+            "{text:?}"
+        );
     }
     Ok(())
 }
 
+// A letter for a fault: the line's digit, `h` for the head, and a point where there is none.
+fn letter(fault: Option<TextFault>) -> char {
+    match fault {
+        None => '.',
+        Some(TextFault::Head) => 'h',
+        Some(TextFault::Line { line: 2 }) => '2',
+        Some(TextFault::Line { line: 3 }) => '3',
+        Some(_) => '?',
+    }
+}
+
 #[test]
 fn tells_where_a_text_is_cut_off(rt: HostRuntime) -> Result<(), Fail> {
-    let map = Map::read(rt.alloc(), BAY)?;
     let text = b"plan 2 4\n1,0 1,1 1,0\n0,0 1,0 2,0\n";
+    let mut faults = String::new(rt.alloc());
     for length in 0..=text.len() {
-        let fault = match length {
-            0..=8 => Some(TextFault::Head),
-            9..=20 => Some(TextFault::Line { line: 2 }),
-            21..=32 => Some(TextFault::Line { line: 3 }),
-            _ => None,
-        };
-        let outcome = read_answer(rt.alloc(), &text[..length], &map);
-        assert_eq!(rt; outcome.err(), fault, "{length}");
+        faults.push(letter(fault_of(rt.alloc(), BAY, &text[..length])?))?;
     }
+    assert_eq!(rt; faults.as_str(), "hhhhhhhhh222222222222333333333333.");
     Ok(())
 }
