@@ -9,7 +9,7 @@ use std::alloc::Global;
 use std::thread::Threads;
 
 /// What is answered, with no gate.
-fn answered<R: Threads + Sync>(
+pub(super) fn answered<R: Threads + Sync>(
     rt: &R,
     alloc: Global,
     worked: &Worked,

@@ -11,17 +11,16 @@ use std::alloc::Global;
 use std::process::Abort;
 use std::test::Fail;
 
-// The cost and the paths of the plan that is found, or the bound where there is none.
-fn found(alloc: Global, problem: &Problem) -> Result<String, Fail> {
-    let mut text = String::new(alloc);
-    match solve_alone(alloc, problem)? {
+// Writes the cost and the paths of a plan, or the bound where there is none.
+fn push_answer(text: &mut String, answer: &Answer) -> Result<(), Fail> {
+    match answer {
         Answer::Plan { plan, stated } => {
-            write!(&mut text, "plan {stated}:")?;
-            push_paths(&mut text, plan.paths())?;
+            write!(text, "plan {stated}:")?;
+            push_paths(text, plan.paths())?;
         }
-        Answer::None { bound } => write!(&mut text, "none {bound}")?,
+        Answer::None { bound } => write!(text, "none {bound}")?,
     }
-    Ok(text)
+    Ok(())
 }
 
 // The search in the tree of these files finds this.
@@ -35,7 +34,9 @@ fn expect(
     requires { bound ≤ 1000000 }
 {
     let problem = problem_of(alloc, worked, bound)?;
-    assert_eq!(rt; found(alloc, &problem)?.as_str(), text);
+    let mut found = String::new(alloc);
+    push_answer(&mut found, &solve_alone(alloc, &problem)?)?;
+    assert_eq!(rt; found.as_str(), text);
     Ok(())
 }
 
@@ -65,37 +66,53 @@ fn the_left_of_two_solutions(rt: HostRuntime) -> Result<(), Fail> {
     expect(&rt, rt.alloc(), &CROSSING, 9, "plan 5: 1 1 4 7; 3 4 5;")
 }
 
+// The nodes that so many turns take, a full stop where the search is finished, and its answer.
+fn taken(alloc: Global, problem: &Problem, turns: u8) -> Result<String, Fail> {
+    let mut search = Search::new(alloc, problem)?;
+    let mut children = ByChild::new(alloc);
+    let mut text = String::new(alloc);
+    for _ in 0..turns {
+        let progress = search.go(&mut children, 1)?;
+        let last = search.last().ok_or("no node was taken")?;
+        text.push_str(letters(alloc, &last.name)?.as_str())?;
+        text.push_str(if progress == Progress::Finished {
+            ". "
+        } else {
+            ", "
+        })?;
+    }
+    push_answer(&mut text, search.answer().ok_or("no answer")?)?;
+    Ok(text)
+}
+
 // Turn by turn the search takes the nodes in the order of their keys.
 #[test]
 fn six_turns_of_the_corridor_with_bay(rt: HostRuntime) -> Result<(), Fail> {
-    let alloc = rt.alloc();
-    let problem = problem_of(alloc, &BAY, 4)?;
-    let mut search = Search::new(alloc, &problem)?;
-    let mut children = ByChild::new(alloc);
-    for name in ["", "R", "L", "LL", "RR", "LLL"] {
-        let progress = search.go(&mut children, 1)?;
-        let last = search.last().ok_or("no node was taken")?;
-        assert_eq!(rt; letters(alloc, &last.name)?.as_str(), name);
-        assert_eq!(rt; progress == Progress::Finished, name.len() == 3);
-    }
-    assert!(rt; search.answer().is_some());
+    let problem = problem_of(rt.alloc(), &BAY, 4)?;
+    assert_eq!(rt;
+        taken(rt.alloc(), &problem, 6)?.as_str(),
+        ", R, L, LL, RR, LLL. plan 4: 1 4 1; 0 1 2;"
+    );
+    Ok(())
+}
+
+// The fourth turn finds no node.
+#[test]
+fn three_turns_without_a_solution(rt: HostRuntime) -> Result<(), Fail> {
+    let problem = problem_of(rt.alloc(), &CHANGE, 3)?;
+    assert_eq!(rt;
+        taken(rt.alloc(), &problem, 4)?.as_str(),
+        ", L, R, R. none 3"
+    );
     Ok(())
 }
 
 #[test]
-fn three_turns_without_a_solution(rt: HostRuntime) -> Result<(), Fail> {
-    let alloc = rt.alloc();
-    let problem = problem_of(alloc, &CHANGE, 3)?;
-    let mut search = Search::new(alloc, &problem)?;
-    let mut children = ByChild::new(alloc);
-    assert!(rt; search.go(&mut children, 0)? == Progress::Working);
-    for _ in 0..3 {
-        assert!(rt; search.go(&mut children, 1)? == Progress::Working);
-    }
-    assert!(rt; search.go(&mut children, 1)? == Progress::Finished);
-    match search.answer() {
-        Some(Answer::None { bound }) => assert_eq!(rt; *bound, 3),
-        _ => return Err(Fail::from("a plan")),
-    }
+fn no_turn_takes_no_node(rt: HostRuntime) -> Result<(), Fail> {
+    let problem = problem_of(rt.alloc(), &CHANGE, 3)?;
+    let mut search = Search::new(rt.alloc(), &problem)?;
+    let progress = search.go(&mut ByChild::new(rt.alloc()), 0)?;
+    assert!(rt; progress == Progress::Working);
+    assert!(rt; search.last().is_none());
     Ok(())
 }
