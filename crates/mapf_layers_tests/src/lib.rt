@@ -1,6 +1,8 @@
-//! Tests of maps, plans, own paths and the checker, by their public calls.
+//! Tests of maps, plans, own paths, the checker and the board, by their public calls.
 #![tactic(auto)]
 
+#[cfg(test)]
+mod board;
 #[cfg(test)]
 mod check;
 #[cfg(test)]

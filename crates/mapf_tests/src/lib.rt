@@ -1,8 +1,6 @@
-//! Tests of the tree, the board, the solver and the program's checker, by their public calls.
+//! Tests of the tree, the solver and the checker's run, by their public calls.
 #![tactic(auto)]
 
-#[cfg(test)]
-mod board;
 #[cfg(test)]
 mod cli;
 #[cfg(test)]

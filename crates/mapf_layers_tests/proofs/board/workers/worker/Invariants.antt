@@ -1,7 +1,7 @@
 use Rattle.std.proofs.Common.{◌-◌}
 use Rattle.mapf_board.specs.Seats.{IsSeatOf, count_of, drawn_by}
 use Rattle.mapf_board.proofs.Ends.{next_of}
-use Rattle.mapf_tests.proofs.board.workers.worker.Given as goal
+use Rattle.mapf_layers_tests.proofs.board.workers.worker.Given as goal
 
 abbrev pub invariant-loop-n : goal.invariant-loop-n
 invariant-loop-n l = record {

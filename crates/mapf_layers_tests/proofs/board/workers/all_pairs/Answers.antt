@@ -1,7 +1,7 @@
 use Rattle.std.proofs.Common.{arith}
 use Rattle.mapf_board.specs.Seats.{IsSpent}
 use Rattle.mapf_board.proofs.Counted.{any_of_all}
-use Rattle.mapf_tests.proofs.board.workers.all_pairs.Goals as goal
+use Rattle.mapf_layers_tests.proofs.board.workers.all_pairs.Goals as goal
 
 pub returns : goal.returns
 returns g c =

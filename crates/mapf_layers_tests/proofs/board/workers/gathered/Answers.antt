@@ -1,7 +1,7 @@
 use Rattle.std.proofs.Common.{arith, ◌≡◌, ◌++◌, ◌∷◌, [], IfOk, length, length-append, ap, subst}
 use Rattle.mapf_board.specs.Seats.{IsSeatOf, IsSpent}
 use Rattle.mapf_board.proofs.Sums.{All_more, All_first, All_rest}
-use Rattle.mapf_tests.proofs.board.workers.gathered.Goals as goal
+use Rattle.mapf_layers_tests.proofs.board.workers.gathered.Goals as goal
 
 pub loop-one-preserved : goal.loop-one-preserved
 loop-one-preserved c =

@@ -1,6 +1,6 @@
 use Rattle.std.proofs.Common.{◌≡◌, ◌+◌, All, IfOk, length, vec_len}
 use Rattle.mapf_board.specs.Seats.{IsSeatOf, IsSpent}
-use Rattle.mapf_tests.proofs.board.workers.gathered.Given as goal
+use Rattle.mapf_layers_tests.proofs.board.workers.gathered.Given as goal
 
 abbrev pub invariant-loop-one : goal.invariant-loop-one
 invariant-loop-one l = record {
