@@ -42,8 +42,15 @@ impl Constraints {
         requires { HasTwoEnds constraint }
         ensures { IfOk result (λ more. (c : Constraint) → Contains more c ↔ ((c ≡ constraint) ⊎ Contains self.now c)) }
     {
-        let mut sorted = Vec::with_capacity(*self.sorted.allocator(), self.sorted.len() + 1)?;
-        sorted.extend_from_slice(self.sorted.as_slice())?;
+        self.copy()?.and(constraint)
+    }
+
+    /// This set with one constraint more, of which an edge has two ends.
+    pub fn and(self, constraint: Constraint) -> Result<Constraints, NoMemory>
+        requires { HasTwoEnds constraint }
+        ensures { IfOk result (λ more. (c : Constraint) → Contains more c ↔ ((c ≡ constraint) ⊎ Contains self c)) }
+    {
+        let Constraints { mut sorted } = self;
         if let Err(place) = sorted.binary_search(&constraint) {
             sorted.insert(place, constraint)?;
         }

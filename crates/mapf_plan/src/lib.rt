@@ -1,17 +1,21 @@
 //! Paths, plans and conflicts, the text of an answer, and devices that count their failures.
 #![tactic(auto)]
 
+mod agent_paths;
 mod answer;
 mod conflict;
 mod device;
+mod first_conflict;
 pub mod laws;
 mod path;
 mod plan;
 mod text;
 
+pub use agent_paths::AgentPaths;
 pub use answer::Answer;
 pub use conflict::Conflict;
 pub use device::{Counted, ReadFault, Sink, Source, WriteFailed, read_whole, write_whole};
+pub use first_conflict::first_conflict_of_changed;
 pub use path::Path;
 pub use plan::Plan;
 pub use text::{TextFault, read_answer, write};

@@ -1,10 +1,10 @@
-ghost use Rattle.std.specs.Prelude.{◌≡◌, ◌<◌, ◌≤◌, length, map};
-ghost use Rattle.mapf_plan.specs.Plan.{place, plan_cost};
+ghost use Rattle.std.specs.Prelude.{◌≡◌, ◌<◌, ◌≤◌, length, MatchOption};
+ghost use Rattle.mapf_plan.specs.Plan.{place, plan_cost, IsFirstConflict, HasNoConflict};
 
 mod copy;
-mod first_conflict;
 
-use crate::Path;
+use crate::first_conflict::first_conflict_of_changed;
+use crate::{AgentPaths, Conflict, Path};
 use mapf_grid::Cell;
 use std::marker::Model;
 
@@ -61,5 +61,26 @@ impl Plan {
         ensures { result ≡ place self.now agent time }
     {
         self.paths[agent].at(time)
+    }
+
+    /// The first conflict of all times: by time, a vertex conflict before a swapping one,
+    /// then by the smaller agent, and then by the larger. None if no two agents ever collide.
+    pub fn first_conflict(&self) -> Option<Conflict>
+        ensures { MatchOption result (HasNoConflict self.now) (λ c. IsFirstConflict self.now c) }
+    {
+        let _ = &self.paths;
+        first_conflict_of_changed(self, 0, 0)
+    }
+}
+
+impl AgentPaths for Plan {
+    ghost paths = { λ p. p };
+
+    fn agents(&self) -> usize {
+        self.paths().len()
+    }
+
+    fn path(&self, agent: usize) -> &Path {
+        &self.paths()[agent]
     }
 }

@@ -15,6 +15,7 @@ pub mod Keyed
 pub mod Examples
 pub mod Tables
 pub mod RootNodes
+pub mod Chains
 pub mod SideNodes
 pub mod Rising
 pub mod ShownPairs

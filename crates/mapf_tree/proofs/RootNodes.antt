@@ -8,6 +8,7 @@ use Rattle.mapf_low.specs.declared.constraint.Constraint.{Constraint}
 use Rattle.mapf_low.specs.Constraints.{IsOwnPath}
 use Rattle.mapf_tree.specs.Problem.{Problem}
 use Rattle.mapf_tree.specs.Tree.{HasPlan, root, root_pair, constraints_of}
+use Rattle.mapf_tree.specs.Changes.{AreChanges, unchanged}
 use Rattle.mapf_tree.specs.Nodes.{Shown, IsConflictOf}
 use Rattle.mapf_tree.specs.Family.{IsRoot, IsOwn, AreRootPaths}
 use Rattle.mapf_tree.proofs.Plans.{OwnAt, dear_plan}
@@ -28,12 +29,13 @@ no_root p paths are dear plan has =
 
 -- and if not, they are its plan
 pub root_shown : (p : Problem) (node : Shown) (paths : List (List ℕ)) → AreRootPaths p paths → plan_cost paths ≤ p.bound →
-    node.name ≡ [] → node.constraints ≡ replicate (length p.inst.starts) [] → node.plan ≡ paths → IsConflictOf paths node.conflict → IsRoot p (Some node)
-root_shown p node paths are within name sets plan conflict = (
+    node.name ≡ [] → node.changes ≡ [] → node.constraints ≡ replicate (length p.inst.starts) [] → node.plan ≡ paths → IsConflictOf paths node.conflict → IsRoot p (Some node)
+root_shown p node paths are within name changes sets plan conflict = (
   paths,
   record {
     member = record { inside = root has; plan = has };
     name = name;
+    changes = subst (AreChanges p.inst p.bound (root_pair p.inst) paths) (sym changes) (unchanged has);
     plan = plan;
     agents = ap length sets ∙ length-replicate (length p.inst.starts) [];
     sets = λ i h c. subst (λ xs. Contains (get_or xs i []) c ↔ Contains (constraints_of (root_pair p.inst) i) c) (sym sets) ((λ k. k), (λ k. k));

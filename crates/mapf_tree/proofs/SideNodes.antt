@@ -1,6 +1,6 @@
 -- From a search for the agent of one side of a node's conflict to that side of the tree.
 use Rattle.std.proofs.Common.{◌≡◌, ◌⊎◌, ◌↔◌, ℕ, ◌+◌, ◌<◌, ◌≤◌, List, [], ◌∷◌, ◌++◌, length, get_or, set, Option, Some, None, inl, inr, subst, sym, ap, ◌∙◌, arith, Contains, get_or-set_same, get_or-set_other}
-use Rattle.std.proofs.lemmas.List.{length-set, get_or_default}
+use Rattle.std.proofs.lemmas.List.{length-set}
 use Rattle.std.proofs.lemmas.List.Sums.{sum_by-set, get_or-le-sum_by}
 use native.Mathlib.Decide.{ℕ_discrete}
 use Rattle.mapf_plan.specs.declared.conflict.Conflict.{Conflict}
@@ -14,6 +14,7 @@ use Rattle.mapf_tree.specs.declared.side.Side.{Side}
 use Rattle.mapf_tree.specs.Problem.{Problem}
 use Rattle.mapf_tree.specs.Tree.{Pair, HasPlan, side, side_of, agent_on, constraint_on, constraints_of}
 use Rattle.mapf_tree.specs.Search.{Planned}
+use Rattle.mapf_tree.specs.Changes.{Changed, AreChanges, turned}
 use Rattle.mapf_tree.specs.Nodes.{Shown, Shows, IsConflictOf, IsSameSet}
 use Rattle.mapf_tree.specs.Family.{IsSide, IsOwn, IsOwnWithin, Leaves, NoneIsDearer}
 use Rattle.mapf_grid.proofs.Orders.{In}
@@ -38,12 +39,35 @@ IsWith-cons k cs old more same is x = ((λ h. forth ((is x).0 h)), (λ h. back (
     back (inl e) = (is x).1 (inl (sym e))
     back (inr h) = (is x).1 (inr ((same x).1 (Contains-In cs x h)))
 
+-- a set with one constraint more in front is one with it more
+with_front : (k : Constraint) (old : List Constraint) → IsWith k old (k ∷ old)
+with_front k old x = ((λ h. forth (In-Contains (k ∷ old) x h)), back)
+  where
+    forth : (k ≡ x) ⊎ In old x → (x ≡ k) ⊎ Contains old x
+    forth (inl e) = inl (sym e)
+    forth (inr h) = inr (Contains-In old x h)
+
+    back : (x ≡ k) ⊎ Contains old x → Contains (k ∷ old) x
+    back (inl e) = Contains-In (k ∷ old) x (inl (sym e))
+    back (inr h) = Contains-In (k ∷ old) x (inr (In-Contains old x h))
+
+-- one constraint more than a set of the same constraints has
+pub with_same : (k : Constraint) (old same more : List Constraint) → IsSameSet old same → IsWith k old more → IsWith k same more
+with_same k old same more is after x = ((λ h. forth ((after x).0 h)), (λ h. (after x).1 (back h)))
+  where
+    forth : (x ≡ k) ⊎ Contains old x → (x ≡ k) ⊎ Contains same x
+    forth (inl e) = inl e
+    forth (inr h) = inr ((is x).0 h)
+
+    back : (x ≡ k) ⊎ Contains same x → (x ≡ k) ⊎ Contains old x
+    back (inl e) = inl e
+    back (inr h) = inr ((is x).1 h)
+
 -- what was searched: agent a under one constraint k more than it had at the node
-pub record IsSearched (p : Problem) (node : Shown) (c : Conflict) (s : Side) (a limit : ℕ) (k : Constraint) (old more : List Constraint) (found : Option (List ℕ)) : Type 0 where
+pub record IsSearched (p : Problem) (node : Shown) (c : Conflict) (s : Side) (a limit : ℕ) (k : Constraint) (more : List Constraint) (found : Option (List ℕ)) : Type 0 where
   pub agent : a ≡ agent_on c s
   pub forbidden : k ≡ constraint_on c s
-  pub before : old ≡ get_or node.constraints a old
-  pub after : IsWith k old more
+  pub after : IsWith k (get_or node.constraints a []) more
   pub leaves : Leaves p node.plan a limit
   pub own : IsOwnWithin p limit a more found
 
@@ -55,6 +79,11 @@ IsOwn-set p limit i xs ys (Some path) same own = own_set _ _ _ _ xs ys path same
 -- no plan of a pair has a dearer path than the other agents leave of the bound
 pub none_is_dearer : NoneIsDearer
 none_is_dearer p pair plan i limit has leaves = omega (arith, leaves, has.within)
+
+-- with a path within what the others leave, the plan is within the bound
+pub within_bound : (p : Problem) (plan : List (List ℕ)) (a limit : ℕ) (more : List Constraint) (path : List ℕ) → a < length plan → Leaves p plan a limit → IsOwnWithin p limit a more (Some path) →
+    plan_cost (set plan a path) ≤ p.bound
+within_bound p plan a limit more path inside leaves own = omega (arith, sum_by-set cost plan a path [] inside, leaves, own.member.within)
 
 module _ (p : Problem) (node : Shown) (m : Planned) (c : Conflict) (s : Side) (shows : Shows p.inst p.bound node m) (is : node.conflict ≡ Some c) where
   -- the node branches on its plan's first conflict
@@ -72,21 +101,18 @@ module _ (p : Problem) (node : Shown) (m : Planned) (c : Conflict) (s : Side) (s
   there = side_of m.0 c s
 
   -- the set that the agent has on this side
-  set_there : (old more : List Constraint) → old ≡ get_or node.constraints (agent_on c s) old → IsWith (constraint_on c s) old more → IsSameSet more (constraints_of there (agent_on c s))
-  set_there old more before after =
-      let inside : agent_on c s < length node.constraints = omega (arith, agent_inside, shows.agents) in
+  set_there : (more : List Constraint) → IsWith (constraint_on c s) (get_or node.constraints (agent_on c s) []) more → IsSameSet more (constraints_of there (agent_on c s))
+  set_there more after =
       let in_pair : agent_on c s < length m.0.constraints = omega (arith, agent_inside, (grown_all p.inst p.bound m.0 shows.member.inside).agents) in
-      let at : old ≡ get_or node.constraints (agent_on c s) [] = before ∙ get_or_default node.constraints (agent_on c s) old [] inside in
-      let same : IsSameSet old (constraints_of m.0 (agent_on c s)) = subst (λ xs. IsSameSet xs (constraints_of m.0 (agent_on c s))) (sym at) (shows.sets (agent_on c s) agent_inside) in
       subst (IsSameSet more) (sym (get_or-set_same m.0.constraints (agent_on c s) (constraint_on c s ∷ constraints_of m.0 (agent_on c s)) [] in_pair))
-      (IsWith-cons (constraint_on c s) (constraints_of m.0 (agent_on c s)) old more same after)
+      (IsWith-cons (constraint_on c s) (constraints_of m.0 (agent_on c s)) (get_or node.constraints (agent_on c s) []) more (shows.sets (agent_on c s) agent_inside) after)
 
   -- what was found is the own path of the side's agent, or none
-  found_there : (a limit : ℕ) (k : Constraint) (old more : List Constraint) (found : Option (List ℕ)) → IsSearched p node c s a limit k old more found → IsOwnWithin p limit (agent_on c s) (constraints_of there (agent_on c s)) found
-  found_there a limit k old more found h = IsOwn-set p limit (agent_on c s) more (constraints_of there (agent_on c s)) found (same h) (subst (λ i. IsOwnWithin p limit i more found) h.agent h.own)
+  found_there : (a limit : ℕ) (k : Constraint) (more : List Constraint) (found : Option (List ℕ)) → IsSearched p node c s a limit k more found → IsOwnWithin p limit (agent_on c s) (constraints_of there (agent_on c s)) found
+  found_there a limit k more found h = IsOwn-set p limit (agent_on c s) more (constraints_of there (agent_on c s)) found (same h) (subst (λ i. IsOwnWithin p limit i more found) h.agent h.own)
     where
-      same : IsSearched p node c s a limit k old more found → IsSameSet more (constraints_of there (agent_on c s))
-      same h = set_there old more (h.before ∙ ap (λ i. get_or node.constraints i old) h.agent) (subst (λ x. IsWith x old more) h.forbidden h.after)
+      same : IsSearched p node c s a limit k more found → IsSameSet more (constraints_of there (agent_on c s))
+      same h = set_there more (subst (λ x. IsWith x (get_or node.constraints (agent_on c s) []) more) h.forbidden (subst (λ i. IsWith k (get_or node.constraints i []) more) h.agent h.after))
 
   -- the side's agent has a path in the node's plan
   in_plan : agent_on c s < length node.plan
@@ -117,8 +143,8 @@ module _ (p : Problem) (node : Shown) (m : Planned) (c : Conflict) (s : Side) (s
       omega (arith, changed, leaves)
 
   -- no path for the agent within what the others leave of the bound: the side isn't in the tree
-  pub no_side : (a limit : ℕ) (k : Constraint) (old more : List Constraint) → IsSearched p node c s a limit k old more None → IsSide p m c s None
-  no_side a limit k old more h plan has = found_there a limit k old more None h path (record { path = own.member.path; within = within; obeys = own.member.obeys })
+  pub no_side : (a limit : ℕ) (k : Constraint) (more : List Constraint) → IsSearched p node c s a limit k more None → IsSide p m c s None
+  no_side a limit k more h plan has = found_there a limit k more None h path (record { path = own.member.path; within = within; obeys = own.member.obeys })
     where
       path : List ℕ
       path = path_of plan (agent_on c s)
@@ -140,7 +166,7 @@ module _ (p : Problem) (node : Shown) (m : Planned) (c : Conflict) (s : Side) (s
   same_length : (plan : List (List ℕ)) (a : ℕ) (path : List ℕ) → plan ≡ set node.plan a path → length plan ≡ length p.inst.starts
   same_length plan a path e = ap length e ∙ length-set node.plan a path ∙ ap length shows.plan ∙ shows.member.plan.agents
 
-  module _ (a limit : ℕ) (k : Constraint) (old more : List Constraint) (path : List ℕ) (plan : List (List ℕ)) (searched : IsSearched p node c s a limit k old more (Some path)) (is_plan : plan ≡ set node.plan a path) where
+  module _ (a limit : ℕ) (k : Constraint) (more : List Constraint) (path : List ℕ) (plan : List (List ℕ)) (searched : IsSearched p node c s a limit k more (Some path)) (is_plan : plan ≡ set node.plan a path) where
     leaves : Leaves p node.plan (agent_on c s) limit
     leaves = subst (λ i. Leaves p node.plan i limit) searched.agent searched.leaves
 
@@ -148,7 +174,7 @@ module _ (p : Problem) (node : Shown) (m : Planned) (c : Conflict) (s : Side) (s
     replaced = ap (λ j. set node.plan j path) (sym searched.agent) ∙ sym is_plan
 
     found : IsOwnWithin p limit (agent_on c s) (constraints_of there (agent_on c s)) (Some path)
-    found = found_there a limit k old more (Some path) searched
+    found = found_there a limit k more (Some path) searched
 
     -- the plan has each agent's own path on this side
     all_there : (i : ℕ) → i < length p.inst.starts → OwnAt p.inst p.bound there i (path_of plan i)
@@ -161,15 +187,16 @@ module _ (p : Problem) (node : Shown) (m : Planned) (c : Conflict) (s : Side) (s
     within = omega (arith, costs_with limit path leaves, ap plan_cost replaced, found.member.within)
 
     -- so the new node stands for the side
-    pub side_shown : (new : Shown) → new.name ≡ node.name ++ s ∷ [] → new.constraints ≡ set node.constraints a more →
-        new.plan ≡ plan → IsConflictOf plan new.conflict → IsSide p m c s (Some new)
-    side_shown new name constraints shown conflict = (
+    pub side_shown : (new : Shown) → new.name ≡ node.name ++ s ∷ [] → new.changes ≡ node.changes ++ record { agent = a; constraint = k; path = path } ∷ [] →
+        new.constraints ≡ set node.constraints a (k ∷ get_or node.constraints a []) → new.plan ≡ plan → IsConflictOf plan new.conflict → IsSide p m c s (Some new)
+    side_shown new name changes constraints shown conflict = (
       plan,
       record {
         member = record { inside = side s shows.member.inside shows.member.plan first has; plan = has };
         name = name ∙ ap (λ l. l ++ s ∷ []) shows.name;
+        changes = subst (AreChanges p.inst p.bound there plan) (sym (changes ∙ ap (λ x. node.changes ++ x ∷ []) change)) (turned s shows.changes first has);
         plan = shown;
-        agents = ap length constraints ∙ length-set node.constraints a more ∙ shows.agents;
+        agents = ap length constraints ∙ length-set node.constraints a _ ∙ shows.agents;
         sets = λ i h. subst (λ l. IsSameSet (get_or l i []) (constraints_of there i)) (sym renamed) (sets i h (ℕ_discrete i (agent_on c s)));
         conflict = subst (λ q. IsConflictOf q new.conflict) (sym shown) conflict;
       },
@@ -178,20 +205,31 @@ module _ (p : Problem) (node : Shown) (m : Planned) (c : Conflict) (s : Side) (s
         has : HasPlan p.inst p.bound there plan
         has = record { agents = same_length plan a path is_plan; own = all_there; within = within }
 
-        renamed : new.constraints ≡ set node.constraints (agent_on c s) more
-        renamed = constraints ∙ ap (λ j. set node.constraints j more) searched.agent
+        -- what this turn changed
+        new_path : path ≡ path_of plan (agent_on c s)
+        new_path = sym (ap (λ l. path_of l (agent_on c s)) (sym replaced) ∙ get_or-set_same node.plan (agent_on c s) path [] in_plan)
 
-        at_agent : get_or (set node.constraints (agent_on c s) more) (agent_on c s) [] ≡ more
-        at_agent = get_or-set_same node.constraints (agent_on c s) more [] (omega (arith, agent_inside, shows.agents))
+        change : ◌≡◌ {A = Changed} (record { agent = a; constraint = k; path = path }) (record { agent = agent_on c s; constraint = constraint_on c s; path = path_of plan (agent_on c s) })
+        change = let agent : a ≡ agent_on c s = searched.agent in let forbidden : k ≡ constraint_on c s = searched.forbidden in let now : path ≡ path_of plan (agent_on c s) = new_path in cc
 
-        same : IsSameSet more (constraints_of there (agent_on c s))
-        same = set_there old more (searched.before ∙ ap (λ i. get_or node.constraints i old) searched.agent) (subst (λ x. IsWith x old more) searched.forbidden searched.after)
+        -- the set that the agent has now
+        own_set : List Constraint
+        own_set = constraint_on c s ∷ get_or node.constraints (agent_on c s) []
 
-        sets : (i : ℕ) → i < length p.inst.starts → Dec (i ≡ agent_on c s) → IsSameSet (get_or (set node.constraints (agent_on c s) more) i []) (constraints_of there i)
+        renamed : new.constraints ≡ set node.constraints (agent_on c s) own_set
+        renamed = constraints ∙ ap (λ j. set node.constraints j (k ∷ get_or node.constraints j [])) searched.agent ∙ ap (λ x. set node.constraints (agent_on c s) (x ∷ get_or node.constraints (agent_on c s) [])) searched.forbidden
+
+        at_agent : get_or (set node.constraints (agent_on c s) own_set) (agent_on c s) [] ≡ own_set
+        at_agent = get_or-set_same node.constraints (agent_on c s) own_set [] (omega (arith, agent_inside, shows.agents))
+
+        same : IsSameSet own_set (constraints_of there (agent_on c s))
+        same = set_there own_set (with_front (constraint_on c s) (get_or node.constraints (agent_on c s) []))
+
+        sets : (i : ℕ) → i < length p.inst.starts → Dec (i ≡ agent_on c s) → IsSameSet (get_or (set node.constraints (agent_on c s) own_set) i []) (constraints_of there i)
         sets i h (yes e) =
-            subst (λ j. IsSameSet (get_or (set node.constraints (agent_on c s) more) j []) (constraints_of there j)) (sym e)
+            subst (λ j. IsSameSet (get_or (set node.constraints (agent_on c s) own_set) j []) (constraints_of there j)) (sym e)
             (subst (λ l. IsSameSet l (constraints_of there (agent_on c s))) (sym at_agent) same)
         sets i h (no ne) =
-            let now : get_or (set node.constraints (agent_on c s) more) i [] ≡ get_or node.constraints i [] = get_or-set_other node.constraints (agent_on c s) i more [] ne in
+            let now : get_or (set node.constraints (agent_on c s) own_set) i [] ≡ get_or node.constraints i [] = get_or-set_other node.constraints (agent_on c s) i own_set [] ne in
             let cs : constraints_of there i ≡ constraints_of m.0 i = get_or-set_other m.0.constraints (agent_on c s) i _ [] ne in
             subst (λ l. IsSameSet l (constraints_of there i)) (sym now) (subst (IsSameSet (get_or node.constraints i [])) (sym cs) (shows.sets i h))

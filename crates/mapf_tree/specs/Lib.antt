@@ -9,6 +9,7 @@ pub mod Turns
 pub mod Worked
 pub mod Problem
 pub mod Ready
+pub mod Changes
 pub mod Nodes
 pub mod NodeFacts
 pub mod Family

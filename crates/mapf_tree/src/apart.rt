@@ -1,22 +1,27 @@
-ghost use Rattle.std.specs.Prelude.{◌≡◌};
+ghost use Rattle.std.specs.Prelude.{◌≡◌, IfOk};
 ghost use Rattle.mapf_plan.specs.Plan.{plan_cost};
 ghost use Rattle.mapf_tree.specs.Keys.{key_rank};
 ghost use Rattle.mapf_tree.specs.Nodes.{shown_key};
 
 use crate::{Key, Node};
+use mapf_grid::NoMemory;
 use mapf_plan::Plan;
 
 /// The key and the plan of a node that is taken.
-pub(crate) fn key_and_plan(node: Node) -> (Key, Plan)
-    ensures rank { key_rank result.0 ≡ shown_key node }
-    ensures plan { result.1 ≡ node.plan }
-    ensures cost { result.0.cost ≡ plan_cost node.plan }
+pub(crate) fn key_and_plan(node: Node) -> Result<(Key, Plan), NoMemory>
+    ensures rank { IfOk result (λ both. key_rank both.0 ≡ shown_key node) }
+    ensures plan { IfOk result (λ both. both.1 ≡ node.plan) }
+    ensures cost { IfOk result (λ both. both.0.cost ≡ plan_cost node.plan) }
 {
-    let Node {
-        key,
-        constraints: _constraints,
-        plan,
-        conflict: _conflict,
-    } = node;
-    (key, plan)
+    let plan = node.plan(node.allocator())?;
+    Ok((key_of(node), plan))
+}
+
+/// The key of a node that is taken.
+pub(crate) fn key_of(node: Node) -> Key
+    ensures rank { key_rank result ≡ shown_key node }
+    ensures cost { result.cost ≡ plan_cost node.plan }
+{
+    let Node { key, .. } = node;
+    key
 }

@@ -1,13 +1,13 @@
 //! The members of the constraint tree: its root, and the children of a node.
 
-ghost use Rattle.std.specs.Prelude.{◌≡◌, ◌<◌, ◌≤◌, ◌++◌, [], ◌∷◌, length, IfOk, IsSome, Some, None, MatchOption};
+ghost use Rattle.std.specs.Prelude.{◌≡◌, ◌<◌, ◌≤◌, [], length, IfOk, IsSome, Some, None, MatchOption};
 ghost use Rattle.mapf_plan.specs.declared.conflict.Conflict.{Conflict};
 ghost use Rattle.mapf_plan.specs.Plan.{plan_cost};
 ghost use Rattle.mapf_tree.specs.Search.{Planned};
 ghost use Rattle.mapf_tree.specs.Nodes.{Shows};
 ghost use Rattle.mapf_tree.specs.Family.{AreRootPaths, IsOwn, IsOwnWithin, IsRoot, IsSide, Leaves};
 
-use crate::constraint_sets::{copies_but, none_for};
+use crate::change::Change;
 use crate::sides::{agent_of, constraint_of};
 use crate::{Node, Problem, Side};
 use mapf_grid::NoMemory;
@@ -34,14 +34,13 @@ pub fn root_with(
     requires { AreRootPaths problem.now paths.items }
     ensures { IfOk result (IsRoot problem.now) }
 {
-    let agents = problem.instance().agents();
+    // An instance has one agent at least, and at most 1,000.
+    let _agents = problem.instance().agents();
     let plan = Plan::of(paths);
     if plan.cost() > u64::from(problem.bound()) {
         return Ok(None);
     }
-    let constraints = none_for(alloc, agents)?;
-    let first = plan.first_conflict();
-    Ok(Some(Node::of(Vec::new(alloc), constraints, plan, first)))
+    Ok(Some(Node::root(alloc, plan)?))
 }
 
 /// The child of a node of the tree on one side of its conflict; none exactly where that isn't in the tree.
@@ -58,17 +57,18 @@ pub fn child(
 {
     let conflict = node.conflict().unwrap();
     let agent = agent_of(&conflict, side);
-    let forbidden = constraint_of(&conflict, side);
-    let constraints = node.constraints[agent].with(forbidden)?;
-    let limit = left_for(problem, &node.plan, agent);
+    let constraint = constraint_of(&conflict, side);
+    let constraints = node.constraints(alloc, agent)?.and(constraint)?;
+    let limit = left_for(problem, node, agent);
     let Some(path) = own_path(alloc, problem, agent, &constraints, limit)? else {
         return Ok(None);
     };
-    let plan = node.plan.with(alloc, agent, path)?;
-    let constraints = copies_but(alloc, &node.constraints, agent, constraints)?;
-    let name = longer(alloc, &node.key.name, side)?;
-    let first = plan.first_conflict_of_changed(agent, conflict.time());
-    Ok(Some(Node::of(name, constraints, plan, first)))
+    let change = Change {
+        agent,
+        constraint,
+        path,
+    };
+    Ok(Some(node.changed(alloc, side, change)?))
 }
 
 /// An agent's own path under no constraints; none exactly where it may take no path.
@@ -96,13 +96,14 @@ fn root_paths(alloc: Global, problem: &Problem) -> Result<Option<Vec<Path>>, NoM
 }
 
 // What the other agents' paths leave of the bound: with a dearer path of this agent no plan is in the tree.
-fn left_for(problem: &Problem, plan: &Plan, agent: usize) -> u32
-    requires agent { agent < length plan.now }
-    requires within { plan_cost plan.now ≤ problem.now.bound }
-    ensures leaves { Leaves problem.now plan.now agent result }
+fn left_for(problem: &Problem, node: &Node, agent: usize) -> u32
+    requires agent { agent < length node.now.plan }
+    requires within { plan_cost node.now.plan ≤ problem.now.bound }
+    ensures leaves { Leaves problem.now node.now.plan agent result }
     ensures small { result ≤ 1000000 }
+    ensures bounded { problem.now.bound ≤ 1000000 }
 {
-    let others = plan.cost() - u64::from(plan.paths()[agent].cost());
+    let others = node.key().cost - u64::from(node.path(agent).cost());
     (u64::from(problem.bound()) - others) as u32
 }
 
@@ -128,13 +129,4 @@ fn own_path(
         constraints,
         limit,
     )
-}
-
-// This name and one turn more.
-fn longer(alloc: Global, name: &[Side], turn: Side) -> Result<Vec<Side>, NoMemory>
-    ensures { IfOk result (λ more. more.items ≡ name.now ++ turn ∷ []) }
-{
-    let mut more = name.to_vec(alloc)?;
-    more.push(turn)?;
-    Ok(more)
 }

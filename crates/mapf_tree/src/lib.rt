@@ -4,8 +4,10 @@
 mod alone;
 mod apart;
 mod by_key;
+mod chain;
+mod change;
 mod children;
-mod constraint_sets;
+mod current_paths;
 mod family;
 mod first;
 mod key;

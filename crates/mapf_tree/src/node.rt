@@ -1,63 +1,136 @@
-ghost use Rattle.std.specs.Prelude.{◌≡◌, IfOk};
+ghost use Rattle.std.specs.Prelude.{◌≡◌, ◌↔◌, ◌+◌, ◌<◌, ◌≤◌, [], ◌∷◌, ◌++◌, length, replicate, slice_get, slice_set, slice_index_or, map, Some, IfOk, IsSome, MatchOption, Contains};
+ghost use Rattle.std.specs.Arc.{arc_value};
+ghost use Rattle.mapf_plan.specs.Plan.{path_of, plan_cost};
+ghost use Rattle.mapf_tree.specs.Changes.{Changed};
 
-use crate::constraint_sets::copies;
+use crate::chain::{constraints_after, path_after, paths_after, shared};
+use crate::change::Change;
+use crate::current_paths::CurrentPaths;
 use crate::{Key, Side};
 use mapf_grid::NoMemory;
-use mapf_low::Constraints;
-use mapf_plan::{Conflict, Plan};
+use mapf_low::{Constraint, Constraints};
+use mapf_plan::{Conflict, Path, Plan, first_conflict_of_changed};
 use std::alloc::Global;
 use std::marker::Model;
+use std::sync::Arc;
 
 /// A node of the constraint tree: a name, constraints for each agent, and the plan of the agents' own paths.
+///
+/// It keeps the root's plan and what each turn of its name changed, and shares both with the nodes beside and above it.
 #[derive(Drop)]
 pub struct Node {
     pub(crate) key: Key,
-    pub(crate) constraints: Vec<Constraints>,
-    pub(crate) plan: Plan,
-    pub(crate) conflict: Option<Conflict>,
+    root: Arc<Plan>,
+    changes: Vec<Arc<Change>>,
+    conflict: Option<Conflict>,
 }
 
 impl Model for Node {
-    ghost use Rattle.std.specs.Prelude.{◌≡◌, length};
-    ghost use Rattle.mapf_plan.specs.Plan.{plan_cost};
-    ghost use Rattle.mapf_tree.specs.Nodes.{Shown, IsConflictOf};
+    ghost use Rattle.std.specs.Prelude.{map};
+    ghost use Rattle.std.specs.Arc.{arc_value};
+    ghost use Rattle.mapf_tree.specs.Nodes.{Shown, shown_of};
     ghost use Rattle.mapf_tree.specs.NodeFacts.{AgreesWith};
 
     ghost Value = { Shown };
 
-    ghost view = { λ n. record { name = n.key.name.items; constraints = n.constraints.items; plan = n.plan; conflict = n.conflict } };
+    ghost view = { λ n. shown_of n.key.name.items n.root.value (map arc_value n.changes.items) n.conflict };
 
-    ghost invariant = { λ n. AgreesWith n.key.cost n.key.depth n.key.name.items n.plan n.conflict };
+    ghost invariant = { λ n. AgreesWith n.key.cost n.key.depth (shown_of n.key.name.items n.root.value (map arc_value n.changes.items) n.conflict) };
 }
 
 impl Node {
     ghost use Rattle.mapf_tree.specs.Keys.{key_rank};
     ghost use Rattle.mapf_tree.specs.Nodes.{shown_key, IsConflictOf};
 
-    /// The node of this name, these constraints, this plan and the plan's first conflict.
-    pub(crate) fn of(
-        name: Vec<Side>,
-        constraints: Vec<Constraints>,
-        plan: Plan,
-        conflict: Option<Conflict>,
-    ) -> Node
-        requires { IsConflictOf plan conflict }
-        ensures name { result.name ≡ name.items }
-        ensures constraints { result.constraints ≡ constraints.items }
-        ensures plan { result.plan ≡ plan }
-        ensures conflict { result.conflict ≡ conflict }
+    /// The node of no turn: no agent has a constraint, and this is the plan.
+    pub(crate) fn root(alloc: Global, plan: Plan) -> Result<Node, NoMemory>
+        ensures name { IfOk result (λ n. n.name ≡ []) }
+        ensures changes { IfOk result (λ n. n.changes ≡ []) }
+        ensures constraints { IfOk result (λ n. n.constraints ≡ replicate (length plan) []) }
+        ensures plan { IfOk result (λ n. n.plan ≡ plan) }
+        ensures conflict { IfOk result (λ n. IsConflictOf plan n.conflict) }
     {
+        let conflict = plan.first_conflict();
         let key = Key {
             cost: plan.cost(),
+            depth: 0,
+            name: Vec::new(alloc),
+        };
+        Ok(Node {
+            key,
+            root: Arc::new(alloc, plan)?,
+            changes: Vec::new(alloc),
+            conflict,
+        })
+    }
+
+    /// The node one turn further.
+    pub(crate) fn changed(
+        &self,
+        alloc: Global,
+        side: Side,
+        change: Change,
+    ) -> Result<Node, NoMemory>
+        requires agent { change.agent < length self.now.plan }
+        requires conflict { IsSome self.now.conflict }
+        requires small { plan_cost (slice_set self.now.plan change.agent change.path) ≤ 1000000 }
+        ensures name { IfOk result (λ n. n.name ≡ self.now.name ++ side ∷ []) }
+        ensures changes { IfOk result (λ n. n.changes ≡ self.now.changes ++ change ∷ []) }
+        ensures constraints { IfOk result (λ n. n.constraints ≡ slice_set self.now.constraints change.agent (change.constraint ∷ slice_index_or self.now.constraints change.agent [])) }
+        ensures plan { IfOk result (λ n. n.plan ≡ slice_set self.now.plan change.agent change.path) }
+        ensures conflict { IfOk result (λ n. IsConflictOf (slice_set self.now.plan change.agent change.path) n.conflict) }
+    {
+        let conflict = self.first_conflict_with(alloc, change.agent, &change.path)?;
+        let key = self.key_with(alloc, side, change.agent, &change.path)?;
+        let mut changes = shared(alloc, &self.changes)?;
+        changes.push(Arc::new(alloc, change)?)?;
+        Ok(Node {
+            key,
+            root: Arc::try_clone(&self.root)?,
+            changes,
+            conflict,
+        })
+    }
+
+    // The key one turn further, where an agent's path is another.
+    fn key_with(
+        &self,
+        alloc: Global,
+        side: Side,
+        agent: usize,
+        path: &Path,
+    ) -> Result<Key, NoMemory>
+        requires agent { agent < length self.now.plan }
+        requires small { plan_cost (slice_set self.now.plan agent path.now) ≤ 1000000 }
+        ensures cost { IfOk result (λ key. key.cost ≡ plan_cost (slice_set self.now.plan agent path.now)) }
+        ensures depth { IfOk result (λ key. key.depth ≡ length self.now.name + 1) }
+        ensures name { IfOk result (λ key. key.name.items ≡ self.now.name ++ side ∷ []) }
+    {
+        let mut name = self.key.name.as_slice().to_vec(alloc)?;
+        name.push(side)?;
+        let others = self.key.cost - u64::from(self.path(agent).cost());
+        Ok(Key {
+            cost: others + u64::from(path.cost()),
             depth: name.len(),
             name,
-        };
-        Node {
-            key,
-            constraints,
-            plan,
-            conflict,
-        }
+        })
+    }
+
+    // The first conflict where an agent's path is another: the other agents have none before the time of this node's.
+    fn first_conflict_with<'a>(
+        &'a self,
+        alloc: Global,
+        agent: usize,
+        path: &'a Path,
+    ) -> Result<Option<Conflict>, NoMemory>
+        requires agent { agent < length self.now.plan }
+        requires conflict { IsSome self.now.conflict }
+        ensures { IfOk result (IsConflictOf (slice_set self.now.plan agent path.now)) }
+    {
+        let time = self.conflict.unwrap().time();
+        let mut paths = self.paths(alloc)?;
+        paths.set(agent, path);
+        Ok(first_conflict_of_changed(&paths, agent, time))
     }
 
     /// Where the node stands in the order of a search.
@@ -76,14 +149,53 @@ impl Node {
         self.conflict
     }
 
+    /// What a turn of the name changed, turns from 0: the agent, what it is forbidden since, and its path from then on. None
+    /// from the name's length on.
+    pub fn change(&self, turn: usize) -> Option<(usize, Constraint, &Path)>
+        ensures change { MatchOption result (length self.now.changes ≤ turn)
+            (λ found. slice_get self.now.changes turn ≡ Some (record { agent = found.0; constraint = found.1; path = found.2.now })) }
+        ensures turns { length self.now.changes ≡ length self.now.name }
+    {
+        let change = self.changes.get(turn)?;
+        Some((change.agent, change.constraint, &change.path))
+    }
+
+    /// An agent's path: that of its last change, or the root's.
+    pub(crate) fn path(&self, agent: usize) -> &Path
+        requires { agent < length self.now.plan }
+        ensures { result.now ≡ path_of self.now.plan agent }
+    {
+        path_after(&self.root, &self.changes, agent)
+    }
+
+    /// The agents' paths.
+    fn paths(&self, alloc: Global) -> Result<CurrentPaths<'_>, NoMemory>
+        ensures { IfOk result (λ paths. paths ≡ self.now.plan) }
+    {
+        paths_after(alloc, &self.root, &self.changes)
+    }
+
+    /// What an agent is forbidden.
+    pub(crate) fn constraints(&self, alloc: Global, agent: usize) -> Result<Constraints, NoMemory>
+        requires { agent < length self.now.plan }
+        ensures { IfOk result (λ set. (c : _) → Contains set c ↔ Contains (slice_index_or self.now.constraints agent []) c) }
+    {
+        constraints_after(alloc, &self.changes, agent)
+    }
+
+    /// Where the node's memory is from.
+    pub(crate) fn allocator(&self) -> Global {
+        *self.changes.allocator()
+    }
+
     /// A copy of the node's plan.
     pub fn plan(&self, alloc: Global) -> Result<Plan, NoMemory>
         ensures { IfOk result (λ plan. plan ≡ self.now.plan) }
     {
-        self.plan.copy(alloc)
+        self.paths(alloc)?.plan(alloc)
     }
 
-    /// An equal node.
+    /// An equal node, which shares plan and changes with this one.
     pub fn copy(&self, alloc: Global) -> Result<Node, NoMemory>
         ensures { IfOk result (λ other. other ≡ self.now) }
     {
@@ -94,8 +206,8 @@ impl Node {
         };
         Ok(Node {
             key,
-            constraints: copies(alloc, &self.constraints)?,
-            plan: self.plan(alloc)?,
+            root: Arc::try_clone(&self.root)?,
+            changes: shared(alloc, &self.changes)?,
             conflict: self.conflict,
         })
     }

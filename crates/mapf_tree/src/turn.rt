@@ -3,7 +3,7 @@ ghost use Rattle.mapf_tree.specs.OpenList.{IsPutIfSome};
 ghost use Rattle.mapf_tree.specs.Turned.{IsTurned};
 ghost use Rattle.mapf_tree.specs.Waiting.{AllShow};
 
-use crate::apart::key_and_plan;
+use crate::apart::{key_and_plan, key_of};
 use crate::{Children, Key, Node, OpenList, Problem};
 use mapf_grid::NoMemory;
 use mapf_plan::Plan;
@@ -35,14 +35,13 @@ pub(crate) fn take_turn<C: Children>(
         return Ok(Turn::Empty);
     };
     if node.conflict().is_none() {
-        let (key, plan) = key_and_plan(node);
+        let (key, plan) = key_and_plan(node)?;
         return Ok(Turn::Solved { key, plan });
     }
     let (left, right) = children.both(problem, &node)?;
     put_if_some(waiting, left)?;
     put_if_some(waiting, right)?;
-    let (key, _plan) = key_and_plan(node);
-    Ok(Turn::Branched(key))
+    Ok(Turn::Branched(key_of(node)))
 }
 
 /// Puts a node in, if there is one.

@@ -1,4 +1,4 @@
-use Rattle.std.proofs.Common.{◌≡◌, [], ap, ◌∙◌, subst, sym, length, replicate, arith}
+use Rattle.std.proofs.Common.{[], ap, ◌∙◌, subst, length, replicate, arith}
 use Rattle.mapf_plan.specs.Plan.{plan_cost}
 use Rattle.mapf_tree.specs.Nodes.{IsConflictOf}
 use Rattle.mapf_tree.proofs.RootNodes.{no_root, root_shown}
@@ -11,10 +11,10 @@ returns-then-cost-from c =
 
 pub returns : goal.returns
 returns c =
-    let agents : c.agents-agents.result ≡ length c.args.problem.now.inst.starts = cc in
-    root_shown c.args.problem.now c.of.result c.args.paths.items c.requires
+    root_shown c.args.problem.now c.in_ok-root.field-0 c.args.paths.items c.requires
     (omega (arith, c.cost.ensures.cost, ap plan_cost c.of-plan.ensures))
-    (c.of.ensures.name ∙ c.new.ensures.items)
-    (c.of.ensures.constraints ∙ c.in_ok-constraints.ensures ∙ ap (λ n. replicate n []) agents)
-    (c.of.ensures.plan ∙ c.of-plan.ensures)
-    (subst (λ found. IsConflictOf c.args.paths.items found) (sym c.of.ensures.conflict) (subst (λ plan. IsConflictOf plan c.first_conflict-first.result) c.of-plan.ensures c.first_conflict-first.ensures))
+    c.in_ok-root.ensures.name
+    c.in_ok-root.ensures.changes
+    (c.in_ok-root.ensures.constraints ∙ ap (λ n. replicate n []) (ap length c.of-plan.ensures ∙ c.requires.each))
+    (c.in_ok-root.ensures.plan ∙ c.of-plan.ensures)
+    (subst (λ plan. IsConflictOf plan c.in_ok-root.field-0.conflict) c.of-plan.ensures c.in_ok-root.ensures.conflict)

@@ -3,11 +3,11 @@ use Rattle.mapf_tree.proofs.turn.take_turn.Goals as goal
 
 pub returns-then-is_none-clause-turned : goal.returns-then-is_none-clause-turned
 returns-then-is_none-clause-turned g c =
-    solved_case c.args.problem.now c.args.waiting.now c.take_least.new.self c.in-Some.node c.key_and_plan-key.result.0 c.key_and_plan-key.result.1 c.in-Some.ensures.taken c.in-Some.ensures.rising c.requires.nodes
-    (conflict_absent _ _ _ c.is_none.ensures c.conflict.ensures.conflict c.if-is_none.true) c.key_and_plan-key.ensures.rank c.key_and_plan-key.ensures.plan c.key_and_plan-key.ensures.cost
+    solved_case c.args.problem.now c.args.waiting.now c.take_least.new.self c.in-Some.node c.in_ok-key.key c.in_ok-key.plan c.in-Some.ensures.taken c.in-Some.ensures.rising c.requires.nodes
+    (conflict_absent _ _ _ c.is_none.ensures c.conflict.ensures.conflict c.if-is_none.true) c.in_ok-key.ensures.rank c.in_ok-key.ensures.plan c.in_ok-key.ensures.cost
 
 pub returns-clause-turned : goal.returns-clause-turned
 returns-clause-turned g c =
-    branched_case c.args.problem.now c.args.waiting.now c.take_least.new.self c.put_if_some.new.waiting c.put_if_some-2.new.waiting c.in-Some.node c.key_and_plan-key-2.result.0 c.in_ok-left.left c.in_ok-left.right
+    branched_case c.args.problem.now c.args.waiting.now c.take_least.new.self c.put_if_some.new.waiting c.put_if_some-2.new.waiting c.in-Some.node c.key_of.result c.in_ok-left.left c.in_ok-left.right
     c.in-Some.ensures.taken c.in-Some.ensures.rising c.requires.nodes (conflict_there _ _ _ c.is_none.ensures c.conflict.ensures.conflict c.if-is_none.false)
-    c.in_ok-left.ensures.left c.in_ok-left.ensures.right c.in_ok-put_if_some.ensures c.in_ok-put_if_some-2.ensures c.key_and_plan-key-2.ensures.rank
+    c.in_ok-left.ensures.left c.in_ok-left.ensures.right c.in_ok-put_if_some.ensures c.in_ok-put_if_some-2.ensures c.key_of.ensures.rank

@@ -1,0 +1,152 @@
+-- One change more at the end of a chain.
+use Rattle.std.proofs.Common.{◌≡◌, ◌≢◌, ◌⊎◌, ◌↔◌, ℕ, suc, ◌+◌, ◌<◌, ◌≤◌, List, [], ◌∷◌, ◌++◌, length, take, take_all, map, get_or, set, All, Option, Result, Ok, Err, IfOk, replicate, ap₂, inl, inr, refl, sym, ap, ◌∙◌, subst, arith, Contains, get_or-set_same, get_or-set_other}
+use Rattle.std.proofs.Math.Seq.{take-suc}
+use Rattle.std.proofs.lemmas.List.{length-set, length-map, length_push, get_or-map}
+use Rattle.std.proofs.lemmas.List.Elements.{All-push}
+use native.Mathlib.Decide.{ℕ_discrete}
+use Rattle.mapf_grid.proofs.Orders.{In}
+use Rattle.mapf_low.specs.declared.constraint.Constraint.{Constraint}
+use Rattle.mapf_plan.specs.Plan.{path_of, plan_cost}
+use Rattle.mapf_plan.specs.declared.conflict.Conflict.{Conflict}
+use Rattle.mapf_tree.specs.declared.side.Side.{Side}
+use Rattle.mapf_tree.specs.Nodes.{Shown, shown_of, IsConflictOf}
+use Rattle.mapf_tree.specs.NodeFacts.{AgreesWith}
+use Rattle.mapf_tree.specs.Changes.{Changed, changed_plan, changed_sets}
+use Rattle.mapf_tree.proofs.Members.{Contains-In, In-Contains}
+
+-- the last change is made last
+pub changed_plan-push : (plan : List (List ℕ)) (xs : List Changed) (x : Changed) → changed_plan plan (xs ++ x ∷ []) ≡ set (changed_plan plan xs) x.agent x.path
+changed_plan-push plan [] x = refl
+changed_plan-push plan (y ∷ xs) x = changed_plan-push (set plan y.agent y.path) xs x
+
+pub changed_sets-push : (sets : List (List Constraint)) (xs : List Changed) (x : Changed) → changed_sets sets (xs ++ x ∷ []) ≡ set (changed_sets sets xs) x.agent (x.constraint ∷ get_or (changed_sets sets xs) x.agent [])
+changed_sets-push sets [] x = refl
+changed_sets-push sets (y ∷ xs) x = changed_sets-push (set sets y.agent (y.constraint ∷ get_or sets y.agent [])) xs x
+
+-- no change adds an agent
+pub length-changed_plan : (plan : List (List ℕ)) (xs : List Changed) → length (changed_plan plan xs) ≡ length plan
+length-changed_plan plan [] = refl
+length-changed_plan plan (x ∷ xs) = length-changed_plan (set plan x.agent x.path) xs ∙ length-set plan x.agent x.path
+
+pub length-changed_sets : (sets : List (List Constraint)) (xs : List Changed) → length (changed_sets sets xs) ≡ length sets
+length-changed_sets sets [] = refl
+length-changed_sets sets (x ∷ xs) = length-changed_sets (set sets x.agent (x.constraint ∷ get_or sets x.agent [])) xs ∙ length-set sets x.agent _
+
+-- one more of a list's front
+pub taken_more : {X Y : Type 0} (f : X → Y) (xs : List X) (k : ℕ) (x : X) → k < length xs → x ≡ get_or xs k x → take (k + 1) (map f xs) ≡ take k (map f xs) ++ f x ∷ []
+taken_more f xs k x inside is =
+    let n : k + 1 ≡ suc k = omega arith in
+    ap (λ j. take j (map f xs)) n ∙ take-suc (map f xs) k (f x) (subst (λ l. k < l) (sym (length-map xs f)) inside)
+    ∙ ap (λ y. take k (map f xs) ++ y ∷ []) (get_or-map f xs k x (f x) inside ∙ ap f (sym is))
+
+-- an agent's path after one change more
+pub path_more : (plan : List (List ℕ)) (xs : List Changed) (x : Changed) (agent : ℕ) (old new : List ℕ) → agent < length plan → old ≡ path_of (changed_plan plan xs) agent →
+    (x.agent ≡ agent → new ≡ x.path) → (x.agent ≢ agent → new ≡ old) → new ≡ path_of (changed_plan plan (xs ++ x ∷ [])) agent
+path_more plan xs x agent old new inside is own other = go (ℕ_discrete x.agent agent) ∙ ap (λ p. path_of p agent) (sym (changed_plan-push plan xs x))
+  where
+    within : agent < length (changed_plan plan xs)
+    within = subst (λ n. agent < n) (sym (length-changed_plan plan xs)) inside
+
+    go : Dec (x.agent ≡ agent) → new ≡ path_of (set (changed_plan plan xs) x.agent x.path) agent
+    go (yes e) = own e ∙ sym (ap (λ a. path_of (set (changed_plan plan xs) a x.path) agent) e ∙ get_or-set_same (changed_plan plan xs) agent x.path [] within)
+    go (no n) = other n ∙ is ∙ sym (get_or-set_other (changed_plan plan xs) x.agent agent x.path [] (λ e. n (sym e)))
+
+-- an agent's constraints after one change more
+pub sets_more : (sets : List (List Constraint)) (xs : List Changed) (x : Changed) (agent : ℕ) (old new : List Constraint) → agent < length sets →
+    ((c : Constraint) → Contains old c ↔ Contains (get_or (changed_sets sets xs) agent []) c) →
+    (x.agent ≡ agent → (c : Constraint) → Contains new c ↔ ((c ≡ x.constraint) ⊎ Contains old c)) → (x.agent ≢ agent → new ≡ old) →
+    (c : Constraint) → Contains new c ↔ Contains (get_or (changed_sets sets (xs ++ x ∷ [])) agent []) c
+sets_more sets xs x agent old new inside is own other c =
+    subst (λ l. Contains new c ↔ Contains (get_or l agent []) c) (sym (changed_sets-push sets xs x)) (go (ℕ_discrete x.agent agent))
+  where
+    now : List (List Constraint)
+    now = changed_sets sets xs
+
+    within : agent < length now
+    within = subst (λ n. agent < n) (sym (length-changed_sets sets xs)) inside
+
+    more : List Constraint
+    more = x.constraint ∷ get_or now x.agent []
+
+    forth : x.agent ≡ agent → (c ≡ x.constraint) ⊎ Contains old c → Contains (x.constraint ∷ get_or now agent []) c
+    forth e (inl h) = Contains-In (x.constraint ∷ get_or now agent []) c (inl (sym h))
+    forth e (inr h) = Contains-In (x.constraint ∷ get_or now agent []) c (inr (In-Contains (get_or now agent []) c ((is c).0 h)))
+
+    back : x.agent ≡ agent → (x.constraint ≡ c) ⊎ In (get_or now agent []) c → Contains new c
+    back e (inl h) = ((own e) c).1 (inl (sym h))
+    back e (inr h) = ((own e) c).1 (inr ((is c).1 (Contains-In (get_or now agent []) c h)))
+
+    go : Dec (x.agent ≡ agent) → Contains new c ↔ Contains (get_or (set now x.agent more) agent []) c
+    go (yes e) =
+        let same : get_or (set now x.agent more) agent [] ≡ x.constraint ∷ get_or now agent [] = ap (λ a. get_or (set now a (x.constraint ∷ get_or now a [])) agent []) e ∙ get_or-set_same now agent (x.constraint ∷ get_or now agent []) [] within in
+        subst (λ l. Contains new c ↔ Contains l c) (sym same)
+        ((λ h. forth e (((own e) c).0 h)), (λ h. back e (In-Contains (x.constraint ∷ get_or now agent []) c h)))
+    go (no n) =
+        let same : get_or (set now x.agent more) agent [] ≡ get_or now agent [] = get_or-set_other now x.agent agent more [] (λ e. n (sym e)) in
+        subst (λ l. Contains new c ↔ Contains l c) (sym same) (subst (λ s. Contains s c ↔ Contains (get_or now agent []) c) (sym (other n)) (is c))
+
+-- one more of a chain's front, where the new one is known by its value
+pub chain_more : {X Y : Type 0} (f : X → Y) (xs : List X) (k : ℕ) (x : X) (y : Y) → k < length xs → x ≡ get_or xs k x → y ≡ f x → take (k + 1) (map f xs) ≡ take k (map f xs) ++ y ∷ []
+chain_more f xs k x y inside is e = taken_more f xs k x inside is ∙ ap (λ z. take k (map f xs) ++ z ∷ []) (sym e)
+
+-- the whole chain
+pub chain_whole : {X Y : Type 0} (f : X → Y) (xs : List X) (k : ℕ) → length xs ≤ k → take k (map f xs) ≡ map f xs
+chain_whole f xs k h = take_all k (map f xs) (subst (λ n. n ≤ k) (sym (length-map xs f)) h)
+
+-- what holds of a whole chain holds of each change
+pub chain_all : {X Y : Type 0} (P : Y → Type 0) (f : X → Y) (xs : List X) (k : ℕ) (x : X) (y : Y) → k < length xs → x ≡ get_or xs k x → y ≡ f x → All P (map f xs) → P y
+chain_all P f xs k x y inside is e all =
+    subst P (get_or-map f xs k x (f x) inside ∙ ap f (sym is) ∙ sym e) (all k (f x) (subst (λ n. k < n) (sym (length-map xs f)) inside))
+
+module _ (name : List Side) (root : List (List ℕ)) (xs : List Changed) (conflict : Option Conflict) (node : Shown) (is : shown_of name root xs conflict ≡ node) where
+  -- an agent of a node is one of the root
+  pub at_root : (agent : ℕ) (plan : List (List ℕ)) → plan ≡ root → agent < length node.plan → agent < length plan
+  at_root agent plan e inside = omega (arith, subst (λ (n : Shown). agent < length n.plan) (sym is) inside, length-changed_plan root xs, ap length e)
+
+  -- and so are those of its changes
+  pub all_at_root : (plan : List (List ℕ)) (changes : List Changed) → plan ≡ root → changes ≡ xs → All (λ x. x.agent < length (changed_plan root xs)) xs → All (λ x. x.agent < length plan) changes
+  all_at_root plan changes e f all =
+      subst (λ l. All (λ x. x.agent < length plan) l) (sym f)
+      (subst (λ n. All (λ x. x.agent < n) xs) (length-changed_plan root xs ∙ sym (ap length e)) all)
+
+  -- an agent's constraints, as they are gathered from the changes
+  pub sets_at : (agent : ℕ) (set : List Constraint) (changes : List Changed) → changes ≡ xs → agent < length node.plan →
+      ((agents : ℕ) → agent < agents → (x : Constraint) → Contains set x ↔ Contains (get_or (changed_sets (replicate agents []) changes) agent []) x) →
+      (x : Constraint) → Contains set x ↔ Contains (get_or node.constraints agent []) x
+  sets_at agent set changes f inside gathered x =
+      subst (λ (n : Shown). Contains set x ↔ Contains (get_or n.constraints agent []) x) is
+      (subst (λ l. Contains set x ↔ Contains (get_or (changed_sets (replicate (length root) []) l) agent []) x) f (gathered (length root) (at_root agent root refl inside) x))
+
+  module _ (root' : List (List ℕ)) (xs' : List Changed) (x : Changed) (e : root' ≡ root) (f : xs' ≡ xs ++ x ∷ []) where
+    -- with one change more the plan has another path for its agent
+    pub plan_turned : changed_plan root' xs' ≡ set node.plan x.agent x.path
+    plan_turned = ap₂ (λ plan l. changed_plan plan l) e f ∙ changed_plan-push root xs x ∙ ap (λ (n : Shown). set n.plan x.agent x.path) is
+
+    -- and the agent one constraint more
+    pub sets_turned : changed_sets (replicate (length root') []) xs' ≡ set node.constraints x.agent (x.constraint ∷ get_or node.constraints x.agent [])
+    sets_turned =
+        ap₂ (λ plan l. changed_sets (replicate (length plan) []) l) e f ∙ changed_sets-push (replicate (length root) []) xs x
+        ∙ ap (λ (n : Shown). set n.constraints x.agent (x.constraint ∷ get_or n.constraints x.agent [])) is
+
+    -- what is always so of a node is so of the one after it
+    pub agrees_turned : (sum turns sum' turns' : ℕ) (name' : List Side) (s : Side) (conflict' : Option Conflict) → AgreesWith sum turns (shown_of name root xs conflict) → x.agent < length node.plan →
+        sum' ≡ plan_cost (set node.plan x.agent x.path) → turns' ≡ length node.name + 1 → name' ≡ node.name ++ s ∷ [] → IsConflictOf (set node.plan x.agent x.path) conflict' →
+        AgreesWith sum' turns' (shown_of name' root' xs' conflict')
+    agrees_turned sum turns sum' turns' name' s conflict' agrees inside costs deep named first = record {
+      cost = costs ∙ ap plan_cost (sym plan_turned);
+      depth = deep ∙ sym (ap length named ∙ length_push node.name s);
+      conflict = subst (λ plan. IsConflictOf plan conflict') (sym plan_turned) first;
+      turned = ap length f ∙ length_push xs x ∙ ap (λ n. n + 1) (agrees.turned ∙ ap (λ (n : Shown). length n.name) is) ∙ sym (ap length named ∙ length_push node.name s);
+      agents = subst (λ n. All (λ y. y.agent < n) xs') (sym many) (subst (All (λ y. y.agent < length node.plan)) (sym f) (All-push (λ y. y.agent < length node.plan) xs x old inside));
+    }
+      where
+        many : length (changed_plan root' xs') ≡ length node.plan
+        many = ap length plan_turned ∙ length-set node.plan x.agent x.path
+
+        old : All (λ y. y.agent < length node.plan) xs
+        old = subst (λ (n : Shown). All (λ y. y.agent < length n.plan) xs) is agrees.agents
+
+-- what follows of an answer follows of what is answered
+pub if_ok : {A E : Type 0} (r : Result A E) (P Q : A → Type 0) → ((x : A) → P x → Q x) → IfOk r P → IfOk r Q
+if_ok (Ok x) P Q f h = f x h
+if_ok (Err e) P Q f h = h
