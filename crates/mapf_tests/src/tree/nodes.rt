@@ -5,7 +5,7 @@ ghost use Rattle.mapf_tree.specs.Search.{Planned};
 ghost use Rattle.mapf_tree.specs.Nodes.{Shows};
 
 use super::problem_of;
-use super::texts::{letters, push_conflict, push_paths};
+use super::texts::{letters, push_change, push_conflict, push_paths};
 use crate::worked::{BAY, CHANGE};
 use mapf_grid::NoMemory;
 use mapf_tree::{Node, Problem, Side, child, root};
@@ -119,5 +119,39 @@ fn square_with_less(rt: HostRuntime) -> Result<(), Fail> {
         tree(&rt, rt.alloc(), &problem)?.as_str(),
         SQUARE_TREE_WITH_LESS
     );
+    Ok(())
+}
+
+// A line for each turn that leads to the left child's left child's left child.
+const LEFT_CHANGES: &str = "agent 0 not on 1 at 1: 1 0 1;
+agent 0 not from 1 to 0 at 1: 1 2 1;
+agent 0 not from 2 to 1 at 2: 1 4 1;
+";
+
+// The node so many left turns below the root.
+fn left_node(alloc: Global, problem: &Problem, turns: u8) -> Result<Node, Fail>
+    ensures { IfOk result (λ node. (m : Planned) × Shows problem.now.inst problem.now.bound node m) }
+{
+    let mut node = root(alloc, problem)?.ok_or("no root")?;
+    for _ in 0..turns {
+        node = child_of(alloc, problem, &node, Side::Left)?.ok_or("no child")?;
+    }
+    Ok(node)
+}
+
+#[test]
+fn changes_on_the_left(rt: HostRuntime) -> Result<(), Fail> {
+    let problem = problem_of(rt.alloc(), &BAY, 4)?;
+    let node = left_node(rt.alloc(), &problem, 3)?;
+    let mut text = String::new(rt.alloc());
+    for turn in 0..3 {
+        let Some((agent, constraint, path)) = node.change(turn) else {
+            return Err(Fail::from("no change"));
+        };
+        push_change(&mut text, agent, constraint, path)?;
+        text.push('\n')?;
+    }
+    assert_eq!(rt; text.as_str(), LEFT_CHANGES);
+    assert!(rt; node.change(3).is_none());
     Ok(())
 }

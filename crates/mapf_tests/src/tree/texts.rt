@@ -1,5 +1,6 @@
 //! Names, paths and conflicts as text.
 
+use mapf_low::Constraint;
 use mapf_plan::{Conflict, Path};
 use mapf_tree::Side;
 use std::alloc::Global;
@@ -20,12 +21,38 @@ pub(super) fn letters(alloc: Global, name: &[Side]) -> Result<String, Fail> {
 // Each path's cells by their numbers, and a semicolon behind each path.
 pub(super) fn push_paths(text: &mut String, paths: &[Path]) -> Result<(), Fail> {
     for path in paths {
-        for cell in path.cells() {
-            write!(text, " {}", cell.number())?;
-        }
-        text.push(';')?;
+        push_path(text, path)?;
     }
     Ok(())
+}
+
+fn push_path(text: &mut String, path: &Path) -> Result<(), Fail> {
+    for cell in path.cells() {
+        write!(text, " {}", cell.number())?;
+    }
+    text.push(';')?;
+    Ok(())
+}
+
+// An agent, what it is forbidden, cells by their numbers, and its path from then on.
+pub(super) fn push_change(
+    text: &mut String,
+    agent: usize,
+    constraint: Constraint,
+    path: &Path,
+) -> Result<(), Fail> {
+    match constraint {
+        Constraint::Vertex { cell, time } => {
+            write!(text, "agent {agent} not on {} at {time}:", cell.number())?
+        }
+        Constraint::Edge { from, to, time } => write!(
+            text,
+            "agent {agent} not from {} to {} at {time}:",
+            from.number(),
+            to.number()
+        )?,
+    }
+    push_path(text, path)
 }
 
 // The conflict's agents, its cells by their numbers, and its time.
