@@ -1,4 +1,4 @@
-use Rattle.std.proofs.Common.{◌≡◌, ◌↔◌, ◌⊎◌, ℕ, [], ◌++◌, Result, MatchResult, Contains, insert, subst, sym, ◌∙◌, ap}
+use Rattle.std.proofs.Common.{◌≡◌, ◌↔◌, ◌⊎◌, ℕ, Result, MatchResult, Contains, insert, subst, sym, ◌∙◌, ap}
 use Rattle.mapf_low.specs.declared.constraint.Constraint.{Constraint}
 use Rattle.mapf_low.specs.Kept.{IsKept}
 use Rattle.mapf_low.proofs.Adding.{Adds, adds}
