@@ -1,7 +1,7 @@
 -- What a run over devices leaves, for readers and a writer that tell their bytes.
 use Rattle.std.specs.Prelude.{◌≡◌, ℕ, ◌<◌, ◌≤◌, Bool, true, false, List, length, take, Option, Some, None, IfSome, Result, Ok, Err}
 use Rattle.std.specs.Io.KnownBytes.{Appends, Keeps}
-use Rattle.mapf_solve.specs.Out.{IsText, IsRefusal}
+use Rattle.mapf_solve.specs.Out.{IsText, IsRefusal, IsBest, IsOnlyOut, IsWorkers}
 use Rattle.mapf_solve.specs.declared.ask.Ask.{Ask}
 use Rattle.mapf_solve.specs.declared.refusal.Refusal.{Refusal}
 use Rattle.mapf_solve.specs.declared.refusal.Refusal.TheVariants as refusal
@@ -54,6 +54,25 @@ Leaves map scen ask old new (Err (fault.WriteFailed taken)) =
 Leaves map scen ask old new (Err (fault.Refusal named)) = Keeps old new × RefusesFiles map scen ask named
 Leaves map scen ask old new (Err (fault.ReadFailed name)) = Keeps old new
 Leaves map scen ask old new (Err (fault.TooLong name)) = Keeps old new
+
+-- the same of what makes a text best: it is that of a plan that has no conflict and costs least of all such plans, or of `none`
+-- where no such plan costs at most the bound
+abbrev pub LeavesBest : (map scen : Option (List ℕ)) → Ask → (old new : Option (List ℕ)) → Result (Unit {0}) RunFault → Type 0
+LeavesBest map scen ask old new (Ok _) =
+    OfFiles map scen (λ m s. (text : List ℕ) × IsBest m s ask text × Appends old new text)
+LeavesBest map scen ask old new (Err (fault.WriteFailed taken)) =
+    OfFiles map scen (λ m s. (text : List ℕ) × IsBest m s ask text × (taken ≤ length text) × Appends old new (take taken text))
+LeavesBest map scen ask old new (Err other) = Unit {0}
+
+-- and of what any number of workers leaves: with each from 1 to 64 there is no other text and no other refusal
+abbrev pub LeavesOnly : (map scen : Option (List ℕ)) → Ask → (old new : Option (List ℕ)) → Result (Unit {0}) RunFault → Type 0
+LeavesOnly map scen ask old new (Ok _) =
+    OfFiles map scen (λ m s. (text : List ℕ) × IsOnlyOut m s ask (Ok text) × Appends old new text)
+LeavesOnly map scen ask old new (Err (fault.WriteFailed taken)) =
+    OfFiles map scen (λ m s. (text : List ℕ) × IsOnlyOut m s ask (Ok text) × (taken ≤ length text) × Appends old new (take taken text))
+LeavesOnly map scen ask old new (Err (fault.Refusal refusal.NoMemory)) = Unit {0}
+LeavesOnly map scen ask old new (Err (fault.Refusal named)) = OfFiles map scen (λ m s. IsWorkers ask → IsOnlyOut m s ask (Err named))
+LeavesOnly map scen ask old new (Err other) = Unit {0}
 
 -- which file is too long: the first that is, in the order in which they are read. After a failed read nothing is said of
 -- that file and those behind it, and nothing for want of memory.

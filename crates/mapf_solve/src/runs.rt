@@ -2,7 +2,7 @@
 
 ghost use Rattle.std.specs.Prelude.{◌<◌};
 ghost use Rattle.mapf_plan.specs.Device.{Counts};
-ghost use Rattle.mapf_solve.specs.Run.{is_read_failure, is_write_failure, Leaves, AreWithin};
+ghost use Rattle.mapf_solve.specs.Run.{is_read_failure, is_write_failure, Leaves, LeavesBest, LeavesOnly, AreWithin};
 
 use crate::{Ask, FileName, RunFault, answer, read_file};
 use mapf_board::NoGate;
@@ -34,6 +34,34 @@ pub fn run<R: Threads + Sync, M: Source, S: Source, O: Sink>(
     ensures within { AreWithin (M.remaining map.old) (S.remaining scen.old) result }
 
     // What was written is the text of what the readers gave.
+    ensures text { Leaves (M.remaining map.old) (S.remaining scen.old) ask (O.contents out.old) (O.contents out.new) result }
+
+    // It is the text of a plan without conflict that costs least of all such plans, or `none` exactly if none costs at most the
+    // bound.
+    ensures best { LeavesBest (M.remaining map.old) (S.remaining scen.old) ask (O.contents out.old) (O.contents out.new) result }
+
+    // With any number of workers from 1 to 64 the same text, or the same refusal.
+    ensures same { LeavesOnly (M.remaining map.old) (S.remaining scen.old) ask (O.contents out.old) (O.contents out.new) result }
+{
+    write_text_or_fault(rt, alloc, map, scen, out, ask)
+}
+
+/// The same, where nothing is said of other plans and other numbers of workers.
+fn write_text_or_fault<R: Threads + Sync, M: Source, S: Source, O: Sink>(
+    rt: &R,
+    alloc: Global,
+    map: &mut M,
+    scen: &mut S,
+    out: &mut O,
+    ask: Ask,
+) -> Result<(), RunFault>
+    requires map { M.failures map.old < u64.MAX }
+    requires scen { S.failures scen.old < u64.MAX }
+    requires out { O.failures out.old < u64.MAX }
+    ensures map { Counts (is_read_failure FileName.Map result) (M.failures map.old) (M.failures map.new) }
+    ensures scen { Counts (is_read_failure FileName.Scenario result) (S.failures scen.old) (S.failures scen.new) }
+    ensures out { Counts (is_write_failure result) (O.failures out.old) (O.failures out.new) }
+    ensures within { AreWithin (M.remaining map.old) (S.remaining scen.old) result }
     ensures text { Leaves (M.remaining map.old) (S.remaining scen.old) ask (O.contents out.old) (O.contents out.new) result }
 {
     let map = read_file(alloc, map, FileName::Map)?;

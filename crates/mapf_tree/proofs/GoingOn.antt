@@ -1,5 +1,5 @@
 -- A search over many turns, and its answer.
-use Rattle.std.proofs.Common.{◌≡◌, ◌⊎◌, ℕ, ◌+◌, List, [], ◌∷◌, Option, Some, None, Result, Ok, Err, IfOk, inl, inr, subst, sym, refl, ◌∙◌, arith, Contains}
+use Rattle.std.proofs.Common.{◌≡◌, ◌⊎◌, ℕ, ◌+◌, ◌<◌, ◌≤◌, List, [], ◌∷◌, Option, Some, None, Result, Ok, Err, IfOk, inl, inr, subst, sym, refl, ◌∙◌, arith, Contains}
 use Rattle.std.specs.Option.{ok_or}
 use Rattle.mapf_grid.specs.Instance.{Instance}
 use Rattle.mapf_grid.specs.declared.fault.NoMemory.{NoMemory}
@@ -23,19 +23,20 @@ pub record GoesOn (p : Problem) (from : Option (List ℕ)) (now : Searched) (n :
   pub further : (m : Planned) → IsMember p.inst p.bound m → IsReached from m → IsReached now.last m
   pub took : TakesBetween p from now.last n
 
+-- no pair is taken between a key and itself
+pub takes_none : (p : Problem) (last : Option (List ℕ)) → TakesBetween p last last 0
+takes_none p last = ([], tt, refl, λ m. ((λ c. absurd (In-Contains [] m c)), (λ k. absurd (k.2 k.1))))
+
 -- at first none
 pub goes_first : (s : Searched) → IsSearch s → s.outcome ≡ Ok None → GoesOn s.problem s.last s 0
 goes_first s h e =
-    record { same = refl; going = e; search = h; further = λ m i r. r; took = ([], tt, refl, λ m. ((λ c. absurd (In-Contains [] m c)), (λ k. absurd (k.2 k.1)))) }
+    record { same = refl; going = e; search = h; further = λ m i r. r; took = takes_none s.problem s.last }
 
--- and one more with each step
-pub goes_more : (p : Problem) (from : Option (List ℕ)) (now new : Searched) (n : ℕ) → GoesOn p from now n → new.problem ≡ now.problem → IsSearch new → IsStep now new (Ok Working) → GoesOn p from new (n + 1)
-goes_more p from now new n g e h step =
-    record { same = e ∙ g.same; going = step.0; search = h; further = λ m i r. (one.3 m i).1 (inl (g.further m i r)); took = (one.0 ∷ g.took.0, (fresh, g.took.1), omega (arith, g.took.2), λ m. ((λ c. forth m (In-Contains (one.0 ∷ g.took.0) m c)), (λ k. Contains-In (one.0 ∷ g.took.0) m (back m k.0 k.2 ((one.3 m k.0).0 k.1))))) }
+-- one pair more
+took_more : (p : Problem) (from : Option (List ℕ)) (now new : Searched) (n : ℕ) → GoesOn p from now n → TakesOne p now.last new.last → TakesBetween p from new.last (n + 1)
+took_more p from now new n g one =
+    (one.0 ∷ g.took.0, (fresh, g.took.1), omega (arith, g.took.2), λ m. ((λ c. forth m (In-Contains (one.0 ∷ g.took.0) m c)), (λ k. Contains-In (one.0 ∷ g.took.0) m (back m k.0 k.2 ((one.3 m k.0).0 k.1)))))
   where
-    one : TakesOne p now.last new.last
-    one = subst (λ q. TakesOne q now.last new.last) g.same step.1
-
     fresh : ¬ Contains g.took.0 one.0
     fresh c = one.2 ((g.took.3 one.0).0 c).1
 
@@ -47,6 +48,12 @@ goes_more p from now new n g e h step =
     back m i k (inl r) = inr (In-Contains g.took.0 m ((g.took.3 m).1 (i, r, k)))
     back m i k (inr e) = inl (sym e)
 
+-- and one more with each step
+pub goes_more : (p : Problem) (from : Option (List ℕ)) (now new : Searched) (n : ℕ) → GoesOn p from now n → new.problem ≡ now.problem → IsSearch new → IsStep now new (Ok Working) → GoesOn p from new (n + 1)
+goes_more p from now new n g e h step =
+    let one : TakesOne p now.last new.last = subst (λ q. TakesOne q now.last new.last) g.same step.1 in
+    record { same = e ∙ g.same; going = step.0; search = h; further = λ m i r. (one.3 m i).1 (inl (g.further m i r)); took = took_more p from now new n g one }
+
 -- as a step that doesn't finish does
 pub goes_on : (p : Problem) (from : Option (List ℕ)) (now new : Searched) (n : ℕ) (r : Progress) → ¬ (r ≡ Finished) → GoesOn p from now n → new.problem ≡ now.problem → IsSearch new → IsStep now new (Ok r) → GoesOn p from new (n + 1)
 goes_on p from now new n Working not_finished g e h step = goes_more p from now new n g e h step
@@ -55,6 +62,13 @@ goes_on p from now new n Finished not_finished g e h step = absurd (not_finished
 -- the pairs that were taken
 pub taken_between : (p : Problem) (from : Option (List ℕ)) (now : Searched) (n k : ℕ) → GoesOn p from now n → n ≡ k → TakesBetween now.problem from now.last k
 taken_between p from now n k g e = subst (λ q. TakesBetween q from now.last k) (sym g.same) (subst (λ j. TakesBetween p from now.last j) e g.took)
+
+-- with the step that gives the answer
+pub taken_at_end : (p : Problem) (from : Option (List ℕ)) (now new : Searched) (n turns : ℕ) → GoesOn p from now n → n < turns → new.problem ≡ now.problem → (new.last ≡ now.last) ⊎ TakesOne now.problem now.last new.last →
+    (k : ℕ) × (k ≤ turns) × TakesBetween new.problem from new.last k
+taken_at_end p from now new n turns g h e (inl same) = (n, omega (arith, h), subst (λ q. TakesBetween q from new.last n) (sym (e ∙ g.same)) (subst (λ l. TakesBetween p from l n) (sym same) g.took))
+taken_at_end p from now new n turns g h e (inr one) =
+    (n + 1, omega (arith, h), subst (λ q. TakesBetween q from new.last (n + 1)) (sym (e ∙ g.same)) (took_more p from now new n g (subst (λ q. TakesOne q now.last new.last) g.same one)))
 
 -- an answer that a search has is right
 pub answer_is_right : (s : Searched) (given : Answer) → IsSearch s → s.outcome ≡ Ok (Some given) → IsAnswerOf s.problem.inst s.problem.bound given

@@ -68,6 +68,10 @@ module _ (p : Problem) (last : Option (List ℕ)) (old : List Shown) (taken : Is
     now_or_before : (m : Planned) → IsMember p.inst p.bound m → IsReached (Some (key x)) m → IsReached last m ⊎ (m ≡ x)
     now_or_before m = reached_now p.inst p.bound last pairs.0 x at least m
 
+    -- x is in the tree
+    pub is_member : IsMember p.inst p.bound x
+    is_member = waited.member
+
     -- one pair more is taken
     pub takes_one : TakesOne p last (Some (key x))
     takes_one = (x, waited.member, waited.open_yet, λ m h. (now_or_before m h, reached_then p.inst p.bound last pairs.0 x at least m))
@@ -154,15 +158,24 @@ branched_lawful p old new last outcome k h e t =
     (subst (λ o. IsLawful p new (Some (key_rank k)) o) (sym e) (subst (λ r. IsTakenTo p (Some r) new × NoneSolves p (Some r)) (sym t.3) (to, none)), subst (λ r. TakesOne p last (Some r)) (sym t.3) one)
 
 -- it has the answer after a turn that took a solution
-pub solved_lawful : (p : Problem) (old new : List Shown) (last : Option (List ℕ)) (outcome : Result (Option Answer) NoMemory) (k : Key) (plan : List (List ℕ)) → IsLawful p old last outcome → outcome ≡ Ok None → IsTurned p old new (variant.Solved k plan) → IsLawful p new (Some (key_rank k)) (Ok (Some (answer.Plan plan k.cost)))
+pub solved_lawful : (p : Problem) (old new : List Shown) (last : Option (List ℕ)) (outcome : Result (Option Answer) NoMemory) (k : Key) (plan : List (List ℕ)) → IsLawful p old last outcome → outcome ≡ Ok None → IsTurned p old new (variant.Solved k plan) → IsLawful p new (Some (key_rank k)) (Ok (Some (answer.Plan plan k.cost))) × TakesOne p last (Some (key_rank k))
 solved_lawful p old new last outcome k plan h e t =
     let s = going p old last outcome h e in
     let to = taken_to p last old s.0 s.1 new t.0 t.1 in
     let is = solves p last old s.0 s.1 new t.0 t.1 t.2 in
-    (subst (λ r. IsTakenTo p (Some r) new) (sym t.3) to, (Some plan, subst (λ q. IsAnswer p.inst p.bound (Some q)) (sym t.4) is, ap (λ n. answer.Plan plan n) t.5))
+    let one = takes_one p last old s.0 s.1 new t.0 t.1 in
+    let stated : answer.Plan plan k.cost ≡ answer.Plan t.0.1 (plan_cost t.0.1) = ap (λ n. answer.Plan plan n) t.5 ∙ ap (λ q. answer.Plan q (plan_cost q)) t.4 in
+    (
+      (
+        subst (λ r. IsTakenTo p (Some r) new) (sym t.3) to,
+        (Some plan, subst (λ q. IsAnswer p.inst p.bound (Some q)) (sym t.4) is, ap (λ n. answer.Plan plan n) t.5),
+        inr (t.0, is_member p last old s.0 s.1 new t.0 t.1, t.2, ap Some t.3, stated),
+      ),
+      subst (λ r. TakesOne p last (Some r)) (sym t.3) one,
+    )
 
 -- and after a turn that found nothing
 pub empty_lawful : (p : Problem) (old new : List Shown) (last : Option (List ℕ)) (outcome : Result (Option Answer) NoMemory) → IsLawful p old last outcome → outcome ≡ Ok None → IsTurned p old new variant.Empty → IsLawful p new last (Ok (Some (answer.None p.bound)))
 empty_lawful p old new last outcome h e t =
     let s = going p old last outcome h e in
-    (subst (λ ns. IsTakenTo p last ns) (t.0 ∙ sym t.1) s.0, (None, none_left p last old s.0 s.1 t.0, refl))
+    (subst (λ ns. IsTakenTo p last ns) (t.0 ∙ sym t.1) s.0, (None, none_left p last old s.0 s.1 t.0, refl), inl (t.1, refl))

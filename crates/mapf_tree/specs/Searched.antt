@@ -1,8 +1,9 @@
 -- What a search has done: which pairs of the tree it took, and which wait (Sharon et al. 2015, best first).
-use Rattle.std.specs.Prelude.{◌≡◌, ℕ, ◌⊎◌, ◌↔◌, List, length, Option, Some, None, IfSome, Result, Ok, Err, Contains}
+use Rattle.std.specs.Prelude.{◌≡◌, ℕ, ◌⊎◌, ◌↔◌, List, [], length, Option, Some, None, IfSome, Result, Ok, Err, Contains}
 use Rattle.mapf_grid.specs.declared.fault.NoMemory.{NoMemory}
-use Rattle.mapf_plan.specs.Plan.{HasNoConflict}
+use Rattle.mapf_plan.specs.Plan.{plan_cost, HasNoConflict}
 use Rattle.mapf_plan.specs.declared.answer.Answer.{Answer}
+use Rattle.mapf_plan.specs.declared.answer.Answer.TheVariants as answer
 use Rattle.mapf_tree.specs.Problem.{Problem}
 use Rattle.mapf_tree.specs.Tree.{key}
 use Rattle.mapf_tree.specs.Search.{Planned, IsMember, IsReached, IsWaiting}
@@ -26,14 +27,23 @@ pub record IsTakenTo (p : Problem) (last : Option (List ℕ)) (nodes : List Show
   pub shown : AllShow p nodes
   pub waits : (m : Planned) → IsShown p nodes m ↔ IsWaiting p.inst p.bound last m
 
+-- the last pair that was taken is a solution, and its plan is the answer
+abbrev pub IsSolvedBy : Problem → Option (List ℕ) → Answer → Type 0
+IsSolvedBy p last given =
+    (x : Planned) × IsMember p.inst p.bound x × HasNoConflict x.1 × (last ≡ Some (key x)) × (given ≡ answer.Plan x.1 (plan_cost x.1))
+
+-- a search has its answer from the last pair that it took, or because nothing waits
+abbrev pub IsEnded : Problem → List Shown → Option (List ℕ) → Answer → Type 0
+IsEnded p nodes last given = ((nodes ≡ []) × (given ≡ answer.None p.bound)) ⊎ IsSolvedBy p last given
+
 -- no pair with a key up to the last one is a solution
 abbrev pub NoneSolves : Problem → Option (List ℕ) → Type 0
 NoneSolves p last = (m : Planned) → IsMember p.inst p.bound m → IsReached last m → ¬ HasNoConflict m.1
 
--- while there is no answer yet, no taken pair is a solution; an answer is the right one; after want of memory nothing is said
+-- while there is no answer yet, no taken pair is a solution; an answer is the right one, and nothing was taken after it; after want of memory nothing is said
 abbrev pub IsLawful : Problem → List Shown → Option (List ℕ) → Result (Option Answer) NoMemory → Type 0
 IsLawful p nodes last (Ok None) = IsTakenTo p last nodes × NoneSolves p last
-IsLawful p nodes last (Ok (Some given)) = IsTakenTo p last nodes × IsAnswerOf p.inst p.bound given
+IsLawful p nodes last (Ok (Some given)) = IsTakenTo p last nodes × IsAnswerOf p.inst p.bound given × IsEnded p nodes last given
 IsLawful p nodes last (Err _) = Unit {0}
 
 -- the same of a search

@@ -1,4 +1,4 @@
-ghost use Rattle.std.specs.Prelude.{◌≡◌, ◌≢◌, Ok, Err, Some, None, IfOk, OnErr, IsErr, IsSome};
+ghost use Rattle.std.specs.Prelude.{◌≡◌, ◌≤◌, ℕ, Ok, Err, Some, None, IfOk, OnErr, IsErr, IsSome};
 ghost use Rattle.std.specs.Option.{option_copied, option_map};
 ghost use Rattle.mapf_plan.specs.declared.answer.Answer.{Answer};
 ghost use Rattle.mapf_tree.specs.Keys.{key_rank};
@@ -35,7 +35,7 @@ impl<'p> Search<'p> {
     ghost use Rattle.mapf_tree.specs.Problem.{Problem};
     ghost use Rattle.mapf_tree.specs.Family.{IsRoot};
     ghost use Rattle.mapf_tree.specs.Answered.{IsAnswerOf, IsBestAnswer};
-    ghost use Rattle.mapf_tree.specs.Searched.{IsSearch, TakesBetween, answer_of};
+    ghost use Rattle.mapf_tree.specs.Searched.{IsSearch, IsEnded, TakesBetween, answer_of};
     ghost use Rattle.mapf_tree.specs.Stepped.{IsStep};
 
     /// A search that has taken no pair yet.
@@ -69,7 +69,7 @@ impl<'p> Search<'p> {
         })
     }
 
-    /// Takes up to so many nodes, and fewer only if that gives the answer.
+    /// Takes up to so many nodes, and fewer only if that gives the answer; what has its answer takes no more.
     pub fn go<C: Children>(&mut self, children: &mut C, turns: u64) -> Result<Progress, NoMemory>
         requires { C.serves children.old self.old.problem }
 
@@ -83,9 +83,14 @@ impl<'p> Search<'p> {
         ensures finished { result ≡ Ok Progress.Finished → (given : Answer) × (self.new.outcome ≡ Ok (Some given)) × IsAnswerOf self.new.problem.inst self.new.problem.bound given }
         ensures no_memory { OnErr result (IsErr self.new.outcome) }
 
-        // A search that has ended does nothing.
-        ensures answered { (given : Answer) → self.old.outcome ≡ Ok (Some given) → (result ≡ Ok Progress.Finished) × (self.new ≡ self.old) }
-        ensures failed { IsErr self.old.outcome → IsErr result × (self.new ≡ self.old) }
+        // With the answer no more were taken than it needs: the last one is the solution, or nothing waits.
+        ensures within { result ≡ Ok Progress.Finished → (n : ℕ) × (n ≤ turns) × TakesBetween self.new.problem self.old.last self.new.last n }
+        ensures ended { (given : Answer) → self.new.outcome ≡ Ok (Some given) → IsEnded self.new.problem self.new.waiting self.new.last given }
+
+        // A search that has ended does nothing, and neither does one of no turns.
+        ensures answered { (given : Answer) → self.old.outcome ≡ Ok (Some given) → (result ≡ Ok Progress.Finished) × (self.new ≡ self.old) × (children.new ≡ children.old) }
+        ensures failed { IsErr self.old.outcome → IsErr result × (self.new ≡ self.old) × (children.new ≡ children.old) }
+        ensures none { turns ≡ 0 → self.old.outcome ≡ Ok None → (result ≡ Ok Progress.Working) × (self.new ≡ self.old) × (children.new ≡ children.old) }
     {
         if let Progress::Finished = self.progress()? {
             return Ok(Progress::Finished);

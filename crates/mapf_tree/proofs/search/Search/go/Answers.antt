@@ -1,11 +1,14 @@
-use Rattle.std.proofs.Common.{◌≡◌, arith}
-use Rattle.mapf_tree.proofs.GoingOn.{goes_on, taken_between}
+use Rattle.std.proofs.Common.{◌≡◌, ◌+◌, Ok, subst, arith}
+use Rattle.mapf_tree.specs.declared.progress.Progress.TheVariants.{Finished}
+use Rattle.mapf_tree.specs.Stepped.{IsStep}
+use Rattle.mapf_tree.proofs.GoingOn.{goes_on, taken_between, taken_at_end}
 use Rattle.mapf_tree.proofs.search.Search.go.Goals as goal
 
 pub loop-taken-preserved : goal.loop-taken-preserved
 loop-taken-preserved g c = (
   goes_on c.args.self.now.problem c.args.self.now.last c.loop-taken.self c.step.new.self c.loop-taken._taken c.in_ok-step.field-0 c.in_default-2.not-Finished c.loop-taken.invariant.0 c.in_ok-step.ensures.problem c.in_ok-step.ensures.search c.in_ok-step.ensures.step,
   c.in_ok-step.ensures.serves,
+  λ e. absurd (let z : c.loop-taken._taken + 1 ≡ 0 = e in omega (arith, z)),
 )
 
 pub returns-clause-working : goal.returns-clause-working
@@ -13,3 +16,8 @@ returns-clause-working g c =
     let all : c.loop-taken._taken ≡ c.args.turns = omega arith in
     let now = c.loop-taken.invariant.0 in
     λ e. (now.going, taken_between c.args.self.now.problem c.args.self.now.last c.loop-taken.self c.loop-taken._taken c.args.turns now all)
+
+pub returns-in-Finished-2-clause-within : goal.returns-in-Finished-2-clause-within
+returns-in-Finished-2-clause-within g c e =
+    let step : IsStep c.loop-taken.self c.step.new.self (Ok Finished) = subst (λ r. IsStep c.loop-taken.self c.step.new.self (Ok r)) c.in-Finished-2.is c.in_ok-step.ensures.step in
+    taken_at_end c.args.self.now.problem c.args.self.now.last c.loop-taken.self c.step.new.self c.loop-taken._taken c.args.turns c.loop-taken.invariant.0 (omega arith) c.in_ok-step.ensures.problem step.1
