@@ -1,21 +1,18 @@
 -- What a check over devices leaves, for readers and a writer that tell their bytes.
-use Rattle.std.specs.Prelude.{◌≡◌, ℕ, ◌<◌, ◌≤◌, Bool, true, false, List, length, take, Option, Some, None, IfSome, Result, Ok, Err}
+use Rattle.std.specs.Prelude.{◌≡◌, ℕ, ◌≤◌, Bool, true, false, List, length, take, Option, Some, None, Result, Ok, Err}
 use Rattle.std.specs.Io.KnownBytes.{Appends, Keeps}
 use Rattle.mapf_grid.specs.Instance.{Instance}
 use Rattle.mapf_plan.specs.ReadText.{IsTextOf, IsTextFault}
 use Rattle.mapf_plan.specs.declared.answer.Answer.{Answer}
-use Rattle.mapf_plan.specs.declared.text.fault.TextFault.{TextFault}
 use Rattle.mapf_plan.specs.declared.text.fault.TextFault.TheVariants as text_fault
 use Rattle.mapf_check.specs.Verdict.{IsVerdict}
 use Rattle.mapf_check.specs.Wording.{verdict_line}
 use Rattle.mapf_check.specs.declared.verdict.Verdict.{Verdict}
 use Rattle.mapf_solve.specs.Out.{IsAsked, IsFilesFault}
 use Rattle.mapf_solve.specs.Run.{IsWithin, IsTooLong}
-use Rattle.mapf_solve.specs.declared.refusal.Refusal.{Refusal}
 use Rattle.mapf_solve.specs.declared.refusal.Refusal.TheVariants as refusal
 use Rattle.mapf_solve.specs.declared.run_fault.FileName.{FileName}
 use Rattle.mapf_solve.specs.declared.run_fault.FileName.TheVariants as file
-use Rattle.mapf_solve.specs.declared.run_fault.RunFault.{RunFault}
 use Rattle.mapf_solve.specs.declared.run_fault.RunFault.TheVariants as fault
 use Rattle.mapf_cli.specs.declared.check_fault.CheckFault.{CheckFault}
 use Rattle.mapf_cli.specs.declared.check_fault.CheckFault.TheVariants as check

@@ -1,10 +1,9 @@
 -- What the text that a run leaves says of other plans and of other numbers of workers.
 use Rattle.std.proofs.Common.{ℕ, List, Option, Some, None, Result, Ok, Err, refl}
 use Rattle.mapf_tree.specs.Answered.{stated}
-use Rattle.mapf_solve.specs.Out.{IsText, IsRefusal, IsBest, IsOnlyOut, IsWorkers}
+use Rattle.mapf_solve.specs.Out.{IsText, IsBest}
 use Rattle.mapf_solve.specs.Run.{OfFiles, Leaves, LeavesBest, LeavesOnly}
 use Rattle.mapf_solve.specs.declared.ask.Ask.{Ask}
-use Rattle.mapf_solve.specs.declared.refusal.Refusal.{Refusal}
 use Rattle.mapf_solve.specs.declared.refusal.Refusal.TheVariants as refusal
 use Rattle.mapf_solve.specs.declared.run_fault.RunFault.{RunFault}
 use Rattle.mapf_solve.specs.declared.run_fault.RunFault.TheVariants as fault

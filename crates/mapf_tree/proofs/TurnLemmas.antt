@@ -164,8 +164,7 @@ solved_lawful p old new last outcome k plan h e t =
     let to = taken_to p last old s.0 s.1 new t.0 t.1 in
     let is = solves p last old s.0 s.1 new t.0 t.1 t.2 in
     let one = takes_one p last old s.0 s.1 new t.0 t.1 in
-    let stated : answer.Plan plan k.cost ≡ answer.Plan t.0.1 (plan_cost t.0.1) = ap (λ n. answer.Plan plan n) t.5 ∙ ap (λ q. answer.Plan q (plan_cost q)) t.4 in
-    (
+    let stated : answer.Plan plan k.cost ≡ answer.Plan t.0.1 (plan_cost t.0.1) = ap (λ n. answer.Plan plan n) t.5 ∙ ap (λ q. answer.Plan q (plan_cost q)) t.4 in (
       (
         subst (λ r. IsTakenTo p (Some r) new) (sym t.3) to,
         (Some plan, subst (λ q. IsAnswer p.inst p.bound (Some q)) (sym t.4) is, ap (λ n. answer.Plan plan n) t.5),
