@@ -1,15 +1,16 @@
 -- The first fault of the rows of an instance.
-use Rattle.std.proofs.Common.{◌≡◌, ℕ, ◌/◌, ◌%◌, ◌<◌, ◌≤◌, ◌⊎◌, zero, suc, List, [], ◌∷◌, length, slice_get, slice_index, Some, refl, sym, ap, ◌∙◌, subst, inl, inr, arith}
+use Rattle.std.proofs.Common.{◌≡◌, ℕ, ◌/◌, ◌%◌, ◌<◌, ◌≤◌, zero, suc, List, [], ◌∷◌, length, slice_get, slice_index, get_or, drop, Some, refl, sym, ap, ◌∙◌, subst, inl, inr, arith}
 use Rattle.std.proofs.lemmas.Option.{same_Some, get_or_from_slice_get}
 use Rattle.std.proofs.lemmas.Nat.{div-mul-add, mod-mul-add}
 use Rattle.mapf_grid.specs.Grid.{Grid}
-use Rattle.mapf_grid.specs.Least.{Precedes}
+use Rattle.mapf_grid.specs.Least.{Precedes, NoneBefore}
 use Rattle.mapf_grid.specs.Instance.{cell_at, IsFreePlace, IsSizeOf, OfRow, HasInstanceFault, IsInstanceFault, instance_fault_rank}
-use Rattle.mapf_grid.specs.NewAgent.{IsFirstAt, HasAgentFault}
+use Rattle.mapf_grid.specs.NewAgent.{IsNewPlace, IsFirstAt, HasAgentFault}
 use Rattle.mapf_grid.specs.declared.scenario.Row.{Row}
 use Rattle.mapf_grid.specs.declared.fault.InstanceFault.{InstanceFault}
 use Rattle.mapf_grid.specs.declared.fault.InstanceFault.TheVariants.{AgentCount, TooFewRows, WrongSize, StartNotFree, GoalNotFree, SharedStart, SharedGoal, NoMemory}
 use Rattle.mapf_grid.proofs.AgentRows.{AreAgents}
+use Rattle.mapf_grid.proofs.Firsts.{not_before_end, NoneAt, none_before-next, none_before-there}
 
 -- agent i's start and goal, by its row
 pub start_of : {g : Grid} {rows : List Row} {n : ℕ} {starts goals : List ℕ} → AreAgents g rows n starts goals → (i : ℕ) (row : Row) → i < n → slice_get rows i ≡ Some row → slice_index starts i ≡ cell_at g row.start_x row.start_y
@@ -49,73 +50,6 @@ no_shared_goal {g} {rows} {m} {goals = goals} n e q are h below =
     are.goals_differ e q before (omega arith)
     (goal_of are e other (omega arith) h.1.3.2 ∙ same_cell g other.goal_x other.goal_y row.goal_x row.goal_y h.1.3.3.0 h.1.3.3.1 ∙ sym (goal_of are q row below h.1.2))
 
--- what is known where a row's fault of this rank is met: the rows before are agents, and all that is tested before is right
-pub record IsMet (g : Grid) (rows : List Row) (r : ℕ) (starts goals : List ℕ) (row : Row) (k : ℕ) (t : List ℕ) : Type 0 where
-  pub are : AreAgents g rows r starts goals
-  pub here : slice_get rows r ≡ Some row
-  pub high : k ≤ 27
-  pub size : 23 < k → IsSizeOf g row
-  pub start_free : 24 < k → IsFreePlace g row.start_x row.start_y
-  pub goal_free : 25 < k → IsFreePlace g row.goal_x row.goal_y
-  pub start_new : (e : ℕ) → e < r → slice_index starts e ≡ cell_at g row.start_x row.start_y → 26 < k → ⊥
-  pub start_first : (e : ℕ) → e < r → slice_index starts e ≡ cell_at g row.start_x row.start_y → 26 ≡ k → Precedes (e ∷ []) t → ⊥
-  pub goal_first : (e : ℕ) → e < r → slice_index goals e ≡ cell_at g row.goal_x row.goal_y → 27 ≡ k → Precedes (e ∷ []) t → ⊥
-  pub no_tail : k < 26 → Precedes [] t → ⊥
-
-row_cases : (q r j k : ℕ) (s t : List ℕ) → Precedes (2 ∷ q ∷ j ∷ s) (2 ∷ r ∷ k ∷ t) → (q < r) ⊎ ((q ≡ r) × ((j < k) ⊎ ((j ≡ k) × Precedes s t)))
-row_cases q r j k s t p = elim p [ inl l ↦ absurd (omega arith) | inr b ↦ b.1 ]
-
-same_row : (rows : List Row) (q r : ℕ) (row other : Row) → slice_get rows r ≡ Some row → q ≡ r → slice_get rows q ≡ Some other → row ≡ other
-same_row rows q r row other here same e = same_Some row other (sym here ∙ ap (slice_get rows) (sym same) ∙ e)
-
-met_least : {g : Grid} {rows : List Row} {n r k : ℕ} {starts goals : List ℕ} {row : Row} {t : List ℕ} → 0 < n → n ≤ 1000 → n ≤ length rows → IsMet g rows r starts goals row k t
-    → (y : InstanceFault) → HasInstanceFault g rows n y → Precedes (instance_fault_rank y) (2 ∷ r ∷ k ∷ t) → ⊥
-met_least some few there met AgentCount h p = elim h [ inl e ↦ absurd (omega arith) | inr l ↦ absurd (omega arith) ]
-met_least some few there met (TooFewRows rows_there) h p = let is = h.0 in let below = h.1 in absurd (omega arith)
-met_least {g} {rows} {n} {r} {k} {row = row} {t = t} some few there met (WrongSize q) h p =
-    elim (row_cases q r 23 k [] t p) [
-      | inl below ↦ no_wrong_size n q met.are h below
-      | inr at ↦ elim at.1 [ inl less ↦ h.3 (subst (IsSizeOf g) (same_row rows q r row h.0 met.here at.0 h.2) (met.size less)) | inr same ↦ let e = same.0 in met.no_tail (omega arith) same.1 ]
-    ]
-met_least {g} {rows} {n} {r} {k} {row = row} {t = t} some few there met (StartNotFree q) h p =
-    elim (row_cases q r 24 k [] t p) [
-      | inl below ↦ no_start_fault n q met.are h below
-      | inr at ↦ elim at.1 [ inl less ↦ h.3 (subst (λ w. IsFreePlace g w.start_x w.start_y) (same_row rows q r row h.0 met.here at.0 h.2) (met.start_free less)) | inr same ↦ let e = same.0 in met.no_tail (omega arith) same.1 ]
-    ]
-met_least {g} {rows} {n} {r} {k} {row = row} {t = t} some few there met (GoalNotFree q) h p =
-    elim (row_cases q r 25 k [] t p) [
-      | inl below ↦ no_goal_fault n q met.are h below
-      | inr at ↦ elim at.1 [ inl less ↦ h.3 (subst (λ w. IsFreePlace g w.goal_x w.goal_y) (same_row rows q r row h.0 met.here at.0 h.2) (met.goal_free less)) | inr same ↦ let e = same.0 in met.no_tail (omega arith) same.1 ]
-    ]
-met_least {g} {rows} {n} {r} {k} {starts} {goals} {row} {t} some few there met (SharedStart e q) h p =
-    elim (row_cases q r 26 k (e ∷ []) t p) [
-      | inl below ↦ no_shared_start n e q met.are h below
-      | inr at ↦
-          let before = h.0 in
-          let same = at.0 in
-          let early : e < r = omega arith in
-          let other = h.1.3.0 in
-          let is = same_row rows q r row h.1.0 met.here at.0 h.1.2 in
-          let cell : slice_index starts e ≡ cell_at g row.start_x row.start_y =
-          start_of met.are e other early h.1.3.2 ∙ same_cell g other.start_x other.start_y row.start_x row.start_y (h.1.3.3.0 ∙ ap (λ w. w.start_x) (sym is)) (h.1.3.3.1 ∙ ap (λ w. w.start_y) (sym is)) in
-          elim at.1 [ inl less ↦ met.start_new e early cell less | inr on ↦ met.start_first e early cell on.0 on.1 ]
-    ]
-met_least {g} {rows} {n} {r} {k} {starts} {goals} {row} {t} some few there met (SharedGoal e q) h p =
-    elim (row_cases q r 27 k (e ∷ []) t p) [
-      | inl below ↦ no_shared_goal n e q met.are h below
-      | inr at ↦
-          let before = h.0 in
-          let same = at.0 in
-          let early : e < r = omega arith in
-          let other = h.1.3.0 in
-          let is = same_row rows q r row h.1.0 met.here at.0 h.1.2 in
-          let high = met.high in
-          let cell : slice_index goals e ≡ cell_at g row.goal_x row.goal_y =
-          goal_of met.are e other early h.1.3.2 ∙ same_cell g other.goal_x other.goal_y row.goal_x row.goal_y (h.1.3.3.0 ∙ ap (λ w. w.goal_x) (sym is)) (h.1.3.3.1 ∙ ap (λ w. w.goal_y) (sym is)) in
-          elim at.1 [ inl less ↦ absurd (omega arith) | inr on ↦ met.goal_first e early cell on.0 on.1 ]
-    ]
-met_least some few there met NoMemory h p = h
-
 -- two places in a map with one number are one place
 one_place : (g : Grid) (x y u v : ℕ) → x < g.width → u < g.width → cell_at g x y ≡ cell_at g u v → (x ≡ u) × (y ≡ v)
 one_place g x y u v left right e = (
@@ -154,94 +88,105 @@ earlier_goal {g} {rows} {r} {goals = goals} n e row are here there free first =
 not_first : (places : List ℕ) (cell e f : ℕ) → IsFirstAt places cell f → slice_index places e ≡ cell → Precedes (e ∷ []) (f ∷ []) → ⊥
 not_first places cell e f first at p = elim p [ inl less ↦ first.none_before e less at | inr same ↦ same.1 ]
 
--- the first fault of the next row is that of the instance
-pub agent_fault : {g : Grid} {rows : List Row} {r : ℕ} {starts goals : List ℕ} {row : Row} (n : ℕ) → n ≤ 1000 → n ≤ length rows → r < n → AreAgents g rows r starts goals → slice_get rows r ≡ Some row
-    → (e : InstanceFault) → HasAgentFault g starts goals row r e → IsInstanceFault g rows n e
-agent_fault n few there in_n are here AgentCount h = absurd h
-agent_fault n few there in_n are here (TooFewRows t) h = absurd h
-agent_fault {g} {rows} {r} {row = row} n few there in_n are here (WrongSize q) h =
-    subst (λ i. IsInstanceFault g rows n (WrongSize i)) (sym h.0) (record {
-      member = (row, in_n, here, h.1);
-      least = met_least (omega arith) few there (record {
-        are = are;
-        here = here;
-        high = omega arith;
-        size = λ l. absurd (omega arith);
-        start_free = λ l. absurd (omega arith);
-        goal_free = λ l. absurd (omega arith);
-        start_new = λ e b c l. absurd (omega arith);
-        start_first = λ e b c l. absurd (omega arith);
-        goal_first = λ e b c l. absurd (omega arith);
-        no_tail = λ l p. p;
-      });
-    })
-agent_fault {g} {rows} {r} {row = row} n few there in_n are here (StartNotFree q) h =
-    subst (λ i. IsInstanceFault g rows n (StartNotFree i)) (sym h.0) (record {
-      member = (row, in_n, here, h.2);
-      least = met_least (omega arith) few there (record {
-        are = are;
-        here = here;
-        high = omega arith;
-        size = λ l. h.1;
-        start_free = λ l. absurd (omega arith);
-        goal_free = λ l. absurd (omega arith);
-        start_new = λ e b c l. absurd (omega arith);
-        start_first = λ e b c l. absurd (omega arith);
-        goal_first = λ e b c l. absurd (omega arith);
-        no_tail = λ l p. p;
-      });
-    })
-agent_fault {g} {rows} {r} {row = row} n few there in_n are here (GoalNotFree q) h =
-    subst (λ i. IsInstanceFault g rows n (GoalNotFree i)) (sym h.0) (record {
-      member = (row, in_n, here, h.3);
-      least = met_least (omega arith) few there (record {
-        are = are;
-        here = here;
-        high = omega arith;
-        size = λ l. h.1;
-        start_free = λ l. h.2;
-        goal_free = λ l. absurd (omega arith);
-        start_new = λ e b c l. absurd (omega arith);
-        start_first = λ e b c l. absurd (omega arith);
-        goal_first = λ e b c l. absurd (omega arith);
-        no_tail = λ l p. p;
-      });
-    })
-agent_fault {g} {rows} {r} {starts} {row = row} n few there in_n are here (SharedStart f q) h =
-    let inside = h.4.there in
-    let count = are.start_count in
-    subst (λ i. IsInstanceFault g rows n (SharedStart f i)) (sym h.0) (record {
-      member = (omega arith, (row, in_n, here, earlier_start n f row are in_n there h.2 h.4));
-      least = met_least (omega arith) few there (record {
-        are = are;
-        here = here;
-        high = omega arith;
-        size = λ l. h.1;
-        start_free = λ l. h.2;
-        goal_free = λ l. h.3;
-        start_new = λ e b c l. absurd (omega arith);
-        start_first = λ e b c l. not_first starts _ e f h.4 c;
-        goal_first = λ e b c l. absurd (omega arith);
-        no_tail = λ l. absurd (omega arith);
-      });
-    })
-agent_fault {g} {rows} {r} {starts} {goals} {row} n few there in_n are here (SharedGoal f q) h =
-    let inside = h.4.there in
-    let count = are.goal_count in
-    let start_count = are.start_count in
-    subst (λ i. IsInstanceFault g rows n (SharedGoal f i)) (sym h.0) (record {
-      member = (omega arith, (row, in_n, here, earlier_goal n f row are in_n there h.3 h.4));
-      least = met_least (omega arith) few there (record {
-        are = are;
-        here = here;
-        high = omega arith;
-        size = λ l. h.1;
-        start_free = λ l. h.2.free;
-        goal_free = λ l. h.3;
-        start_new = λ e b c l. h.2.new e (omega arith) c;
-        start_first = λ e b c l. absurd (omega arith);
-        goal_first = λ e b c l. not_first goals _ e f h.4 c;
-        no_tail = λ l. absurd (omega arith);
-      });
-    })
-agent_fault n few there in_n are here NoMemory h = absurd h
+-- a fault of a row that precedes the tests of row r is one of an earlier row
+row_before : (q r j : ℕ) (s : List ℕ) → 22 < j → Precedes (2 ∷ q ∷ j ∷ s) (2 ∷ r ∷ 23 ∷ []) → q < r
+row_before q r j s high p = elim p [
+  | inl l ↦ absurd (omega arith)
+  | inr b ↦ elim b.1 [ inl less ↦ less | inr c ↦ elim c.1 [ inl l ↦ absurd (omega arith) | inr d ↦ absurd (not_before_end s d.1) ] ]
+]
+
+-- row r, behind rows that are agents
+module _ {g : Grid} {rows : List Row} {r : ℕ} {starts goals : List ℕ} {row : Row} (n : ℕ) (few : n ≤ 1000) (there : n ≤ length rows) (in_n : r < n) (are : AreAgents g rows r starts goals) (here : slice_get rows r ≡ Some row) where
+  abbrev Has : InstanceFault → Type 0
+  Has = HasInstanceFault g rows n
+
+  abbrev NoFaultBefore : List ℕ → Type 0
+  NoFaultBefore p = NoneBefore instance_fault_rank Has p
+
+  same_row : (q : ℕ) (other : Row) → q ≡ r → slice_get rows q ≡ Some other → row ≡ other
+  same_row q other same e = same_Some row other (sym here ∙ ap (slice_get rows) (sym same) ∙ e)
+
+  before_size : NoFaultBefore (2 ∷ r ∷ 23 ∷ [])
+  before_size AgentCount h p = elim h [ inl e ↦ absurd (omega arith) | inr l ↦ absurd (omega arith) ]
+  before_size (TooFewRows t) h p = absurd (omega (arith, h.0, h.1))
+  before_size (WrongSize q) h p = no_wrong_size n q are h (row_before q r 23 [] (omega arith) p)
+  before_size (StartNotFree q) h p = no_start_fault n q are h (row_before q r 24 [] (omega arith) p)
+  before_size (GoalNotFree q) h p = no_goal_fault n q are h (row_before q r 25 [] (omega arith) p)
+  before_size (SharedStart e q) h p = no_shared_start n e q are h (row_before q r 26 (e ∷ []) (omega arith) p)
+  before_size (SharedGoal e q) h p = no_shared_goal n e q are h (row_before q r 27 (e ∷ []) (omega arith) p)
+  before_size NoMemory h p = h
+
+  before_start : IsSizeOf g row → NoFaultBefore (2 ∷ r ∷ 24 ∷ [])
+  before_start size = none_before-next instance_fault_rank Has (2 ∷ r ∷ []) 23 before_size none
+    where
+      none : NoneAt instance_fault_rank Has (2 ∷ r ∷ 23 ∷ [])
+      none (WrongSize q) u h e = h.3 (subst (IsSizeOf g) (same_row q h.0 (ap (λ l. get_or l 1 0) e) h.2) size)
+      none y u h e = absurd (omega (arith, ap (λ l. get_or l 2 0) e))
+
+  before_goal : IsSizeOf g row → IsFreePlace g row.start_x row.start_y → NoFaultBefore (2 ∷ r ∷ 25 ∷ [])
+  before_goal size start = none_before-next instance_fault_rank Has (2 ∷ r ∷ []) 24 (before_start size) none
+    where
+      none : NoneAt instance_fault_rank Has (2 ∷ r ∷ 24 ∷ [])
+      none (StartNotFree q) u h e = h.3 (subst (λ w. IsFreePlace g w.start_x w.start_y) (same_row q h.0 (ap (λ l. get_or l 1 0) e) h.2) start)
+      none y u h e = absurd (omega (arith, ap (λ l. get_or l 2 0) e))
+
+  before_shared_start : IsSizeOf g row → IsFreePlace g row.start_x row.start_y → IsFreePlace g row.goal_x row.goal_y → NoFaultBefore (2 ∷ r ∷ 26 ∷ [])
+  before_shared_start size start goal = none_before-next instance_fault_rank Has (2 ∷ r ∷ []) 25 (before_goal size start) none
+    where
+      none : NoneAt instance_fault_rank Has (2 ∷ r ∷ 25 ∷ [])
+      none (GoalNotFree q) u h e = h.3 (subst (λ w. IsFreePlace g w.goal_x w.goal_y) (same_row q h.0 (ap (λ l. get_or l 1 0) e) h.2) goal)
+      none y u h e = absurd (omega (arith, ap (λ l. get_or l 2 0) e))
+
+  -- an agent that shares its start with row r is one of the earlier ones, and starts on its cell
+  shares_start : (e q : ℕ) → q ≡ r → Has (SharedStart e q) → (e < r) × (slice_index starts e ≡ cell_at g row.start_x row.start_y)
+  shares_start e q same h =
+      let other = h.1.3.0 in
+      let is = same_row q h.1.0 same h.1.2 in
+      let early : e < r = omega (arith, h.0, same) in
+      (early, start_of are e other early h.1.3.2 ∙ same_cell g other.start_x other.start_y row.start_x row.start_y (h.1.3.3.0 ∙ ap (λ w. w.start_x) (sym is)) (h.1.3.3.1 ∙ ap (λ w. w.start_y) (sym is)))
+
+  shares_goal : (e q : ℕ) → q ≡ r → Has (SharedGoal e q) → slice_index goals e ≡ cell_at g row.goal_x row.goal_y
+  shares_goal e q same h =
+      let other = h.1.3.0 in
+      let is = same_row q h.1.0 same h.1.2 in
+      goal_of are e other (omega (arith, h.0, same)) h.1.3.2 ∙ same_cell g other.goal_x other.goal_y row.goal_x row.goal_y (h.1.3.3.0 ∙ ap (λ w. w.goal_x) (sym is)) (h.1.3.3.1 ∙ ap (λ w. w.goal_y) (sym is))
+
+  before_shared_goal : IsSizeOf g row → IsNewPlace g starts row.start_x row.start_y (cell_at g row.start_x row.start_y) → IsFreePlace g row.goal_x row.goal_y → NoFaultBefore (2 ∷ r ∷ 27 ∷ [])
+  before_shared_goal size start goal = none_before-next instance_fault_rank Has (2 ∷ r ∷ []) 26 (before_shared_start size start.free goal) none
+    where
+      none : NoneAt instance_fault_rank Has (2 ∷ r ∷ 26 ∷ [])
+      none (SharedStart e q) u h eq =
+          let shares = shares_start e q (ap (λ l. get_or l 1 0) eq) h in start.new e (omega (arith, shares.0, are.start_count)) shares.1
+      none y u h e = absurd (omega (arith, ap (λ l. get_or l 2 0) e))
+
+  first_start : (f : ℕ) → IsFirstAt starts (cell_at g row.start_x row.start_y) f → (y : InstanceFault) (u : List ℕ) → Has y → instance_fault_rank y ≡ 2 ∷ r ∷ 26 ∷ u → ¬ Precedes u (f ∷ [])
+  first_start f first (SharedStart e q) u h eq p =
+      not_first starts _ e f first (shares_start e q (ap (λ l. get_or l 1 0) eq) h).1 (subst (λ l. Precedes l (f ∷ [])) (sym (ap (drop 3) eq)) p)
+  first_start f first y u h eq p = absurd (omega (arith, ap (λ l. get_or l 2 0) eq))
+
+  first_goal : (f : ℕ) → IsFirstAt goals (cell_at g row.goal_x row.goal_y) f → (y : InstanceFault) (u : List ℕ) → Has y → instance_fault_rank y ≡ 2 ∷ r ∷ 27 ∷ u → ¬ Precedes u (f ∷ [])
+  first_goal f first (SharedGoal e q) u h eq p =
+      not_first goals _ e f first (shares_goal e q (ap (λ l. get_or l 1 0) eq) h) (subst (λ l. Precedes l (f ∷ [])) (sym (ap (drop 3) eq)) p)
+  first_goal f first y u h eq p = absurd (omega (arith, ap (λ l. get_or l 2 0) eq))
+
+  -- the first fault of the next row is that of the instance
+  pub agent_fault : (e : InstanceFault) → HasAgentFault g starts goals row r e → IsInstanceFault g rows n e
+  agent_fault AgentCount h = absurd h
+  agent_fault (TooFewRows t) h = absurd h
+  agent_fault (WrongSize q) h =
+      subst (λ i. IsInstanceFault g rows n (WrongSize i)) (sym h.0) (record { member = (row, in_n, here, h.1); least = before_size })
+  agent_fault (StartNotFree q) h =
+      subst (λ i. IsInstanceFault g rows n (StartNotFree i)) (sym h.0) (record { member = (row, in_n, here, h.2); least = before_start h.1 })
+  agent_fault (GoalNotFree q) h =
+      subst (λ i. IsInstanceFault g rows n (GoalNotFree i)) (sym h.0) (record { member = (row, in_n, here, h.3); least = before_goal h.1 h.2 })
+  agent_fault (SharedStart f q) h =
+      subst (λ i. IsInstanceFault g rows n (SharedStart f i)) (sym h.0) (record {
+        member = (omega (arith, h.4.there, are.start_count), (row, in_n, here, earlier_start n f row are in_n there h.2 h.4));
+        least = none_before-there instance_fault_rank Has (2 ∷ r ∷ 26 ∷ []) (f ∷ []) (before_shared_start h.1 h.2 h.3) (first_start f h.4);
+      })
+  agent_fault (SharedGoal f q) h =
+      subst (λ i. IsInstanceFault g rows n (SharedGoal f i)) (sym h.0) (record {
+        member = (omega (arith, h.4.there, are.goal_count), (row, in_n, here, earlier_goal n f row are in_n there h.3 h.4));
+        least = none_before-there instance_fault_rank Has (2 ∷ r ∷ 27 ∷ []) (f ∷ []) (before_shared_goal h.1 h.2 h.3) (first_goal f h.4);
+      })
+  agent_fault NoMemory h = absurd h
