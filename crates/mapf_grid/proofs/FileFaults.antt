@@ -1,15 +1,16 @@
 -- The rows of a scenario file, and its first fault.
 use Rattle.std.proofs.Common.{◌≡◌, ℕ, ◌+◌, ◌-◌, ◌<◌, ◌≤◌, ◌⊎◌, zero, suc, true, false, List, [], ◌∷◌, ◌++◌, length, get_or, drop, slice_get, Some, None, refl, sym, ap, ◌∙◌, subst, ⊎_elim, inl, inr, arith, length-append, length-drop, get_or-drop, drop-drop, add-zero}
 use Rattle.std.specs.List.{list_all}
-use Rattle.std.proofs.lemmas.Bool.{cases_lt, false_from_ne_true, and_from}
+use Rattle.std.proofs.lemmas.Bool.{false_from_ne_true, and_from}
 use Rattle.std.proofs.lemmas.Option.{none-some, same_Some}
-use Rattle.mapf_grid.specs.Least.{Precedes}
+use Rattle.mapf_grid.specs.Least.{NoneBefore}
 use Rattle.mapf_grid.specs.Lines.{lines_of, line_at, words, is_blank_line, number_of}
 use Rattle.mapf_grid.specs.ScenarioFile.{IsVersion, IsRowOf, IsScenario, IsNumberField, HasScenFault, IsScenFault, scen_fault_rank, field, without_blank_end}
 use Rattle.mapf_grid.specs.RowFields.{HasRowFault, IsRowFault}
 use Rattle.mapf_grid.specs.declared.scenario.Row.{Row}
 use Rattle.mapf_grid.specs.declared.fault.ScenFault.{ScenFault}
 use Rattle.mapf_grid.specs.declared.fault.ScenFault.TheVariants.{Version, FieldCount, Number, NoMemory}
+use Rattle.mapf_grid.proofs.Firsts.{before_place, first_is_least}
 use Rattle.mapf_grid.proofs.Parting.{words-blanks}
 use Rattle.mapf_grid.proofs.RowFaults.{AreNumbersBefore-second, AreNumbersBefore-more, IsRowFault-few}
 use Rattle.mapf_grid.proofs.BlankEnds.{without_blank_end-reaches, without_blank_end-within, seen_line}
@@ -102,24 +103,38 @@ row_at {lines} {rows} version are k above below =
     let found = row_there are (k - 2) (omega arith) in
     (found.0, subst (λ l. IsRowOf l found.0) (sym (line_at_behind version lines k above)) found.1)
 
--- a fault of the file that ranks before one in the line behind the rows is in that line
-none_before_few : {lines : List (List ℕ)} {rows : List Row} (version : List ℕ) → AreRows lines rows → (l k : ℕ) → k ≡ length rows + 2 → HasScenFault (version ∷ lines) (FieldCount l) → l ≤ k → HasRowFault (get_or lines (length rows) []) k (FieldCount l)
-none_before_few {lines} {rows} version are l k e h within =
-    let above = h.0 in
-    ⊎_elim (λ below. absurd (let found = row_at version are l above (omega arith) in no_few found.1 h.2))
-    (λ from. let same : l ≡ k = omega arith in let place : l - 2 ≡ length rows = omega arith in
-    (same, subst (λ t. length (words t) < 9) (line_at_behind version lines l above ∙ ap (λ i. get_or lines i []) place) h.2)) (cases_lt l k)
+-- the version line and the rows that were read have no fault
+none_before_rows : {lines : List (List ℕ)} {rows : List Row} (version : List ℕ) → IsVersion version → AreRows lines rows → NoneBefore scen_fault_rank (HasScenFault (version ∷ lines)) ((length rows + 2) ∷ [])
+none_before_rows version is are Version h p = h is
+none_before_rows version is are (FieldCount l) h p = no_few (row_at version are l h.0 (before_place l _ [] p)).1 h.2
+none_before_rows version is are (Number l f) h p = no_number f (row_at version are l h.0 (before_place l _ (f ∷ []) p)).1 h.3 h.4
+none_before_rows version is are NoMemory h p = h
 
-none_before_number : {lines : List (List ℕ)} {rows : List Row} (version : List ℕ) → AreRows lines rows → (l f k : ℕ) → k ≡ length rows + 2 → HasScenFault (version ∷ lines) (Number l f) → l ≤ k → HasRowFault (get_or lines (length rows) []) k (Number l f)
-none_before_number {lines} {rows} version are l f k e h within =
-    let above = h.0 in
-    ⊎_elim (λ below. absurd (let found = row_at version are l above (omega arith) in no_number f found.1 h.3 h.4))
-    (λ from. let same : l ≡ k = omega arith in let place : l - 2 ≡ length rows = omega arith in
-    let line = line_at_behind version lines l above ∙ ap (λ i. get_or lines i []) place in
-    (same, subst (λ t. 9 ≤ length (words t)) line h.2, h.3, subst (λ t. number_of (field t f) ≡ None) line h.4)) (cases_lt l k)
+-- line n + 2 of the file, by its number
+line_of : (version : List ℕ) (lines : List (List ℕ)) (n l : ℕ) → l ≡ n + 2 → line_at (version ∷ lines) l ≡ get_or lines n []
+line_of version lines n l same =
+    let place : l - 2 ≡ n = omega (arith, same) in line_at_behind version lines l (omega (arith, same)) ∙ ap (λ i. get_or lines i []) place
 
-first_of_rank : (a b : ℕ) (p q : List ℕ) → Precedes (a ∷ p) (b ∷ q) → a ≤ b
-first_of_rank a b p q before = elim before [ inl l ↦ omega arith | inr both ↦ let e = both.0 in omega arith ]
+-- a fault of the file that ranks by this line is one of the line
+fault_at_line : (version : List ℕ) (lines : List (List ℕ)) (n : ℕ) (y : ScenFault) (u : List ℕ) → HasScenFault (version ∷ lines) y → scen_fault_rank y ≡ (n + 2) ∷ u → HasRowFault (get_or lines n []) (n + 2) y
+fault_at_line version lines n Version u h e = absurd (omega (arith, ap (λ r. get_or r 0 0) e))
+fault_at_line version lines n (FieldCount l) u h e =
+    let on = ap (λ r. get_or r 0 0) e in (on, subst (λ t. length (words t) < 9) (line_of version lines n l on) h.2)
+fault_at_line version lines n (Number l f) u h e =
+    let on = ap (λ r. get_or r 0 0) e in
+    let line = line_of version lines n l on in
+    (on, subst (λ t. 9 ≤ length (words t)) line h.2, h.3, subst (λ t. number_of (field t f) ≡ None) line h.4)
+fault_at_line version lines n NoMemory u h e = absurd h
+
+-- and one of the line is one of the file, where that line stays
+fault_of_row : (version : List ℕ) (lines : List (List ℕ)) (n : ℕ) → n + 2 ≤ length (without_blank_end (version ∷ lines)) → (e : ScenFault) → HasRowFault (get_or lines n []) (n + 2) e → HasScenFault (version ∷ lines) e
+fault_of_row version lines n stays Version h = absurd h
+fault_of_row version lines n stays (FieldCount l) h =
+    (omega (arith, h.0), omega (arith, h.0), subst (λ t. length (words t) < 9) (sym (line_of version lines n l h.0)) h.1)
+fault_of_row version lines n stays (Number l f) h =
+    let line = sym (line_of version lines n l h.0) in
+    (omega (arith, h.0), omega (arith, h.0), subst (λ t. 9 ≤ length (words t)) line h.1, h.2, subst (λ t. number_of (field t f) ≡ None) line h.3)
+fault_of_row version lines n stays NoMemory h = absurd h
 
 -- the rank of a line's fault begins with the line's number
 rank_of_row_fault : (line : List ℕ) (k : ℕ) (e : ScenFault) → HasRowFault line k e → (rest : List ℕ) × (scen_fault_rank e ≡ k ∷ rest)
@@ -128,49 +143,13 @@ rank_of_row_fault line k (FieldCount l) h = ([], ap (λ i. i ∷ []) h.0)
 rank_of_row_fault line k (Number l f) h = (f ∷ [], ap (λ i. i ∷ f ∷ []) h.0)
 rank_of_row_fault line k NoMemory h = absurd h
 
-file_least : {lines : List (List ℕ)} {rows : List Row} (version : List ℕ) → IsVersion version → AreRows lines rows → (k : ℕ) → k ≡ length rows + 2 → (e : ScenFault) → IsRowFault (get_or lines (length rows) []) k e
-    → (y : ScenFault) → HasScenFault (version ∷ lines) y → Precedes (scen_fault_rank y) (scen_fault_rank e) → ⊥
-file_least {lines} {rows} version is are k same e row Version h p = h is
-file_least {lines} {rows} version is are k same e row (FieldCount l) h p =
-    let rank = rank_of_row_fault (get_or lines (length rows) []) k e row.member in
-    let within = first_of_rank l k [] rank.0 (subst (λ r. Precedes (l ∷ []) r) rank.1 p) in
-    row.least (FieldCount l) (none_before_few version are l k same h within) p
-file_least {lines} {rows} version is are k same e row (Number l f) h p =
-    let rank = rank_of_row_fault (get_or lines (length rows) []) k e row.member in
-    let within = first_of_rank l k (f ∷ []) rank.0 (subst (λ r. Precedes (l ∷ f ∷ []) r) rank.1 p) in
-    row.least (Number l f) (none_before_number version are l f k same h within) p
-file_least {lines} {rows} version is are k same e row NoMemory h p = h
-
--- a fault of the line behind the rows is one of the file, where that line stays
-fault_of_row : (version : List ℕ) (lines : List (List ℕ)) (n k : ℕ) → k ≡ n + 2 → k ≤ length (without_blank_end (version ∷ lines)) → (e : ScenFault) → HasRowFault (get_or lines n []) k e → HasScenFault (version ∷ lines) e
-fault_of_row version lines n k same stays Version h = absurd h
-fault_of_row version lines n k same stays (FieldCount l) h =
-    let on = h.0 in
-    let place : l - 2 ≡ n = omega arith in
-    (omega arith, omega arith, subst (λ t. length (words t) < 9) (sym (line_at_behind version lines l (omega arith) ∙ ap (λ i. get_or lines i []) place)) h.1)
-fault_of_row version lines n k same stays (Number l f) h =
-    let on = h.0 in
-    let place : l - 2 ≡ n = omega arith in
-    let line = sym (line_at_behind version lines l (omega arith) ∙ ap (λ i. get_or lines i []) place) in
-    (omega arith, omega arith, subst (λ t. 9 ≤ length (words t)) line h.1, h.2, subst (λ t. number_of (field t f) ≡ None) line h.3)
-fault_of_row version lines n k same stays NoMemory h = absurd h
-
 -- the first fault of the line behind the rows is that of the file
-pub IsScenFault-row : {lines : List (List ℕ)} {rows : List Row} (version : List ℕ) → IsVersion version → AreRows lines rows → (k : ℕ) → k ≡ length rows + 2 → k ≤ length (without_blank_end (version ∷ lines)) → (e : ScenFault) → IsRowFault (get_or lines (length rows) []) k e → IsScenFault (version ∷ lines) e
-IsScenFault-row {lines} {rows} version is are k same stays e row = record {
-  member = fault_of_row version lines (length rows) k same stays e row.member;
-  least = file_least version is are k same e row;
-}
-
-version_least : (lines : List (List ℕ)) → (y : ScenFault) → HasScenFault lines y → Precedes (scen_fault_rank y) (1 ∷ []) → ⊥
-version_least lines Version h p = elim p [ inl a ↦ absurd (omega arith) | inr b ↦ b.1 ]
-version_least lines (FieldCount l) h p = let above = h.0 in elim p [ inl a ↦ absurd (omega arith) | inr b ↦ let e = b.0 in absurd (omega arith) ]
-version_least lines (Number l f) h p = let above = h.0 in elim p [ inl a ↦ absurd (omega arith) | inr b ↦ let e = b.0 in absurd (omega arith) ]
-version_least lines NoMemory h p = h
-
--- where line 1 is no version line, that is the file's first fault
-pub IsScenFault-version : (lines : List (List ℕ)) → (IsVersion (line_at lines 1) → ⊥) → IsScenFault lines Version
-IsScenFault-version lines isnt = record { member = isnt; least = version_least lines }
+pub IsScenFault-row : {lines : List (List ℕ)} {rows : List Row} (version : List ℕ) → IsVersion version → AreRows lines rows → length rows + 2 ≤ length (without_blank_end (version ∷ lines)) → (e : ScenFault) → IsRowFault (get_or lines (length rows) []) (length rows + 2) e → IsScenFault (version ∷ lines) e
+IsScenFault-row {lines} {rows} version is are stays e row =
+    let n = length rows in
+    let rank = rank_of_row_fault (get_or lines n []) (n + 2) e row.member in
+    first_is_least scen_fault_rank (HasScenFault (version ∷ lines)) (HasRowFault (get_or lines n []) (n + 2)) ((n + 2) ∷ []) rank.0 e (none_before_rows version is are)
+    (fault_at_line version lines n) (fault_of_row version lines n stays e row.member) rank.1 row
 
 -- each line of a scenario but the first, and but the blank ones at the end, is a row
 scenario_row : {lines : List (List ℕ)} {rows : List Row} → IsScenario lines rows → (l : ℕ) → 1 < l → l ≤ length (without_blank_end lines) → (row : Row) × IsRowOf (line_at lines l) row
@@ -250,7 +229,7 @@ IsScenFault-blank {bytes} {rest} {line} {rows} {more} h e blank some version is 
     let stays = stays_up_to h e version (suc seen.0) (omega (arith, seen.1)) seen.2 in
     let here : get_or (lines_of bytes) (length rows) [] ≡ line = ap (λ i. get_or (lines_of bytes) i []) (sym (add-zero (length rows))) ∙ next_line h e 0 in
     let few : length (words (get_or (lines_of bytes) (length rows) [])) < 9 = omega (arith, ap length (ap words here ∙ words-blanks line blank)) in
-    IsScenFault-row version is h.are (length rows + 2) refl (omega arith) (FieldCount (length rows + 2)) (IsRowFault-few (get_or (lines_of bytes) (length rows) []) (length rows + 2) few)
+    IsScenFault-row version is h.are (omega arith) (FieldCount (length rows + 2)) (IsRowFault-few (get_or (lines_of bytes) (length rows) []) (length rows + 2) few)
 
 -- the fault of a line that isn't blank is that of the file
 pub IsScenFault-next : {bytes rest line : List ℕ} {rows : List Row} {more : List (List ℕ)} → HaveRead bytes rest rows → lines_of rest ≡ line ∷ more → is_blank_line line ≡ false → (fault : ScenFault) → IsRowFault line (length rows + 2) fault
@@ -258,7 +237,7 @@ pub IsScenFault-next : {bytes rest line : List ℕ} {rows : List Row} {more : Li
 IsScenFault-next {bytes} {rest} {line} {rows} {more} h e seen fault row version is =
     let stays = stays_up_to h e version 0 (omega arith) seen in
     let here : get_or (lines_of bytes) (length rows) [] ≡ line = ap (λ i. get_or (lines_of bytes) i []) (sym (add-zero (length rows))) ∙ next_line h e 0 in
-    IsScenFault-row version is h.are (length rows + 2) refl (omega arith) fault (subst (λ l. IsRowFault l (length rows + 2) fault) (sym here) row)
+    IsScenFault-row version is h.are (omega arith) fault (subst (λ l. IsRowFault l (length rows + 2) fault) (sym here) row)
 
 -- where the lines are a scenario, want of memory alone is left
 pub only_no_memory : {lines : List (List ℕ)} {rows : List Row} → IsScenario lines rows → (e : ScenFault) → ((e ≡ NoMemory → ⊥) → IsScenFault lines e) → e ≡ NoMemory
