@@ -5,48 +5,32 @@ use Rattle.std.proofs.lemmas.Option.{same_Some}
 use Rattle.mapf_grid.specs.Lines.{line_at}
 use Rattle.mapf_grid.specs.MapFile.{HasMapFault, map_fault_rank}
 use Rattle.mapf_grid.specs.declared.fault.MapFault.{MapFault}
-use Rattle.mapf_grid.specs.declared.fault.MapFault.TheVariants.{TypeLine, Height, Width, MapLine, MissingRow, RowLength, BadCell, TextAfterRows, TooLarge, NoMemory}
-use Rattle.mapf_grid.proofs.MapFaultOrder.{HasSize-one, fault_line}
+use Rattle.mapf_grid.specs.declared.fault.MapFault.TheVariants.{TypeLine, Height, Width, MapLine, MissingRow, RowLength, BadCell, TextAfterRows, TooLarge}
+use Rattle.mapf_grid.proofs.MapFaultOrder.{HasSize-one}
 
 -- the first line that a fault of this kind can stand in
 abbrev pub first_line_of : MapFault → ℕ
-first_line_of TypeLine = 1
-first_line_of Height = 2
-first_line_of Width = 3
-first_line_of MapLine = 4
 first_line_of (MissingRow k) = 5
 first_line_of (RowLength k) = 5
 first_line_of (BadCell k column byte) = 5
 first_line_of (TextAfterRows k) = 5
 first_line_of (TooLarge k) = 2
-first_line_of NoMemory = 0
+first_line_of other = 0
 
 -- and the last one
 abbrev pub last_line_of : MapFault → ℕ
-last_line_of TypeLine = 1
-last_line_of Height = 2
-last_line_of Width = 3
-last_line_of MapLine = 4
-last_line_of (MissingRow k) = k
-last_line_of (RowLength k) = k
-last_line_of (BadCell k column byte) = k
-last_line_of (TextAfterRows k) = k
 last_line_of (TooLarge k) = 3
-last_line_of NoMemory = 0
+last_line_of other = get_or (map_fault_rank other) 0 0
 
 -- a fault stands in one of these lines
-lines_of_fault : (lines : List (List ℕ)) (y : MapFault) → HasMapFault lines y → (first_line_of y ≤ fault_line y) × (fault_line y ≤ last_line_of y)
-lines_of_fault lines TypeLine fault = (omega arith, omega arith)
-lines_of_fault lines Height fault = (omega arith, omega arith)
-lines_of_fault lines Width fault = (omega arith, omega arith)
-lines_of_fault lines MapLine fault = (omega arith, omega arith)
+lines_of_fault : (lines : List (List ℕ)) (y : MapFault) → HasMapFault lines y → (first_line_of y ≤ get_or (map_fault_rank y) 0 0) × (get_or (map_fault_rank y) 0 0 ≤ last_line_of y)
 lines_of_fault lines (MissingRow k) fault = (omega (arith, fault.1.from), omega arith)
 lines_of_fault lines (RowLength k) fault = (omega (arith, fault.1.from), omega arith)
 lines_of_fault lines (BadCell k column byte) fault = (omega (arith, fault.1.from), omega arith)
 lines_of_fault lines (TextAfterRows k) fault = (omega (arith, fault.2), omega arith)
 lines_of_fault lines (TooLarge k) fault =
     elim fault.2 [ inl two ↦ (omega (arith, two.0), omega (arith, two.0)) | inr three ↦ (omega (arith, three.0), omega (arith, three.0)) ]
-lines_of_fault lines NoMemory fault = absurd fault
+lines_of_fault lines y fault = (omega arith, omega arith)
 
 -- line 2 has no height where it is too large a one
 no_height : (lines : List (List ℕ)) (k : ℕ) → HasMapFault lines Height → HasMapFault lines (TooLarge k) → 2 ≡ k → ⊥
