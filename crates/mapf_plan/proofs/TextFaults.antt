@@ -1,11 +1,12 @@
 -- The fault of the first faulty line.
-use Rattle.std.proofs.Common.{◌≡◌, ◌≢◌, ℕ, suc, ◌+◌, ◌-◌, ◌<◌, length, ◌≤◌, ◌⊎◌, inl, inr, Some, None, List, [], ◌∷◌, ◌++◌, get_or, refl, sym, ap, ◌∙◌, subst, append-nil, length-append, arith}
+use Rattle.std.proofs.Common.{◌≡◌, ◌≢◌, ℕ, suc, ◌+◌, ◌-◌, ◌<◌, length, ◌≤◌, ◌⊎◌, inl, inr, Some, None, List, [], ◌∷◌, ◌++◌, get_or, drop, refl, sym, ap, ◌∙◌, subst, append-nil, length-append, arith}
 use Rattle.std.specs.Prelude.{slice_get, codes, decimal}
 use Rattle.std.proofs.lemmas.List.{append_cancel_left}
 use Rattle.std.proofs.lemmas.Fmt.{decimal_injective}
 use Rattle.mapf_grid.specs.Grid.{Grid}
-use Rattle.mapf_grid.specs.Least.{Precedes}
-use Rattle.mapf_plan.specs.ReadText.{AsksFor, text_fault_rank, HasTextFault, IsTextFault, IsFirstLine, IsPlanHead, IsNoneHead, ArePlanNumbers, IsLine, IsPathLine, IsFirstOutside, IsLineFault, ReadsLines, HasLinesFault, pieces, full_lines}
+use Rattle.mapf_grid.specs.Least.{Precedes, NoneBefore}
+use Rattle.mapf_grid.proofs.Firsts.{before_place, none_before-there}
+use Rattle.mapf_plan.specs.ReadText.{AsksFor, text_fault_rank, HasTextFault, IsTextFault, IsFirstLine, IsFullLine, IsPlanHead, IsNoneHead, ArePlanNumbers, IsLine, IsPathLine, IsFirstOutside, IsLineFault, ReadsLines, HasLinesFault, pieces, full_lines}
 use Rattle.mapf_plan.specs.Head.{IsHead}
 use Rattle.mapf_plan.specs.declared.text.fault.TextFault.{TextFault}
 use Rattle.mapf_plan.specs.declared.text.fault.TextFault.TheVariants as fault
@@ -19,11 +20,11 @@ use Rattle.mapf_plan.proofs.Places.{AllZip-at, AllZip-length, slice_get-behind, 
 -- where no head asks for lines, that is the only fault
 pub head_is_first : (g : Grid) (bytes : List ℕ) → (¬ ((n : ℕ) × AsksFor bytes n)) → IsTextFault g bytes fault.Head
 head_is_first g bytes none = record { member = none; least = others } where
-  others : (y : TextFault) → HasTextFault g bytes y → ¬ Precedes (text_fault_rank y) (1 ∷ [])
-  others fault.Head has = λ before. elim before [ inl less ↦ absurd (omega arith) | inr same ↦ same.1 ]
-  others (fault.Line k) has = λ before. none (has.0, has.1)
-  others (fault.Outside k at) has = λ before. none (has.0, has.1)
-  others fault.NoMemory has = λ before. has
+  others : NoneBefore text_fault_rank (HasTextFault g bytes) (1 ∷ [])
+  others fault.Head has before = omega (arith, before_place 1 1 [] before)
+  others (fault.Line k) has before = none (has.0, has.1)
+  others (fault.Outside k at) has before = none (has.0, has.1)
+  others fault.NoMemory has before = has
 
 -- without an LF there is no head
 pub no_line_asks : (bytes : List ℕ) → Lacks 10 bytes → ¬ ((n : ℕ) × AsksFor bytes n)
@@ -108,17 +109,19 @@ module _ (g : Grid) (bytes line rest behind : List ℕ) (n : ℕ) (paths : List 
       let place : k - 1 ≡ suc (length read.done) = omega (arith, as_many) in
       ap (λ l. slice_get l (k - 1)) lines_are ∙ ap (λ i. slice_get (line ∷ (read.done ++ full_lines behind)) i) place ∙ slice_get-behind read.done (full_lines behind)
 
-  line_is_first : (k : ℕ) → k ≡ length paths + 2 → HasTextFault g bytes (fault.Line k) → IsTextFault g bytes (fault.Line k)
-  line_is_first k is member = record { member = member; least = others } where
-    others : (y : TextFault) → HasTextFault g bytes y → ¬ Precedes (text_fault_rank y) (k ∷ [])
-    others fault.Head has = λ before. has (n, asks)
-    others (fault.Line j) has = λ before. elim before [ inl less ↦ no_line_fault j (omega arith) has | inr same ↦ same.1 ]
-    others (fault.Outside j at) has = λ before. elim before [ inl less ↦ no_outside j at (omega arith) has | inr same ↦ same.1 ]
-    others fault.NoMemory has = λ before. has
+  -- the head and the lines that were read have no fault
+  none_before_next : (k : ℕ) → k ≡ length paths + 2 → NoneBefore text_fault_rank (HasTextFault g bytes) (k ∷ [])
+  none_before_next k is fault.Head has before = has (n, asks)
+  none_before_next k is (fault.Line j) has before = no_line_fault j (omega (arith, is, before_place j k [] before)) has
+  none_before_next k is (fault.Outside j at) has before = no_outside j at (omega (arith, is, before_place j k (at ∷ []) before)) has
+  none_before_next k is fault.NoMemory has before = has
 
   outside_is_first : (k at : ℕ) → k ≡ length paths + 2 → (text after : List ℕ) (places : List (ℕ × ℕ)) → IsFirstLine behind text after → IsLine text places
       → IsFirstOutside g places at → HasTextFault g bytes (fault.Outside k at) → IsTextFault g bytes (fault.Outside k at)
-  outside_is_first k at is text after places begins spells outside member = record { member = member; least = others } where
+  outside_is_first k at is text after places begins spells outside member = record {
+    member = member;
+    least = none_before-there text_fault_rank (HasTextFault g bytes) (k ∷ []) (at ∷ []) (none_before_next k is) others;
+  } where
     here : slice_get (full_lines bytes) (k - 1) ≡ Some text
     here = next_line k text is ∙ ap (λ l. slice_get l 0) (full_lines-first behind text after begins)
 
@@ -137,66 +140,46 @@ module _ (g : Grid) (bytes line rest behind : List ℕ) (n : ℕ) (paths : List 
         let one : has.4.1 ≡ places = line_is_one has.4.0 has.4.1 places has.4.4 (subst P (same_line has.4.0 has.4.3.1) spells) in
         has.4.6 (outside.1 a has.4.2 less (ap (λ l. slice_get l a) (sym one) ∙ has.4.5))
 
-    others : (y : TextFault) → HasTextFault g bytes y → ¬ Precedes (text_fault_rank y) (k ∷ at ∷ [])
-    others fault.Head has = λ before. has (n, asks)
-    others (fault.Line j) has = λ before. elim before [
-      | inl less ↦ no_line_fault j (omega arith) has
-      | inr same ↦ line_there (subst (λ i. HasTextFault g bytes (fault.Line i)) same.0 has)
-    ]
-    others (fault.Outside j a) has = λ before. elim before [
-      | inl less ↦ no_outside j a (omega arith) has
-      | inr same ↦ elim same.1 [
-        | inl less ↦ earlier_place a less (subst (λ i. HasTextFault g bytes (fault.Outside i a)) same.0 has)
-        | inr equal ↦ equal.1
-      ]
-    ]
-    others fault.NoMemory has = λ before. has
+    others : (y : TextFault) (u : List ℕ) → HasTextFault g bytes y → text_fault_rank y ≡ k ∷ u → ¬ Precedes u (at ∷ [])
+    others fault.Head u has e before = has (n, asks)
+    others (fault.Line j) u has e before = line_there (subst (λ i. HasTextFault g bytes (fault.Line i)) (ap (λ l. get_or l 0 0) e) has)
+    others (fault.Outside j a) u has e before =
+        earlier_place a (before_place a at [] (subst (λ l. Precedes l (at ∷ [])) (sym (ap (drop 1) e)) before))
+        (subst (λ i. HasTextFault g bytes (fault.Outside i a)) (ap (λ l. get_or l 0 0) e) has)
+    others fault.NoMemory u has e before = has
 
   -- the line behind those that were read is none
-  bad_line : (f : TextFault) → f ≢ fault.NoMemory → length paths < n → IsLineFault g behind (length paths + 2) f → IsTextFault g bytes f
-  bad_line fault.Head real less why = absurd why
-  bad_line (fault.Line k) real less why =
-      line_is_first k why.0 (
-        n,
-        asks,
-        inl (
-          omega (arith, why.0),
-          omega (arith, why.0),
-          λ found.
-              let begins = first_full_line behind found.0 (sym (next_line k found.0 why.0) ∙ found.2.1) in
-              why.1 found.0 begins.0 found.1 begins.1 found.3,
-        ),
-      )
-  bad_line (fault.Outside k at) real less why =
+  bad_line : (f : TextFault) → length paths < n → IsLineFault g behind (length paths + 2) f → (f ≡ fault.NoMemory) ⊎ IsTextFault g bytes f
+  bad_line fault.Head less why = absurd why
+  bad_line (fault.Line k) less why =
+      let not_it : ¬ ((text : List ℕ) × (places : List (ℕ × ℕ)) × IsFullLine bytes k text × IsLine text places) = λ found.
+      let begins = first_full_line behind found.0 (sym (next_line k found.0 why.0) ∙ found.2.1) in why.1 found.0 begins.0 found.1 begins.1 found.3 in
+      inr (record { member = (n, asks, inl (omega (arith, why.0), omega (arith, why.0), not_it)); least = none_before_next k why.0 })
+  bad_line (fault.Outside k at) less why =
       let here : slice_get (full_lines bytes) (k - 1) ≡ Some why.1.0 =
       next_line k why.1.0 why.0 ∙ ap (λ l. slice_get l 0) (full_lines-first behind why.1.0 why.1.1 why.1.3) in
-      outside_is_first k at why.0 why.1.0 why.1.1 why.1.2 why.1.3 why.1.4 why.1.5 (
+      inr (outside_is_first k at why.0 why.1.0 why.1.1 why.1.2 why.1.3 why.1.4 why.1.5 (
         n,
         asks,
         omega (arith, why.0),
         omega (arith, why.0),
         (why.1.0, why.1.2, why.1.5.0.0, (omega (arith, why.0), here), why.1.4, why.1.5.0.1, why.1.5.0.2),
-      )
-  bad_line fault.NoMemory real less why = absurd (real refl)
+      ))
+  bad_line fault.NoMemory less why = inl refl
 
   -- bytes stand behind the last line
   bytes_behind : length paths ≡ n → behind ≢ [] → IsTextFault g bytes (fault.Line (n + 2))
-  bytes_behind all more = line_is_first (n + 2) (omega arith) (
-    n,
-    asks,
-    inr (
-      refl,
-      λ nothing.
+  bytes_behind all more = record { member = (n, asks, inr (refl, λ nothing. more (nothing_there nothing.0 nothing.1))); least = none_before_next (n + 2) (omega arith) }
+    where
+      nothing_there : pieces bytes ≡ full_lines bytes ++ [] ∷ [] → length (full_lines bytes) ≡ n + 1 → behind ≡ []
+      nothing_there cut count =
           let behind_lines = full_lines behind in
-          let count : length (full_lines bytes) ≡ length read.done + length behind_lines + 1 =
-          omega (arith, ap length lines_are, length-append read.done behind_lines) in
-          let none : behind_lines ≡ [] = empty_from_length behind_lines (omega (arith, count, nothing.1, as_many, all)) in
+          let none : behind_lines ≡ [] =
+          empty_from_length behind_lines (omega (arith, count, ap length lines_are, length-append read.done behind_lines, as_many, all)) in
           let whole : line ∷ (read.done ++ pieces behind) ≡ line ∷ (read.done ++ ([] ∷ [])) =
-          sym pieces_are ∙ nothing.0 ∙ ap (λ l. l ++ [] ∷ []) lines_are ∙ ap (λ l. line ∷ ((read.done ++ l) ++ [] ∷ [])) none
+          sym pieces_are ∙ cut ∙ ap (λ l. l ++ [] ∷ []) lines_are ∙ ap (λ l. line ∷ ((read.done ++ l) ++ [] ∷ [])) none
           ∙ ap (λ l. line ∷ (l ++ [] ∷ [])) (append-nil read.done) in
-          more (nothing_left behind (append_cancel_left (line ∷ read.done) (pieces behind) ([] ∷ []) whole)),
-    ),
-  )
+          nothing_left behind (append_cancel_left (line ∷ read.done) (pieces behind) ([] ∷ []) whole)
 
   -- all lines are read, and nothing stands behind them
   module _ (all : length paths ≡ n) (nothing : behind ≡ []) where
@@ -222,10 +205,10 @@ module _ (g : Grid) (bytes line rest behind : List ℕ) (n : ℕ) (paths : List 
 
 -- why the lines that the head asks for aren't there is the text's fault
 pub lines_fault : (g : Grid) (bytes line rest : List ℕ) (n : ℕ) (f : TextFault) → IsFirstLine bytes line rest → AsksFor bytes n → HasLinesFault g rest n f
-    → f ≢ fault.NoMemory → IsTextFault g bytes f
-lines_fault g bytes line rest n f first asks why real = elim why.stuck [
-  | inl stuck ↦ bad_line g bytes line rest why.rest n why.paths first asks why.read (omega (arith, stuck.0)) f real stuck.0 stuck.1
-  | inr stuck ↦ subst (IsTextFault g bytes) (sym stuck.2) (bytes_behind g bytes line rest why.rest n why.paths first asks why.read (omega (arith, stuck.0)) stuck.0 stuck.1)
+    → (f ≡ fault.NoMemory) ⊎ IsTextFault g bytes f
+lines_fault g bytes line rest n f first asks why = elim why.stuck [
+  | inl stuck ↦ bad_line g bytes line rest why.rest n why.paths first asks why.read (omega (arith, stuck.0)) f stuck.0 stuck.1
+  | inr stuck ↦ inr (subst (IsTextFault g bytes) (sym stuck.2) (bytes_behind g bytes line rest why.rest n why.paths first asks why.read (omega (arith, stuck.0)) stuck.0 stuck.1))
 ]
 
 pub asks_by_head : (bytes line rest : List ℕ) (n : ℕ) → IsFirstLine bytes line rest
@@ -236,16 +219,9 @@ asks_by_head bytes line rest n first is = (line, (omega arith, ap (λ k. slice_g
 pub plan_fault : (g : Grid) (bytes line rest : List ℕ) (n cost : ℕ) (f : TextFault) → IsFirstLine bytes line rest → IsPlanHead line n cost
     → (f ≡ fault.NoMemory) ⊎ HasLinesFault g rest n f → (f ≡ fault.NoMemory) ⊎ IsTextFault g bytes f
 plan_fault g bytes line rest n cost f first is (inl memory) = inl memory
-plan_fault g bytes line rest n cost fault.NoMemory first is (inr why) = inl refl
-plan_fault g bytes line rest n cost fault.Head first is (inr why) =
-    inr (lines_fault g bytes line rest n fault.Head first (asks_by_head bytes line rest n first (inl (cost, is))) why (λ same. cc))
-plan_fault g bytes line rest n cost (fault.Line k) first is (inr why) =
-    inr (lines_fault g bytes line rest n (fault.Line k) first (asks_by_head bytes line rest n first (inl (cost, is))) why (λ same. cc))
-plan_fault g bytes line rest n cost (fault.Outside k at) first is (inr why) =
-    inr (lines_fault g bytes line rest n (fault.Outside k at) first (asks_by_head bytes line rest n first (inl (cost, is))) why (λ same. cc))
+plan_fault g bytes line rest n cost f first is (inr why) = lines_fault g bytes line rest n f first (asks_by_head bytes line rest n first (inl (cost, is))) why
 
 -- bytes behind the line that says that there is no plan
 pub none_fault : (g : Grid) (bytes line rest : List ℕ) (bound : ℕ) → IsFirstLine bytes line rest → IsNoneHead line bound → rest ≢ [] → IsTextFault g bytes (fault.Line 2)
 none_fault g bytes line rest bound first is more =
-    lines_fault g bytes line rest 0 (fault.Line 2) first (asks_by_head bytes line rest 0 first (inr (bound, is, refl)))
-    (record { rest = rest; paths = []; read = ReadsLines-start g rest; stuck = inr (refl, more, refl) }) (λ same. cc)
+    bytes_behind g bytes line rest rest 0 [] first (asks_by_head bytes line rest 0 first (inr (bound, is, refl))) (ReadsLines-start g rest) (omega arith) refl more
