@@ -29,6 +29,11 @@ pub dec_not : {A : Type 0} → Dec A → Dec (¬ A)
 dec_not (yes a) = no (λ n. n a)
 dec_not (no n) = yes n
 
+-- what isn't denied, where it can be decided
+pub decided : {A : Type 0} → Dec A → ¬ (¬ A) → A
+decided (yes a) f = a
+decided (no n) f = absurd (f n)
+
 -- P for each number below n
 pub dec_below : (P : ℕ → Type 0) → ((k : ℕ) → Dec (P k)) → (n : ℕ) → Dec ((k : ℕ) → k < n → P k)
 dec_below P d zero = yes (λ k h. absurd (omega (arith, h)))

@@ -27,10 +27,14 @@ IsBeside g u v = IsRightOrBelow g u v ⊎ IsRightOrBelow g v u
 abbrev pub Next : Grid → ℕ → ℕ → Type 0
 Next g u v = IsFree g u × IsFree g v × ((u ≡ v) ⊎ IsBeside g u v)
 
+-- the greatest width and the greatest height of a map
+abbrev pub most_side : ℕ
+most_side = 2048
+
 -- the sizes that a map of this project has
 pub record HasSizes (g : Grid) : Type 0 where
   pub some_width : 0 < g.width
-  pub small_width : g.width ≤ 2048
+  pub small_width : g.width ≤ most_side
   pub some_height : 0 < g.height
-  pub small_height : g.height ≤ 2048
+  pub small_height : g.height ≤ most_side
   pub each_cell : length g.free ≡ cells g

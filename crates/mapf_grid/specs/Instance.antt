@@ -13,6 +13,10 @@ pub record Instance : Type 0 where
   pub starts : List ℕ
   pub goals : List ℕ
 
+-- the greatest number of agents
+abbrev pub most_agents : ℕ
+most_agents = 1000
+
 -- the cell in column x of row y
 abbrev pub cell_at : Grid → ℕ → ℕ → ℕ
 cell_at g x y = y * g.width + x
@@ -39,7 +43,7 @@ pub record IsAgent (inst : Instance) (i : ℕ) (row : Row) : Type 0 where
 pub record IsInstance (g : Grid) (rows : List Row) (n : ℕ) (inst : Instance) : Type 0 where
   pub grid : inst.grid ≡ g
   pub some : 0 < n
-  pub few : n ≤ 1000
+  pub few : n ≤ most_agents
   pub there : n ≤ length rows
   pub starts : length inst.starts ≡ n
   pub goals : length inst.goals ≡ n
@@ -53,7 +57,7 @@ OfRow rows n r P = (row : Row) × (r < n) × (slice_get rows r ≡ Some row) × 
 
 -- when the first n rows have a fault; they may have several
 abbrev pub HasInstanceFault : Grid → List Row → ℕ → InstanceFault → Type 0
-HasInstanceFault g rows n AgentCount = (n ≡ 0) ⊎ (1000 < n)
+HasInstanceFault g rows n AgentCount = (n ≡ 0) ⊎ (most_agents < n)
 HasInstanceFault g rows n (TooFewRows there) = (there ≡ length rows) × (there < n)
 HasInstanceFault g rows n (WrongSize r) = OfRow rows n r (λ row. ¬ IsSizeOf g row)
 HasInstanceFault g rows n (StartNotFree r) = OfRow rows n r (λ row. ¬ IsFreePlace g row.start_x row.start_y)

@@ -8,6 +8,9 @@ use agents::places_of;
 use std::alloc::Global;
 use std::marker::Model;
 
+/// The greatest number of agents of an instance.
+pub const MOST_AGENTS: u64 = 1_000;
+
 /// What is to be solved: a map, and each agent's start and goal.
 ///
 /// Agent i is row i of a scenario. All starts are free and distinct, and so are all goals.

@@ -14,6 +14,6 @@ mod words;
 pub use bytes::Bytes;
 pub use cell::Cell;
 pub use fault::{InstanceFault, MapFault, NoMemory, ScenFault};
-pub use instance::Instance;
+pub use instance::{Instance, MOST_AGENTS};
 pub use map::Map;
 pub use scenario::{Row, Scenario};

@@ -6,6 +6,14 @@ use Rattle.mapf_plan.specs.Path.{cost, at, IsPath}
 use Rattle.mapf_plan.specs.declared.conflict.Conflict.{Conflict}
 use Rattle.mapf_plan.specs.declared.conflict.Conflict.TheVariants.{Vertex, Swapping}
 
+-- the greatest bound; no path costs more
+abbrev pub most_bound : ℕ
+most_bound = 1000000
+
+-- the greatest cost that is stated with a plan; no plan costs more
+abbrev pub most_stated : ℕ
+most_stated = 1000000000
+
 abbrev pub path_of : List (List ℕ) → ℕ → List ℕ
 path_of plan i = slice_index_or plan i []
 

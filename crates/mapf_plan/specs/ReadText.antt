@@ -2,7 +2,10 @@
 use Rattle.std.specs.Prelude.{◌≡◌, ◌≢◌, ℕ, false, ◌+◌, ◌-◌, ◌*◌, ◌<◌, ◌≤◌, ◌⊎◌, ◌==◌, List, [], ◌∷◌, ◌++◌, length, take, codes, decimal, slice_get, All, Some}
 use Rattle.std.specs.List.{flat_map, slice_split, AllByRecursion, AllZip}
 use Rattle.mapf_grid.specs.Grid.{Grid, cells}
+use Rattle.mapf_grid.specs.Instance.{most_agents}
 use Rattle.mapf_grid.specs.Least.{IsLeast}
+use Rattle.mapf_plan.specs.Path.{most_cells}
+use Rattle.mapf_plan.specs.Plan.{most_bound, most_stated}
 use Rattle.mapf_plan.specs.Text.{line, text, CanWrite}
 use Rattle.mapf_plan.specs.declared.answer.Answer.{Answer}
 use Rattle.mapf_plan.specs.declared.answer.Answer.TheVariants as answer
@@ -12,7 +15,7 @@ use Rattle.mapf_plan.specs.declared.text.fault.TextFault.TheVariants.{Head, Line
 -- the sizes that the answers of texts have: 1 to 1,000 paths, each of 1 to 1,000,001 cells
 abbrev pub HasSizes : Answer → Type 0
 HasSizes (answer.Plan plan stated) =
-    (0 < length plan) × (length plan ≤ 1000) × AllByRecursion (λ path. (0 < length path) × (length path ≤ 1000001)) plan
+    (0 < length plan) × (length plan ≤ most_agents) × AllByRecursion (λ path. (0 < length path) × (length path ≤ most_cells)) plan
 HasSizes (answer.None bound) = Unit {0}
 
 -- the bytes are the text of this answer, whose sizes and numbers are within their limits
@@ -40,7 +43,7 @@ IsFullLine bytes k line = (0 < k) × (slice_get (full_lines bytes) (k - 1) ≡ S
 -- the number of agents and the cost, without leading zeros
 abbrev pub ArePlanNumbers : List ℕ → ℕ × ℕ → Type 0
 ArePlanNumbers numbers pair =
-    (0 < pair.0) × (pair.0 ≤ 1000) × (pair.1 ≤ 1000000000)
+    (0 < pair.0) × (pair.0 ≤ most_agents) × (pair.1 ≤ most_stated)
     × (numbers ≡ decimal pair.0 ++ (codes " " ++ decimal pair.1))
 
 -- `plan`, the number of agents and the cost
@@ -49,17 +52,21 @@ IsPlanHead line agents cost = (numbers : List ℕ) × (line ≡ codes "plan " ++
 
 -- `none` and the bound, without leading zeros
 abbrev pub IsNoneHead : List ℕ → (bound : ℕ) → Type 0
-IsNoneHead line bound = (bound ≤ 1000000) × (line ≡ codes "none " ++ decimal bound)
+IsNoneHead line bound = (bound ≤ most_bound) × (line ≡ codes "none " ++ decimal bound)
 
 -- the first line, with its LF, is a head that is followed by this many lines
 abbrev pub AsksFor : List ℕ → ℕ → Type 0
 AsksFor bytes n = (line : List ℕ) × IsFullLine bytes 1 line
     × (((cost : ℕ) × IsPlanHead line n cost) ⊎ ((bound : ℕ) × IsNoneHead line bound × (n ≡ 0)))
 
+-- the greatest number of nine digits
+abbrev pub most_coordinate : ℕ
+most_coordinate = 999999999
+
 -- a position `x,y`, in numbers of at most nine digits without leading zeros
 abbrev pub IsPlace : List ℕ → ℕ × ℕ → Type 0
 IsPlace word place =
-    (place.0 ≤ 999999999) × (place.1 ≤ 999999999) × (word ≡ decimal place.0 ++ (codes "," ++ decimal place.1))
+    (place.0 ≤ most_coordinate) × (place.1 ≤ most_coordinate) × (word ≡ decimal place.0 ++ (codes "," ++ decimal place.1))
 
 -- the pieces of a line, cut at each space
 abbrev pub words_of : List ℕ → List (List ℕ)
@@ -67,7 +74,7 @@ words_of line = slice_split (λ b. b == 32) line
 
 -- a line of positions, parted by single spaces
 abbrev pub IsLine : List ℕ → List (ℕ × ℕ) → Type 0
-IsLine line places = (length places ≤ 1000001) × AllZip IsPlace (words_of line) places
+IsLine line places = (length places ≤ most_cells) × AllZip IsPlace (words_of line) places
 
 abbrev pub IsInside : Grid → ℕ × ℕ → Type 0
 IsInside g place = (place.0 < g.width) × (place.1 < g.height)
@@ -87,7 +94,7 @@ IsPathLine g line path = (places : List (ℕ × ℕ)) × IsLine line places × A
 
 -- the bytes are the lines of these paths, whose sizes and cells are those of paths on the map
 pub record AreLinesOf (g : Grid) (bytes : List ℕ) (plan : List (List ℕ)) : Type 0 where
-  pub sizes : AllByRecursion (λ path. (0 < length path) × (length path ≤ 1000001)) plan
+  pub sizes : AllByRecursion (λ path. (0 < length path) × (length path ≤ most_cells)) plan
   pub inside : AllByRecursion (AllByRecursion (λ c. c < cells g)) plan
   pub spelled : bytes ≡ flat_map (line g) plan
 

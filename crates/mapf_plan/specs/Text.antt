@@ -2,6 +2,7 @@
 use Rattle.std.specs.Prelude.{ℕ, ◌/◌, ◌%◌, ◌<◌, ◌≤◌, List, ◌++◌, length, map, codes, decimal}
 use Rattle.std.specs.List.{flat_map, join_with_byte, AllByRecursion}
 use Rattle.mapf_grid.specs.Grid.{Grid, cells}
+use Rattle.mapf_plan.specs.Plan.{most_bound, most_stated}
 use Rattle.mapf_plan.specs.declared.answer.Answer.{Answer}
 use Rattle.mapf_plan.specs.declared.answer.Answer.TheVariants as answer
 
@@ -21,5 +22,5 @@ text g (answer.None bound) = codes "none " ++ (decimal bound ++ codes "\n")
 
 -- every position is a cell of the map, and the numbers are within their limits
 abbrev pub CanWrite : Grid → Answer → Type 0
-CanWrite g (answer.Plan plan stated) = (stated ≤ 1000000000) × AllByRecursion (AllByRecursion (λ c. c < cells g)) plan
-CanWrite g (answer.None bound) = bound ≤ 1000000
+CanWrite g (answer.Plan plan stated) = (stated ≤ most_stated) × AllByRecursion (AllByRecursion (λ c. c < cells g)) plan
+CanWrite g (answer.None bound) = bound ≤ most_bound

@@ -1,4 +1,5 @@
 ghost use Rattle.std.specs.Prelude.{◌≡◌, ◌<◌, ◌≤◌, length};
+ghost use Rattle.mapf_grid.specs.Instance.{most_agents};
 ghost use Rattle.mapf_plan.specs.Plan.{path_of};
 
 use crate::Path;
@@ -13,7 +14,7 @@ pub trait AgentPaths {
     fn agents(&self) -> usize
         ensures agents { result ≡ length (paths self.now) }
         ensures some { 0 < length (paths self.now) }
-        ensures few { length (paths self.now) ≤ 1000 };
+        ensures few { length (paths self.now) ≤ most_agents };
 
     /// The path of an agent.
     fn path(&self, agent: usize) -> &Path

@@ -1,5 +1,11 @@
 use crate::Plan;
 
+/// The greatest bound on what a plan may cost.
+pub const MOST_BOUND: u64 = 1_000_000;
+
+/// The greatest cost that may be stated with a plan.
+pub const MOST_STATED: u64 = 1_000_000_000;
+
 /// What a planner answers.
 #[derive(Debug, Drop)]
 pub enum Answer {

@@ -1,7 +1,7 @@
 ghost use Rattle.std.specs.Prelude.{◌≡◌, ◌≢◌, ◌⊎◌, ◌+◌, ◌<◌, ◌≤◌, [], ◌∷◌, length, MatchOption, ⊤};
 ghost use Rattle.mapf_grid.specs.Least.{IsLeast, NoneBefore, Precedes};
 ghost use Rattle.mapf_plan.specs.declared.conflict.Conflict.{Conflict};
-ghost use Rattle.mapf_plan.specs.Plan.{conflict_rank, first_agent, second_agent, IsConflict, IsFirstConflict, HasNoConflict};
+ghost use Rattle.mapf_plan.specs.Plan.{most_bound, conflict_rank, first_agent, second_agent, IsConflict, IsFirstConflict, HasNoConflict};
 ghost use Rattle.mapf_plan.specs.FirstConflict.{IsConflictOfPair, IsConflictWithout, IsEarlier};
 
 use crate::{AgentPaths, Conflict};
@@ -102,7 +102,7 @@ fn earlier<P: AgentPaths>(
 fn last_worth<P: AgentPaths>(plan: &P, first: usize, second: usize, known: Option<Conflict>) -> u32
     requires agents { first < second }
     requires plan { second < length (P.paths plan.now) }
-    ensures small { result ≤ 1000000 }
+    ensures small { result ≤ most_bound }
     ensures none { NoneBefore conflict_rank (IsConflictOfPair (P.paths plan.now) first second) ((result + 1) ∷ [])
         → (c : Conflict) → IsConflictOfPair (P.paths plan.now) first second c → ¬ IsEarlier c known }
 {
@@ -123,7 +123,7 @@ fn first_of_pair<P: AgentPaths>(
 ) -> Option<Conflict>
     requires agents { first < second }
     requires plan { second < length (P.paths plan.now) }
-    requires end { last ≤ 1000000 }
+    requires end { last ≤ most_bound }
     requires before { NoneBefore conflict_rank (IsConflictOfPair (P.paths plan.now) first second) (from ∷ []) }
     ensures { MatchOption result (NoneBefore conflict_rank (IsConflictOfPair (P.paths plan.now) first second) ((last + 1) ∷ []))
         (λ c. IsLeast conflict_rank (IsConflictOfPair (P.paths plan.now) first second) c) }

@@ -12,7 +12,7 @@ mod plan;
 mod text;
 
 pub use agent_paths::AgentPaths;
-pub use answer::Answer;
+pub use answer::{Answer, MOST_BOUND, MOST_STATED};
 pub use conflict::Conflict;
 pub use device::{Counted, ReadFault, Sink, Source, WriteFailed, read_whole, write_whole};
 pub use first_conflict::first_conflict_of_changed;

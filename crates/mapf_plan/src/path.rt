@@ -1,5 +1,6 @@
 ghost use Rattle.std.specs.Prelude.{◌≡◌, ◌<◌, ◌≤◌, length};
-ghost use Rattle.mapf_plan.specs.Path.{at, cost};
+ghost use Rattle.mapf_plan.specs.Path.{at, cost, most_cells};
+ghost use Rattle.mapf_plan.specs.Plan.{most_bound};
 
 mod copy;
 
@@ -14,19 +15,20 @@ pub struct Path {
 
 impl Model for Path {
     ghost use Rattle.std.specs.Prelude.{ℕ, List, ◌<◌, ◌≤◌, length};
+    ghost use Rattle.mapf_plan.specs.Path.{most_cells};
 
     ghost Value = { List ℕ };
 
     ghost view = { λ p. p.cells.items };
 
-    ghost invariant = { λ p. (0 < length p.cells.items) × (length p.cells.items ≤ 1000001) };
+    ghost invariant = { λ p. (0 < length p.cells.items) × (length p.cells.items ≤ most_cells) };
 }
 
 impl Path {
     /// The path over these cells.
     pub fn of(cells: Vec<Cell>) -> Self
         requires some { 0 < length cells.items }
-        requires few { length cells.items ≤ 1000001 }
+        requires few { length cells.items ≤ most_cells }
         ensures { result ≡ cells.items }
     {
         Path { cells }
@@ -36,7 +38,7 @@ impl Path {
     pub fn cells(&self) -> &[Cell]
         ensures cells { result.now ≡ self.now }
         ensures some { 0 < length self.now }
-        ensures few { length self.now ≤ 1000001 }
+        ensures few { length self.now ≤ most_cells }
     {
         self.cells.as_slice()
     }
@@ -44,7 +46,7 @@ impl Path {
     /// The number of steps, waits among them: the number of cells less one.
     pub fn cost(&self) -> u32
         ensures cost { result ≡ cost self.now }
-        ensures small { result ≤ 1000000 }
+        ensures small { result ≤ most_bound }
     {
         (self.cells.len() - 1) as u32
     }

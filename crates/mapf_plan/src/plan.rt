@@ -1,5 +1,6 @@
 ghost use Rattle.std.specs.Prelude.{◌≡◌, ◌<◌, ◌≤◌, length, MatchOption};
-ghost use Rattle.mapf_plan.specs.Plan.{place, plan_cost, IsFirstConflict, HasNoConflict};
+ghost use Rattle.mapf_grid.specs.Instance.{most_agents};
+ghost use Rattle.mapf_plan.specs.Plan.{most_stated, place, plan_cost, IsFirstConflict, HasNoConflict};
 
 mod copy;
 
@@ -16,19 +17,20 @@ pub struct Plan {
 
 impl Model for Plan {
     ghost use Rattle.std.specs.Prelude.{ℕ, List, ◌<◌, ◌≤◌, length};
+    ghost use Rattle.mapf_grid.specs.Instance.{most_agents};
 
     ghost Value = { List (List ℕ) };
 
     ghost view = { λ p. p.paths.items };
 
-    ghost invariant = { λ p. (0 < length p.paths.items) × (length p.paths.items ≤ 1000) };
+    ghost invariant = { λ p. (0 < length p.paths.items) × (length p.paths.items ≤ most_agents) };
 }
 
 impl Plan {
     /// The plan of these paths.
     pub fn of(paths: Vec<Path>) -> Self
         requires some { 0 < length paths.items }
-        requires few { length paths.items ≤ 1000 }
+        requires few { length paths.items ≤ most_agents }
         ensures { result ≡ paths.items }
     {
         Plan { paths }
@@ -38,7 +40,7 @@ impl Plan {
     pub fn paths(&self) -> &[Path]
         ensures paths { result.now ≡ self.now }
         ensures some { 0 < length self.now }
-        ensures few { length self.now ≤ 1000 }
+        ensures few { length self.now ≤ most_agents }
     {
         self.paths.as_slice()
     }
@@ -46,7 +48,7 @@ impl Plan {
     /// The sum of costs: the costs of all paths, added up.
     pub fn cost(&self) -> u64
         ensures cost { result ≡ plan_cost self.now }
-        ensures small { result ≤ 1000000000 }
+        ensures small { result ≤ most_stated }
     {
         let mut sum = 0;
         for path in &self.paths {

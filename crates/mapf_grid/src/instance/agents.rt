@@ -5,6 +5,7 @@ ghost use Rattle.mapf_grid.specs.Grid.{HasSizes};
 ghost use Rattle.mapf_grid.specs.Instance.{IsInstance, IsInstanceFault, IsFreePlace, cell_at};
 ghost use Rattle.mapf_grid.specs.NewAgent.{IsNewAgent, HasAgentFault, IsFirstAt};
 
+use super::MOST_AGENTS;
 use super::taken::Taken;
 use crate::{Cell, InstanceFault, Map, Row};
 use std::alloc::Global;
@@ -20,7 +21,7 @@ pub(super) fn places_of(
     ensures fault { IfErr result (λ e. e ≢ InstanceFault.NoMemory → IsInstanceFault map.now rows.now agents e) }
     ensures sizes { OnOk result (HasSizes map.now) }
 {
-    if agents == 0 || agents > 1000 {
+    if agents == 0 || agents > MOST_AGENTS {
         return Err(InstanceFault::AgentCount);
     }
     if (rows.len() as u64) < agents {

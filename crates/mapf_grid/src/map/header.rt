@@ -10,7 +10,7 @@ use crate::lines::{first_line, number};
 use crate::words::first_word;
 
 /// The greatest height and width of a map.
-const LARGEST: u32 = 2048;
+const MOST_SIDE: u32 = 2_048;
 
 /// What the header states, and the bytes behind it.
 #[derive(Drop)]
@@ -36,13 +36,13 @@ pub(super) fn read_header(bytes: &[u8]) -> Result<Header<'_>, MapFault>
     let Some(height) = positive_size(lines.height_line, b"height") else {
         return Err(MapFault::Height);
     };
-    if height > LARGEST {
+    if height > MOST_SIDE {
         return Err(MapFault::TooLarge { line: 2 });
     }
     let Some(width) = positive_size(lines.width_line, b"width") else {
         return Err(MapFault::Width);
     };
-    if width > LARGEST {
+    if width > MOST_SIDE {
         return Err(MapFault::TooLarge { line: 3 });
     }
     if !is_map_line(lines.map_line) {

@@ -1,4 +1,5 @@
 ghost use Rattle.std.specs.Prelude.{◌≡◌, ◌≢◌, ℕ, ◌<◌, ◌≤◌, ◌↔◌, IsTrue, slice_index, length, MatchOption, SomeIff, decimal};
+ghost use Rattle.mapf_plan.specs.Plan.{most_stated};
 ghost use Rattle.std.specs.Str.Parse.{AllDigits, digits_value};
 
 // The digits of 1,000,000,000, the greatest number that a text has.
@@ -6,7 +7,7 @@ const MOST_DIGITS: usize = 10;
 
 /// The number up to `most` that a word spells without leading zeros; none where it spells none.
 pub(super) fn number(word: &[u8], most: u64) -> Option<u64>
-    requires { most ≤ 1000000000 }
+    requires { most ≤ most_stated }
     ensures { MatchOption result ((n : ℕ) → n ≤ most → word.now ≢ decimal n)
         (λ n. (n ≤ most) × (word.now ≡ decimal n)) }
 {

@@ -1,5 +1,7 @@
 ghost use Rattle.std.specs.Prelude.{◌≡◌, ◌≢◌, ℕ, List, ◌+◌, ◌*◌, ◌<◌, ◌≤◌, ◌⊎◌, ◌++◌, ◌∷◌, [], length, vec_len, MatchOption, MatchResult, IfOk, IfErr, slice_get, Some};
 ghost use Rattle.std.specs.List.{AllZip};
+ghost use Rattle.mapf_grid.specs.Instance.{most_agents};
+ghost use Rattle.mapf_plan.specs.Path.{most_cells};
 ghost use Rattle.mapf_plan.specs.ReadText.{IsPlace, IsLine, IsCellAt, IsFirstOutside, IsFirstLine, IsPathLine, ArePlanNumbers, AreLinesOf, IsTextOf, IsTextFault, IsLineFault, HasLinesFault};
 ghost use Rattle.mapf_plan.specs.Head.{IsHead};
 ghost use Rattle.mapf_plan.specs.declared.answer.Answer.{Answer as AnswerValue};
@@ -8,17 +10,11 @@ ghost use Rattle.mapf_plan.specs.declared.text.reader.Head.{Head as HeadValue};
 use super::TextFault;
 use super::cut::cut_at;
 use super::number::number;
-use crate::{Answer, Path, Plan};
-use mapf_grid::{Cell, Map};
+use crate::{Answer, MOST_BOUND, MOST_STATED, Path, Plan};
+use mapf_grid::{Cell, MOST_AGENTS, Map};
 use std::alloc::Global;
 
-const MOST_AGENTS: u64 = 1_000;
-
-const MOST_COST: u64 = 1_000_000_000;
-
-const MOST_BOUND: u64 = 1_000_000;
-
-const MOST_POSITIONS: usize = 1_000_001;
+const MOST_CELLS: usize = 1_000_001;
 // A column or a row has at most nine digits.
 const MOST_COORDINATE: u64 = 999_999_999;
 
@@ -86,7 +82,7 @@ fn read_plan_numbers(numbers: &[u8]) -> Option<(usize, u64)>
 {
     let (agents, cost) = cut_at(numbers, b' ')?;
     let agents = number(agents, MOST_AGENTS)?;
-    let cost = number(cost, MOST_COST)?;
+    let cost = number(cost, MOST_STATED)?;
     if agents == 0 {
         return None;
     }
@@ -96,7 +92,7 @@ fn read_plan_numbers(numbers: &[u8]) -> Option<(usize, u64)>
 // The lines of the agents, from line 2 on, and nothing behind them.
 fn read_plan(alloc: Global, bytes: &[u8], agents: usize, map: &Map) -> Result<Plan, TextFault>
     requires some { 0 < agents }
-    requires few { agents ≤ 1000 }
+    requires few { agents ≤ most_agents }
     ensures agents { IfOk result (λ plan. length plan ≡ agents) }
     ensures lines { IfOk result (AreLinesOf map.now bytes.now) }
     ensures fault { IfErr result (λ fault. (fault ≡ TextFault.NoMemory) ⊎ HasLinesFault map.now bytes.now agents fault) }
@@ -160,12 +156,12 @@ fn read_places(alloc: Global, line: &[u8], number: usize) -> Result<Vec<(u32, u3
 // Appends the column and the row that a word spells.
 fn push_place(places: &mut Vec<(u32, u32)>, word: &[u8], number: usize) -> Result<(), TextFault>
     ensures pushed { IfOk result (λ _. (place : ℕ × ℕ) × IsPlace word.now place
-        × (places.new.items ≡ places.old.items ++ place ∷ []) × (length places.old.items < 1000001)) }
+        × (places.new.items ≡ places.old.items ++ place ∷ []) × (length places.old.items < most_cells)) }
     ensures fault { IfErr result (λ fault. (fault ≡ TextFault.NoMemory) ⊎ ((fault ≡ TextFault.Line number)
-        × ((1000001 ≤ length places.old.items) ⊎ ((place : ℕ × ℕ) → ¬ IsPlace word.now place)))) }
+        × ((most_cells ≤ length places.old.items) ⊎ ((place : ℕ × ℕ) → ¬ IsPlace word.now place)))) }
 {
     let fault = TextFault::Line { line: number };
-    if places.len() >= MOST_POSITIONS {
+    if places.len() >= MOST_CELLS {
         return Err(fault);
     }
     places.push(read_place(word).ok_or(fault)?)?;
