@@ -1,11 +1,12 @@
 -- What a verdict says: a plan without a fault is valid, a verdict's cells are cells of the map, and an answer has one verdict.
-use Rattle.std.proofs.Common.{◌≡◌, ◌≢◌, ℕ, ◌+◌, ◌-◌, ◌<◌, min, List, [], ◌∷◌, length, slice_index, Option, Some, None, MatchOption, inl, inr, subst, sym, refl, ap, ap₂, ◌∙◌, arith}
+use Rattle.std.proofs.Common.{◌≡◌, ◌≢◌, ℕ, ◌+◌, ◌-◌, ◌<◌, min, List, [], ◌∷◌, length, get_or, drop, slice_index, Option, Some, None, MatchOption, inl, subst, sym, refl, ap, ap₂, ◌∙◌, arith}
 use Rattle.std.specs.Prelude.{slice_get}
 use Rattle.std.specs.List.{AllByRecursion}
 use Rattle.std.proofs.lemmas.List.Elements.{All-from_recursion}
 use Rattle.std.proofs.lemmas.Option.{slice_get_within, slice_get-get_or, get_or_from_slice_get}
 use native.Mathlib.Decide.{ℕ_discrete}
-use Rattle.mapf_grid.proofs.Decide.{dec_map}
+use Rattle.mapf_grid.proofs.Decide.{dec_map, decided}
+use Rattle.mapf_grid.proofs.Firsts.{NoneAt, none_before-next}
 use Rattle.mapf_grid.proofs.Steps.{dec_next}
 use Rattle.mapf_grid.proofs.Orders.{same_rank}
 use Rattle.mapf_grid.specs.Grid.{Next, cells}
@@ -24,16 +25,6 @@ use Rattle.mapf_check.specs.declared.verdict.Verdict.TheVariants as verdict
 use Rattle.mapf_check.specs.Positions.{AreCells, HasPositions}
 use Rattle.mapf_check.specs.Verdict.{HasPath, HasFault, NoFaultBefore, IsPlanVerdict, HasOneVerdict, verdict_rank}
 
--- the first number of a rank
-abbrev head : List ℕ → ℕ
-head [] = 0
-head (x ∷ xs) = x
-
--- what a rank has behind its first number
-abbrev tail : List ℕ → List ℕ
-tail [] = []
-tail (x ∷ xs) = xs
-
 -- whether a path's first cell is this one can be decided
 dec_first : (o : Option ℕ) (c : ℕ) → Dec (o ≡ Some c)
 dec_first None c = no (λ e. cc)
@@ -47,12 +38,11 @@ at_none (Some x) P Q h not_some = absurd (not_some x refl)
 module _ (inst : Instance) (plan : List (List ℕ)) where
   -- without a conflict there is no fault before the cost
   none_before_costs : NoFaultBefore inst plan (66 ∷ []) → HasNoConflict plan → NoFaultBefore inst plan (67 ∷ [])
-  none_before_costs none apart stated (verdict.Valid c) h pre = h
-  none_before_costs none apart stated verdict.NoPlanGiven h pre = h
-  none_before_costs none apart stated (verdict.Conflict c) h pre = apart c h
-  none_before_costs none apart stated (verdict.WrongCost s found) h (inl l) = omega (arith, l)
-  none_before_costs none apart stated (verdict.WrongCost s found) h (inr p) = p.1
-  none_before_costs none apart stated v h pre = none stated v h (inl (omega arith))
+  none_before_costs none apart stated = none_before-next verdict_rank (HasFault inst plan stated) [] 66 (none stated) no_conflict
+    where
+      no_conflict : NoneAt verdict_rank (HasFault inst plan stated) (66 ∷ [])
+      no_conflict (verdict.Conflict c) q h e = apart c h
+      no_conflict v q h e = omega (arith, ap (λ r. get_or r 0 0) e)
 
   -- the first fault is the verdict
   pub fault_is_verdict : (stated : ℕ) (v : Verdict) → IsLeast verdict_rank (HasFault inst plan stated) v → IsPlanVerdict inst plan stated v
@@ -61,20 +51,14 @@ module _ (inst : Instance) (plan : List (List ℕ)) where
 
   -- without the fault 61 each agent has a path
   counted : (stated k : ℕ) (q : List ℕ) → 61 < k → NoneBefore verdict_rank (HasFault inst plan stated) (k ∷ q) → length plan ≡ length inst.starts
-  counted stated k q lo none = go (ℕ_discrete (length plan) (length inst.starts))
-    where
-      go : Dec (length plan ≡ length inst.starts) → length plan ≡ length inst.starts
-      go (yes e) = e
-      go (no n) = absurd (none (verdict.AgentCount (length plan)) (refl, n) (inl lo))
+  counted stated k q lo none =
+      decided (ℕ_discrete (length plan) (length inst.starts)) (λ n. none (verdict.AgentCount (length plan)) (refl, n) (inl lo))
 
   -- without the fault 62 its path begins on its start
   begun : (stated k : ℕ) (q : List ℕ) → 62 < k → NoneBefore verdict_rank (HasFault inst plan stated) (k ∷ q) → (i : ℕ) → HasPath inst plan i →
       slice_get (path_of plan i) 0 ≡ Some (slice_index inst.starts i)
-  begun stated k q lo none i h = go (dec_first (slice_get (path_of plan i) 0) (slice_index inst.starts i))
-    where
-      go : Dec (slice_get (path_of plan i) 0 ≡ Some (slice_index inst.starts i)) → slice_get (path_of plan i) 0 ≡ Some (slice_index inst.starts i)
-      go (yes e) = e
-      go (no n) = absurd (none (verdict.WrongStart i) (h, n) (inl lo))
+  begun stated k q lo none i h =
+      decided (dec_first (slice_get (path_of plan i) 0) (slice_index inst.starts i)) (λ n. none (verdict.WrongStart i) (h, n) (inl lo))
 
   -- without the faults 62 to 65 an agent's path is one from its start to its goal
   path_lem : IsSound inst → NoFaultBefore inst plan (67 ∷ []) → (i : ℕ) → HasPath inst plan i →
@@ -82,9 +66,9 @@ module _ (inst : Instance) (plan : List (List ℕ)) where
   path_lem agents none i h = record {
     some = some;
     starts = at_inside (path_of plan i) 0 some ∙ get_or_from_slice_get (path_of plan i) 0 (slice_index inst.starts i) 0 first;
-    ends = ends (ℕ_discrete (place plan i (cost (path_of plan i))) (slice_index inst.goals i));
+    ends = decided (ℕ_discrete (place plan i (cost (path_of plan i))) (slice_index inst.goals i)) (λ n. none 0 (verdict.WrongEnd i) (h, n) (inl (omega arith)));
     free = agents.starts_free i h.0;
-    steps = λ t l. step t l (dec_next inst.grid (place plan i t) (place plan i (t + 1)));
+    steps = λ t l. decided (dec_next inst.grid (place plan i t) (place plan i (t + 1))) (no_step t l);
     arrives = arrives;
   }
     where
@@ -94,17 +78,12 @@ module _ (inst : Instance) (plan : List (List ℕ)) where
       some : 0 < length (path_of plan i)
       some = slice_get_within (path_of plan i) 0 (slice_index inst.starts i) first
 
-      ends : Dec (place plan i (cost (path_of plan i)) ≡ slice_index inst.goals i) → place plan i (cost (path_of plan i)) ≡ slice_index inst.goals i
-      ends (yes e) = e
-      ends (no n) = absurd (none 0 (verdict.WrongEnd i) (h, n) (inl (omega arith)))
-
-      step : (t : ℕ) → t < cost (path_of plan i) → Dec (Next inst.grid (place plan i t) (place plan i (t + 1))) → Next inst.grid (place plan i t) (place plan i (t + 1))
-      step t l (yes s) = s
-      step t l (no n) =
+      no_step : (t : ℕ) → t < cost (path_of plan i) → ¬ (¬ Next inst.grid (place plan i t) (place plan i (t + 1)))
+      no_step t l n =
           let same : t ≡ t + 1 - 1 = omega arith in
           let bad : ¬ Next inst.grid (place plan i (t + 1 - 1)) (place plan i (t + 1)) =
           subst (λ u. ¬ Next inst.grid (place plan i u) (place plan i (t + 1))) same n in
-          absurd (none 0 (verdict.BadStep i (t + 1)) (h, omega arith, omega (arith, l), bad) (inl (omega arith)))
+          none 0 (verdict.BadStep i (t + 1)) (h, omega arith, omega (arith, l), bad) (inl (omega arith))
 
       arrives : (t : ℕ) → t + 1 ≡ cost (path_of plan i) → place plan i t ≢ slice_index inst.goals i
       arrives t e on =
@@ -186,12 +165,12 @@ module _ (inst : Instance) (plan : List (List ℕ)) where
   same_fault stated (verdict.BadStep i s) (verdict.BadStep j t) h g e = cc
   same_fault stated (verdict.WrongEnd i) (verdict.WrongEnd j) h g e = cc
   same_fault stated (verdict.EndsLate i) (verdict.EndsLate j) h g e = cc
-  same_fault stated (verdict.Conflict c) (verdict.Conflict d) h g e = ap verdict.Conflict (same_conflict_rank plan c d h g (ap tail e))
+  same_fault stated (verdict.Conflict c) (verdict.Conflict d) h g e = ap verdict.Conflict (same_conflict_rank plan c d h g (ap (drop 1) e))
   same_fault stated (verdict.WrongCost s m) (verdict.WrongCost t n) h g e =
       ap₂ (λ a b. verdict.WrongCost a b) (h.0 ∙ sym g.0) (h.1 ∙ sym g.1)
   same_fault stated v (verdict.Valid c) h g e = absurd g
   same_fault stated v verdict.NoPlanGiven h g e = absurd g
-  same_fault stated v w h g e = absurd (omega (arith, ap head e))
+  same_fault stated v w h g e = absurd (omega (arith, ap (λ r. get_or r 0 0) e))
 
   -- a verdict that isn't Valid is the first fault
   one_plan_verdict : (stated : ℕ) (v w : Verdict) → IsPlanVerdict inst plan stated v → IsPlanVerdict inst plan stated w → v ≡ w
