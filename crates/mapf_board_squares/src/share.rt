@@ -5,7 +5,7 @@ ghost use Rattle.mapf_board.specs.Workers.{IsWorkerOf, IsIdle, size_of};
 use crate::owner::{post_all, square_all};
 use crate::square::Squares;
 use crate::worker::work;
-use mapf_board::{Live, WorkerSeat};
+use mapf_board::{Live, NoMemory, WorkerSeat};
 use std::alloc::{AllocError, Global};
 use std::thread::{Threads, join, map_vec};
 
@@ -28,12 +28,12 @@ fn work_all<R: Threads + Sync>(
     map_vec(rt, seats, &|seat| work(live, slots, seat))
 }
 
-/// The squares of 1 to 64 numbers, in their order, by two workers and the owner of a board. An error is want of memory.
+/// The squares of 1 to 64 numbers, in their order, by two workers and the owner of a board.
 pub fn squares<R: Threads + Sync>(
     rt: &R,
     alloc: Global,
     numbers: &[u32],
-) -> Result<Vec<u64>, AllocError>
+) -> Result<Vec<u64>, NoMemory>
     requires { (1 ≤ length numbers.now) × (length numbers.now ≤ 64) }
     ensures { IfOk result (λ all. all.items ≡ map (λ n. n * n) numbers.now) }
 {

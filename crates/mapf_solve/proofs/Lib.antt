@@ -4,4 +4,3 @@ mod Leaving
 mod WorkedAhead
 mod WaitingNodes
 pub mod RootPlaces
-pub mod RoundLists

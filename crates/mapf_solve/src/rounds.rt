@@ -8,7 +8,6 @@ mod kept;
 mod path_job;
 mod root;
 mod root_paths;
-mod round;
 mod side_job;
 mod side_jobs;
 mod side_order;
@@ -18,7 +17,7 @@ use mapf_board::Pair;
 use mapf_grid::NoMemory;
 use mapf_tree::{Children, Node, OpenList, Problem, Side, child};
 pub(crate) use root::root;
-pub(crate) use side_job::Sides;
+pub(crate) use side_job::SideWork;
 pub(crate) use side_jobs::do_sides;
 use side_jobs::side_orders;
 use side_order::SideOrder;
@@ -40,7 +39,7 @@ pub(crate) struct Rounds<'p, F> {
     kept: Kept<'p>,
 }
 
-impl<'p, F: Fn(&[SideOrder<'_, 'p>]) -> Vec<Pair<Sides<'p>>>> Rounds<'p, F> {
+impl<'p, F: Fn(&[SideOrder<'_, 'p>]) -> Vec<Pair<SideWork<'p>>>> Rounds<'p, F> {
     /// Rounds of this kind for so many workers, whose first job has this number.
     pub(crate) fn new(
         alloc: Global,
@@ -87,7 +86,7 @@ impl<'p, F: Fn(&[SideOrder<'_, 'p>]) -> Vec<Pair<Sides<'p>>>> Rounds<'p, F> {
     }
 }
 
-impl<'p, F: Fn(&[SideOrder<'_, 'p>]) -> Vec<Pair<Sides<'p>>>> Children for Rounds<'p, F> {
+impl<'p, F: Fn(&[SideOrder<'_, 'p>]) -> Vec<Pair<SideWork<'p>>>> Children for Rounds<'p, F> {
     ghost use Rattle.std.specs.Prelude.{◌≡◌, ◌<◌, ◌≤◌, All, Contains, length};
 
     // It serves its own problem, with a round that takes up to 64 orders and answers no others.

@@ -3,7 +3,7 @@ ghost use Rattle.std.specs.Prelude.{◌≡◌, ◌≤◌, ◌<◌, All, Contains
 ghost use Rattle.mapf_board.specs.Seats.{IsSeatOf, IsSpent, AreDrawn, count_of, seats_of};
 
 use super::rows::{Rows, place_of};
-use mapf_board::{Pair, TicketSeat, Tickets, Work};
+use mapf_board::{NoMemory, Pair, TicketSeat, Tickets, Work};
 use std::alloc::{AllocError, Global};
 use std::thread;
 use std::thread::Threads;
@@ -59,7 +59,7 @@ pub(super) fn all_pairs<'m, R: Threads + Sync>(
     alloc: Global,
     row: &'m [u32],
     workers: usize,
-) -> Result<(usize, Vec<Pair<Rows<'m>>>), AllocError>
+) -> Result<(usize, Vec<Pair<Rows<'m>>>), NoMemory>
     requires row { length row.now ≤ 1000 }
     requires workers { (1 ≤ workers) × (workers ≤ 64) }
     ensures { IfOk result (λ r. r.0 ≡ length row.now) }

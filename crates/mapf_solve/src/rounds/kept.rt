@@ -4,7 +4,7 @@ ghost use Rattle.std.specs.Prelude.{◌≡◌, All, IfSome, IsTrue, Some, slice_
 ghost use Rattle.mapf_tree.specs.declared.side.Side.{Side as Turn};
 ghost use Rattle.mapf_tree.specs.Nodes.{Shown};
 
-use crate::rounds::side_job::{SideJob, Sides};
+use crate::rounds::side_job::{SideJob, SideWork};
 use mapf_board::Pair;
 use mapf_tree::{Node, Problem, Side};
 use std::alloc::Global;
@@ -14,7 +14,7 @@ use std::marker::Model;
 #[derive(Drop)]
 pub(crate) struct Kept<'p> {
     problem: &'p Problem,
-    pairs: Vec<Pair<Sides<'p>>>,
+    pairs: Vec<Pair<SideWork<'p>>>,
 }
 
 impl<'p> Model for Kept<'p> {
@@ -66,7 +66,7 @@ impl<'p> Kept<'p> {
     }
 
     /// Keeps these children too; they are dropped for want of memory.
-    pub(crate) fn keep(&mut self, mut pairs: Vec<Pair<Sides<'p>>>)
+    pub(crate) fn keep(&mut self, mut pairs: Vec<Pair<SideWork<'p>>>)
         requires { All (λ p. p.0.problem ≡ self.old) pairs.items }
         ensures { self.new ≡ self.old }
     {
@@ -75,7 +75,7 @@ impl<'p> Kept<'p> {
 }
 
 /// Where the pair for this node and side stands.
-fn place_of<'p>(pairs: &[Pair<Sides<'p>>], node: &Node, side: Side) -> Option<usize>
+fn place_of<'p>(pairs: &[Pair<SideWork<'p>>], node: &Node, side: Side) -> Option<usize>
     ensures { IfSome result (λ i. (p : _) × (slice_get pairs.now i ≡ Some p) × (p.0.node.name ≡ node.now.name) × (p.0.side ≡ side)) }
 {
     for (place, pair) in pairs.iter().enumerate() {

@@ -3,9 +3,7 @@
 ghost use Rattle.std.specs.Prelude.{◌≡◌, ◌<◌, length};
 ghost use Rattle.mapf_solve.specs.Rounds.{FitsPath};
 
-use crate::rounds::round::Order;
-use mapf_board::{Pair, Task, Work};
-use mapf_grid::NoMemory;
+use mapf_board::{NoMemory, Order, Pair, Task, Work};
 use mapf_plan::Path;
 use mapf_tree::{Problem, root_path};
 use std::alloc::Global;
@@ -54,22 +52,22 @@ impl<'p> PathJob<'p> {
 
 /// Finds agents' own paths.
 #[derive(Drop)]
-pub(crate) struct Paths<'p> {
+pub(crate) struct PathWork<'p> {
     alloc: Global,
     of: PhantomData<&'p Problem>,
 }
 
-impl<'p> Paths<'p> {
+impl<'p> PathWork<'p> {
     /// The work on any problem's agents; memory comes from this allocator.
-    pub(crate) fn new(alloc: Global) -> Paths<'p> {
-        Paths {
+    pub(crate) fn new(alloc: Global) -> PathWork<'p> {
+        PathWork {
             alloc,
             of: PhantomData,
         }
     }
 }
 
-impl<'p> Task for Paths<'p> {
+impl<'p> Task for PathWork<'p> {
     type Job = PathJob<'p>;
 
     type Answer = Option<Path>;
@@ -77,8 +75,8 @@ impl<'p> Task for Paths<'p> {
     ghost fits = { FitsPath };
 }
 
-impl<'p> Work for Paths<'p> {
-    fn perform(&self, job: PathJob<'p>) -> Result<Pair<Paths<'p>>, PathJob<'p>> {
+impl<'p> Work for PathWork<'p> {
+    fn perform(&self, job: PathJob<'p>) -> Result<Pair<PathWork<'p>>, PathJob<'p>> {
         match root_path(self.alloc, job.problem, job.agent) {
             Ok(found) => Ok(Pair::of(job, found)),
             Err(_) => Err(job),
@@ -86,9 +84,9 @@ impl<'p> Work for Paths<'p> {
     }
 }
 
-// An agent's job is its own order.
-impl<'p> Order<Paths<'p>> for PathJob<'p> {
-    ghost asked = { λ j. j };
+/// An agent's job is its own order.
+impl<'p> Order<PathWork<'p>> for PathJob<'p> {
+    ghost ordered = { λ j. j };
 
     fn job(&self, _alloc: Global) -> Result<PathJob<'p>, NoMemory> {
         Ok(PathJob {

@@ -4,10 +4,9 @@ ghost use Rattle.std.specs.Prelude.{◌≡◌, ◌<◌, ◌≤◌, [], All, IfOk
 ghost use Rattle.mapf_tree.specs.Family.{IsOwn, IsRoot};
 ghost use Rattle.mapf_solve.specs.Rounds.{AreOfAgents};
 
-use crate::rounds::path_job::{PathJob, Paths};
+use crate::rounds::path_job::{PathJob, PathWork};
 use crate::rounds::root_paths::RootPaths;
-use crate::rounds::round::run_round;
-use mapf_board::Gate;
+use mapf_board::{Gate, run_round};
 use mapf_grid::NoMemory;
 use mapf_plan::Path;
 use mapf_tree::{Node, Problem, root_path, root_with};
@@ -70,9 +69,11 @@ fn paths_ahead<'p, R: Threads + Sync, G: Gate>(
     ensures { IfOk result (λ r. r ≡ problem.now) }
 {
     let jobs = path_jobs(alloc, problem)?;
-    let work = Paths::new(alloc);
-    let pairs = run_round(rt, alloc, &work, &jobs, gate, workers)?;
-    RootPaths::of(alloc, problem, pairs)
+    let work = PathWork::new(alloc);
+    match run_round(rt, alloc, &work, &jobs, gate, workers) {
+        Ok(pairs) => RootPaths::of(alloc, problem, pairs),
+        Err(_) => Err(NoMemory),
+    }
 }
 
 /// A job for each agent's own path.

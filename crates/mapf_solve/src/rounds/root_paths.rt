@@ -3,7 +3,7 @@
 ghost use Rattle.std.specs.Prelude.{◌≡◌, [], All, IfOk, IfSome};
 ghost use Rattle.mapf_tree.specs.Family.{IsOwn};
 
-use crate::rounds::path_job::Paths;
+use crate::rounds::path_job::PathWork;
 use mapf_board::Pair;
 use mapf_grid::NoMemory;
 use mapf_plan::Path;
@@ -34,7 +34,7 @@ impl<'p> RootPaths<'p> {
     pub(crate) fn of(
         alloc: Global,
         problem: &'p Problem,
-        pairs: Vec<Pair<Paths<'p>>>,
+        pairs: Vec<Pair<PathWork<'p>>>,
     ) -> Result<RootPaths<'p>, NoMemory>
         requires { All (λ p. p.0.problem ≡ problem.now) pairs.items }
         ensures { IfOk result (λ r. r ≡ problem.now) }
@@ -59,7 +59,7 @@ impl<'p> RootPaths<'p> {
     }
 
     /// Puts a pair's path in its agent's place.
-    fn put(&mut self, pair: Pair<Paths<'p>>)
+    fn put(&mut self, pair: Pair<PathWork<'p>>)
         requires { pair.0.problem ≡ self.old }
         ensures { self.new ≡ self.old }
     {

@@ -59,22 +59,22 @@ impl<'p> SideJob<'p> {
 
 /// Works children of nodes out.
 #[derive(Drop)]
-pub(crate) struct Sides<'p> {
+pub(crate) struct SideWork<'p> {
     alloc: Global,
     of: PhantomData<&'p Problem>,
 }
 
-impl<'p> Sides<'p> {
+impl<'p> SideWork<'p> {
     /// The work on any problem's nodes; memory comes from this allocator.
-    pub(crate) fn new(alloc: Global) -> Sides<'p> {
-        Sides {
+    pub(crate) fn new(alloc: Global) -> SideWork<'p> {
+        SideWork {
             alloc,
             of: PhantomData,
         }
     }
 }
 
-impl<'p> Task for Sides<'p> {
+impl<'p> Task for SideWork<'p> {
     type Job = SideJob<'p>;
 
     type Answer = Option<Node>;
@@ -82,8 +82,8 @@ impl<'p> Task for Sides<'p> {
     ghost fits = { FitsSide };
 }
 
-impl<'p> Work for Sides<'p> {
-    fn perform(&self, job: SideJob<'p>) -> Result<Pair<Sides<'p>>, SideJob<'p>> {
+impl<'p> Work for SideWork<'p> {
+    fn perform(&self, job: SideJob<'p>) -> Result<Pair<SideWork<'p>>, SideJob<'p>> {
         match child(self.alloc, job.problem, &job.node, job.side) {
             Ok(found) => Ok(Pair::of(job, found)),
             Err(_) => Err(job),

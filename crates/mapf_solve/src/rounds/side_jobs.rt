@@ -5,17 +5,16 @@ ghost use Rattle.mapf_tree.specs.Waiting.{AllShow};
 ghost use Rattle.mapf_solve.specs.Rounds.{IsBranching};
 
 use crate::rounds::kept::Kept;
-use crate::rounds::round::run_round;
-use crate::rounds::side_job::Sides;
+use crate::rounds::side_job::SideWork;
 use crate::rounds::side_order::SideOrder;
-use mapf_board::{Gate, Pair};
+use mapf_board::{Gate, Pair, run_round};
 use mapf_grid::NoMemory;
 use mapf_tree::{Node, OpenList, Side};
 use std::alloc::Global;
 use std::thread::Threads;
 
 /// How many jobs a round of sides has at most.
-const MOST: usize = 64;
+const MOST_SIDES: usize = 64;
 
 /// An order for each side that isn't worked out, of those of the first so many waiting nodes that have a conflict: in
 /// the nodes' order, left first, 64 at most, numbered from `first` on.
@@ -54,7 +53,7 @@ fn add_side<'n, 'p>(
     ensures count { OnOk result (length orders.new.items ≤ 64) }
     ensures problem { OnOk result (All (λ o. o.problem ≡ kept.now) orders.new.items) }
 {
-    if orders.len() < MOST && !kept.holds(node, side) {
+    if orders.len() < MOST_SIDES && !kept.holds(node, side) {
         let number = first.saturating_add(orders.len() as u64);
         orders.push(SideOrder::of(kept.problem(), node, side, number))?;
     }
@@ -68,7 +67,7 @@ pub(crate) fn do_sides<'p, R: Threads + Sync, G: Gate>(
     orders: &[SideOrder<'_, 'p>],
     gate: &G,
     workers: usize,
-) -> Vec<Pair<Sides<'p>>>
+) -> Vec<Pair<SideWork<'p>>>
     requires orders { length orders.now ≤ 64 }
     requires workers { (0 < workers) × (workers ≤ 64) }
     ensures { All (λ pair. Contains orders.now pair.0) result.items }
@@ -76,7 +75,7 @@ pub(crate) fn do_sides<'p, R: Threads + Sync, G: Gate>(
     if orders.is_empty() {
         return Vec::new(alloc);
     }
-    let work = Sides::new(alloc);
+    let work = SideWork::new(alloc);
     match run_round(rt, alloc, &work, orders, gate, workers) {
         Ok(pairs) => pairs,
         Err(_) => Vec::new(alloc),

@@ -3,9 +3,8 @@
 ghost use Rattle.std.specs.Prelude.{◌≡◌};
 ghost use Rattle.mapf_solve.specs.Rounds.{IsBranching};
 
-use crate::rounds::round::Order;
-use crate::rounds::side_job::{SideJob, Sides};
-use mapf_grid::NoMemory;
+use crate::rounds::side_job::{SideJob, SideWork};
+use mapf_board::{NoMemory, Order};
 use mapf_tree::{Node, Problem, Side};
 use std::alloc::Global;
 use std::marker::Model;
@@ -49,11 +48,11 @@ impl<'n, 'p> SideOrder<'n, 'p> {
     }
 }
 
-impl<'n, 'p> Order<Sides<'p>> for SideOrder<'n, 'p> {
-    ghost asked = { λ o. o };
+impl<'n, 'p> Order<SideWork<'p>> for SideOrder<'n, 'p> {
+    ghost ordered = { λ o. o };
 
     fn job(&self, alloc: Global) -> Result<SideJob<'p>, NoMemory> {
-        let node = self.node.copy(alloc)?;
+        let node = self.node.copy(alloc).map_err(|_| NoMemory)?;
         Ok(SideJob::of(self.problem, node, self.side, self.number))
     }
 

@@ -1,7 +1,7 @@
 use Rattle.std.proofs.Common.{◌≡◌, sym, subst, All, Contains}
 use Rattle.mapf_tree.specs.Waiting.{AllShow}
 use Rattle.mapf_solve.specs.Rounds.{SideAsked}
-use Rattle.mapf_solve.proofs.RoundLists.{All_of_jobs}
+use Rattle.mapf_board.proofs.RoundLists.{All_of_jobs}
 use Rattle.mapf_solve.proofs.rounds.RoundsChildren.ahead.Goals as goal
 
 pub side_orders-requires : goal.side_orders-requires
