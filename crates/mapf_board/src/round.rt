@@ -2,6 +2,7 @@
 
 ghost use Rattle.std.specs.Prelude.{◌≡◌, [], ◌<◌, ◌≤◌, All, Contains, IfOk, IfSome, flat_map, length, map};
 ghost use Rattle.mapf_board.specs.Seats.{IsSeatOf, count_of};
+ghost use Rattle.mapf_board.specs.declared.limits.TheConstants.{MOST_TICKETS, MOST_WORKERS};
 
 use crate::gate::Gate;
 use crate::no_memory::NoMemory;
@@ -39,8 +40,8 @@ pub fn run_round<R: Threads + Sync, W: Work, O: Order<W> + Sync, G: Gate>(
     gate: &G,
     workers: usize,
 ) -> Result<Vec<Pair<W>>, NoMemory>
-    requires orders { (0 < length orders.now) × (length orders.now ≤ 1000) }
-    requires workers { (0 < workers) × (workers ≤ 64) }
+    requires orders { (0 < length orders.now) × (length orders.now ≤ MOST_TICKETS) }
+    requires workers { (0 < workers) × (workers ≤ MOST_WORKERS) }
     ensures { IfOk result (λ pairs. All (λ p. Contains (map O.ordered orders.now) p.0) pairs.items) }
 {
     let (tickets, seats) = Tickets::new(alloc, orders.len(), workers.min(orders.len()))?;

@@ -1,4 +1,4 @@
-// Two workers and the owner of a live board share the squaring of numbers.
+//! Two workers and the owner of a live board share the squaring of numbers.
 #![tactic(auto)]
 
 mod owner;

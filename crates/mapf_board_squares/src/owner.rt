@@ -1,4 +1,4 @@
-// The owner's share.
+//! The owner's share.
 ghost use Rattle.std.specs.Prelude.{◌≡◌, ◌*◌, ◌<◌, ◌≤◌, [], length, map, slice_index, vec_len};
 ghost use Rattle.std.specs.Vec.{vec_capacity};
 ghost use Rattle.mapf_board.specs.Owners.{IsOwnerOf, currents};
@@ -22,7 +22,7 @@ pub fn post_all(live: &Live<Squares>, owner: &mut Owner<Squares>, numbers: &[u32
     }
 }
 
-// The square of the number at the slot's place: a worker's, or the owner's where no worker has finished it.
+/// The square of the number at the slot's place: a worker's, or the owner's where no worker has finished it.
 fn square_at(live: &Live<Squares>, owner: &mut Owner<Squares>, numbers: &[u32], slot: usize) -> u64
     requires slots { size_of live.now ≡ length numbers.now }
     requires slot { slot < length numbers.now }

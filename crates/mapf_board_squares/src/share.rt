@@ -1,6 +1,7 @@
-// Numbers shared by workers and the owner of a board.
+//! Numbers shared by workers and the owner of a board.
 ghost use Rattle.std.specs.Prelude.{◌≡◌, ◌*◌, ◌<◌, ◌≤◌, All, IfOk, length, map, vec_len};
 ghost use Rattle.mapf_board.specs.Workers.{IsWorkerOf, IsIdle, size_of};
+ghost use Rattle.mapf_board.specs.declared.limits.TheConstants.{MOST_SLOTS};
 
 use crate::owner::{post_all, square_all};
 use crate::square::Squares;
@@ -11,7 +12,7 @@ use std::thread::{Threads, join, map_vec};
 
 const WORKERS: usize = 2;
 
-// Each worker in a thread of its own.
+/// Each worker in a thread of its own.
 fn work_all<R: Threads + Sync>(
     rt: &R,
     live: &Live<Squares>,
@@ -34,7 +35,7 @@ pub fn squares<R: Threads + Sync>(
     alloc: Global,
     numbers: &[u32],
 ) -> Result<Vec<u64>, NoMemory>
-    requires { (1 ≤ length numbers.now) × (length numbers.now ≤ 64) }
+    requires { (1 ≤ length numbers.now) × (length numbers.now ≤ MOST_SLOTS) }
     ensures { IfOk result (λ all. all.items ≡ map (λ n. n * n) numbers.now) }
 {
     let room = Vec::with_capacity(alloc, numbers.len())?;

@@ -1,4 +1,4 @@
-// What is asked and answered: a number, and its square.
+//! What is asked and answered: a number, and its square.
 ghost use Rattle.std.specs.Prelude.{◌≡◌, ◌*◌};
 
 use mapf_board::Task;

@@ -1,11 +1,11 @@
-// A worker's share.
+//! A worker's share.
 ghost use Rattle.std.specs.Prelude.{◌≡◌, ◌<◌};
 ghost use Rattle.mapf_board.specs.Workers.{IsWorkerOf, IsIdle, size_of};
 
 use crate::square::{Squares, square_of};
 use mapf_board::{Left, Live, Pair, WorkerSeat};
 
-// More turns than a worker takes before the board is shut.
+/// More turns than a worker takes before the board is shut.
 const TURNS: usize = 1_000_000_000;
 
 /// Goes round the slots until the board is shut, and squares each number that it can claim.
