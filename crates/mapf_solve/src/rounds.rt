@@ -88,10 +88,12 @@ impl<'p, F: Fn(&[SideOrder<'_, 'p>]) -> Vec<Pair<SideWork<'p>>>> Rounds<'p, F> {
 
 impl<'p, F: Fn(&[SideOrder<'_, 'p>]) -> Vec<Pair<SideWork<'p>>>> Children for Rounds<'p, F> {
     ghost use Rattle.std.specs.Prelude.{◌≡◌, ◌<◌, ◌≤◌, All, Contains, length};
+    ghost use Rattle.mapf_board.specs.declared.limits.TheConstants.{MOST_WORKERS};
+    ghost use Rattle.mapf_solve.specs.declared.rounds.side_jobs.TheConstants.{MOST_SIDES};
 
-    // It serves its own problem, with a round that takes up to 64 orders and answers no others.
-    ghost serves = { λ r p. (r.kept ≡ p) × ((0 < r.workers) × (r.workers ≤ 64))
-        × ((orders : _) → length orders.now ≤ 64 → F.pre r.round orders)
+    // It serves its own problem, with a round that takes as many orders as a round has sides and answers no others.
+    ghost serves = { λ r p. (r.kept ≡ p) × ((0 < r.workers) × (r.workers ≤ MOST_WORKERS))
+        × ((orders : _) → length orders.now ≤ MOST_SIDES → F.pre r.round orders)
         × ((orders pairs : _) → F.post r.round orders pairs → All (λ pair. Contains orders.now pair.0) pairs.items) };
 
     fn both(

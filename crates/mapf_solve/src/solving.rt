@@ -3,6 +3,8 @@
 ghost use Rattle.std.specs.Prelude.{◌<◌, ◌≤◌, All, Contains, IfOk, length};
 ghost use denote.Param.Send.{IsSync};
 ghost use Rattle.mapf_tree.specs.Answered.{IsAnswerOf, IsBestAnswer};
+ghost use Rattle.mapf_board.specs.declared.limits.TheConstants.{MOST_WORKERS};
+ghost use Rattle.mapf_solve.specs.declared.rounds.side_jobs.TheConstants.{MOST_SIDES};
 
 use crate::rounds::{Rounds, do_sides, root};
 use mapf_board::Gate;
@@ -25,7 +27,7 @@ pub fn solve<R: Threads + Sync, G: Gate>(
     gate: &G,
 ) -> Result<Answer, NoMemory>
     requires some { 0 < workers }
-    requires few { workers ≤ 64 }
+    requires few { workers ≤ MOST_WORKERS }
     ensures answer { IfOk result (IsAnswerOf problem.now.inst problem.now.bound) }
     ensures best { IfOk result (IsBestAnswer problem.now.inst problem.now.bound) }
 {
@@ -38,8 +40,8 @@ pub fn solve<R: Threads + Sync, G: Gate>(
         next,
         |orders|
             requires sync { IsSync R.row × IsSync G.row }
-            requires orders { length orders.now ≤ 64 }
-            requires workers { (0 < workers) × (workers ≤ 64) }
+            requires orders { length orders.now ≤ MOST_SIDES }
+            requires workers { (0 < workers) × (workers ≤ MOST_WORKERS) }
             ensures { All (λ pair. Contains orders.now pair.0) result.items }
         { do_sides(rt, alloc, orders, gate, workers) },
     );

@@ -3,6 +3,7 @@
 ghost use Rattle.std.specs.Prelude.{◌≡◌, ◌<◌, ◌≤◌, [], All, IfOk, IfSome, length};
 ghost use Rattle.mapf_tree.specs.Family.{IsOwn, IsRoot};
 ghost use Rattle.mapf_solve.specs.Rounds.{AreOfAgents};
+ghost use Rattle.mapf_board.specs.declared.limits.TheConstants.{MOST_TICKETS, MOST_WORKERS};
 
 use crate::rounds::path_job::{PathJob, PathWork};
 use crate::rounds::root_paths::RootPaths;
@@ -22,7 +23,7 @@ pub(crate) fn root<R: Threads + Sync, G: Gate>(
     workers: usize,
     gate: &G,
 ) -> Result<Option<Node>, NoMemory>
-    requires { (0 < workers) × (workers ≤ 64) }
+    requires { (0 < workers) × (workers ≤ MOST_WORKERS) }
     ensures { IfOk result (IsRoot problem.now) }
 {
     let mut ready = paths_ahead(rt, alloc, problem, workers, gate).ok();
@@ -65,7 +66,7 @@ fn paths_ahead<'p, R: Threads + Sync, G: Gate>(
     workers: usize,
     gate: &G,
 ) -> Result<RootPaths<'p>, NoMemory>
-    requires { (0 < workers) × (workers ≤ 64) }
+    requires { (0 < workers) × (workers ≤ MOST_WORKERS) }
     ensures { IfOk result (λ r. r ≡ problem.now) }
 {
     let jobs = path_jobs(alloc, problem)?;
@@ -78,7 +79,7 @@ fn paths_ahead<'p, R: Threads + Sync, G: Gate>(
 
 /// A job for each agent's own path.
 fn path_jobs<'p>(alloc: Global, problem: &'p Problem) -> Result<Vec<PathJob<'p>>, NoMemory>
-    ensures count { IfOk result (λ jobs. (0 < length jobs.items) × (length jobs.items ≤ 1000)) }
+    ensures count { IfOk result (λ jobs. (0 < length jobs.items) × (length jobs.items ≤ MOST_TICKETS)) }
     ensures problem { IfOk result (λ jobs. All (λ j. j.problem ≡ problem.now) jobs.items) }
     ensures agents { IfOk result (λ jobs. AreOfAgents problem.now jobs.items) }
 {

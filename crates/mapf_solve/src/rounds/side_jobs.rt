@@ -3,6 +3,8 @@
 ghost use Rattle.std.specs.Prelude.{◌≡◌, ◌<◌, ◌≤◌, All, Contains, IfOk, OnOk, length};
 ghost use Rattle.mapf_tree.specs.Waiting.{AllShow};
 ghost use Rattle.mapf_solve.specs.Rounds.{IsBranching};
+ghost use Rattle.mapf_board.specs.declared.limits.TheConstants.{MOST_WORKERS};
+ghost use Rattle.mapf_solve.specs.declared.rounds.side_jobs.TheConstants.{MOST_SIDES};
 
 use crate::rounds::kept::Kept;
 use crate::rounds::side_job::SideWork;
@@ -26,7 +28,7 @@ pub(crate) fn side_orders<'n, 'p>(
     first: u64,
 ) -> Result<Vec<SideOrder<'n, 'p>>, NoMemory>
     requires { AllShow kept.now waiting.now }
-    ensures count { IfOk result (λ orders. length orders.items ≤ 64) }
+    ensures count { IfOk result (λ orders. length orders.items ≤ MOST_SIDES) }
     ensures problem { IfOk result (λ orders. All (λ o. o.problem ≡ kept.now) orders.items) }
 {
     let mut orders = Vec::new(alloc);
@@ -48,9 +50,9 @@ fn add_side<'n, 'p>(
     orders: &mut Vec<SideOrder<'n, 'p>>,
 ) -> Result<(), NoMemory>
     requires node { IsBranching kept.now node.now }
-    requires count { length orders.old.items ≤ 64 }
+    requires count { length orders.old.items ≤ MOST_SIDES }
     requires problem { All (λ o. o.problem ≡ kept.now) orders.old.items }
-    ensures count { OnOk result (length orders.new.items ≤ 64) }
+    ensures count { OnOk result (length orders.new.items ≤ MOST_SIDES) }
     ensures problem { OnOk result (All (λ o. o.problem ≡ kept.now) orders.new.items) }
 {
     if orders.len() < MOST_SIDES && !kept.holds(node, side) {
@@ -68,8 +70,8 @@ pub(crate) fn do_sides<'p, R: Threads + Sync, G: Gate>(
     gate: &G,
     workers: usize,
 ) -> Vec<Pair<SideWork<'p>>>
-    requires orders { length orders.now ≤ 64 }
-    requires workers { (0 < workers) × (workers ≤ 64) }
+    requires orders { length orders.now ≤ MOST_SIDES }
+    requires workers { (0 < workers) × (workers ≤ MOST_WORKERS) }
     ensures { All (λ pair. Contains orders.now pair.0) result.items }
 {
     if orders.is_empty() {
