@@ -7,7 +7,7 @@ use Rattle.mapf_low.specs.Query.{Query, MayEnd}
 use Rattle.mapf_low.specs.declared.constraint.Constraint.TheVariants.{Vertex}
 use Rattle.mapf_low.specs.Walk.{distance_at}
 use Rattle.mapf_low.specs.Classes.{class_at, IsAdded, IsWithin, Grows, SomeLeads, Closes, ArePlaced, InClasses, IsSearched}
-use Rattle.mapf_low.specs.Reached.{Arrives}
+use Rattle.mapf_low.specs.Reached.{EndsAt}
 use Rattle.mapf_low.proofs.Places.{free_below}
 use Rattle.mapf_low.proofs.Classing.{begins, AreClasses, Ground, classes_reach, goal_at, match_at, match_to}
 use Rattle.mapf_low.proofs.Searching.{IsSearching, IsClosed, IsSpilled, ends_here, goes_on, all_classes}
@@ -82,14 +82,14 @@ module _ (query : Query) (nearest : ℕ) (ground : Ground query nearest) where
       }
 
   -- where the agent doesn't arrive in these classes, it doesn't by that time
-  pub no_arrival : (classes : List (List ℕ)) (K : ℕ) → ((k : ℕ) → k < K → Has classes k query.goal → ¬ MayEnd query (nearest + k)) → (t : ℕ) → t < nearest + K → ¬ Arrives query (InClasses query nearest classes) t
+  pub no_arrival : (classes : List (List ℕ)) (K : ℕ) → ((k : ℕ) → k < K → Has classes k query.goal → ¬ MayEnd query (nearest + k)) → (t : ℕ) → t < nearest + K → ¬ EndsAt query (InClasses query nearest classes) t
   no_arrival classes K before t l a =
       let p = match_at (distance_at query.table query.goal) 0 (λ n. (nearest ≤ t + n) × Has classes (t + n - nearest) query.goal) (goal_at query ground.posed) a.0 in
       let e : nearest + (t + 0 - nearest) ≡ t = omega (arith, p.0) in
       before (t + 0 - nearest) (omega (arith, l, p.0)) p.1 (subst (λ n. MayEnd query n) (sym e) a.1)
 
   -- where it doesn't arrive in any of them, it never does
-  pub never_arrives : (classes : List (List ℕ)) → ((k : ℕ) → k < length classes → Has classes k query.goal → ¬ MayEnd query (nearest + k)) → (t : ℕ) → ¬ Arrives query (InClasses query nearest classes) t
+  pub never_arrives : (classes : List (List ℕ)) → ((k : ℕ) → k < length classes → Has classes k query.goal → ¬ MayEnd query (nearest + k)) → (t : ℕ) → ¬ EndsAt query (InClasses query nearest classes) t
   never_arrives classes before t = no_arrival classes (t + 1) (λ k _ i. in_or_past k i (cases_lt k (length classes))) t (omega arith)
     where
       in_or_past : (k : ℕ) → Has classes k query.goal → (k < length classes) ⊎ (length classes ≤ k) → ¬ MayEnd query (nearest + k)
@@ -186,7 +186,7 @@ module _ (query : Query) (nearest : ℕ) (ground : Ground query nearest) where
         go (inr m) = second (cases_lt k (length classes + 2)) m
 
   -- what is known when the search ends
-  pub searched_to : (sum : ℕ) (classes : List (List ℕ)) → sum ≤ query.limit → AreClasses query sum nearest (Has classes) → ((t : ℕ) → t < sum → ¬ Arrives query (InClasses query nearest classes) t) → nearest ≤ sum →
+  pub searched_to : (sum : ℕ) (classes : List (List ℕ)) → sum ≤ query.limit → AreClasses query sum nearest (Has classes) → ((t : ℕ) → t < sum → ¬ EndsAt query (InClasses query nearest classes) t) → nearest ≤ sum →
       Has classes (sum - nearest) query.goal → MayEnd query sum → nearest + length classes ≤ sum + 1 → IsSearched query nearest classes (Some sum)
   searched_to sum classes l h before low here free few = record {
     within = l;
@@ -201,7 +201,7 @@ module _ (query : Query) (nearest : ℕ) (ground : Ground query nearest) where
     placed = h.placed;
   }
 
-  pub searched_none : (classes : List (List ℕ)) → AreClasses query query.limit nearest (Has classes) → ((t : ℕ) → t < query.limit + 1 → ¬ Arrives query (InClasses query nearest classes) t) →
+  pub searched_none : (classes : List (List ℕ)) → AreClasses query query.limit nearest (Has classes) → ((t : ℕ) → t < query.limit + 1 → ¬ EndsAt query (InClasses query nearest classes) t) →
       nearest + length classes ≤ query.limit + 1 → IsSearched query nearest classes None
   searched_none classes h before few = record {
     within = omega arith;

@@ -6,7 +6,7 @@ use Rattle.mapf_low.specs.declared.constraint.Constraint.TheVariants.{Vertex}
 use Rattle.mapf_low.specs.Walk.{IsWalk, IsDistance}
 use Rattle.mapf_low.specs.Walk.{distance_at}
 use Rattle.mapf_low.specs.Classes.{IsWithin, Admits, Leads}
-use Rattle.mapf_low.specs.Reached.{IsOpen, MayStep, ComesFrom, AreReached}
+use Rattle.mapf_low.specs.Reached.{IsUsable, MayStep, ComesFrom, AreReached}
 use Rattle.mapf_low.proofs.LevelSearch.{Next_back}
 use Rattle.mapf_low.proofs.Places.{free_below}
 use Rattle.mapf_low.proofs.Leading.{same_distance}
@@ -70,7 +70,7 @@ module _ (query : Query) (limit nearest : ℕ) (C : ℕ → ℕ → Type 0) (gro
   classes_reach count h = record { first = λ v. (first v, first_back v); next = λ t l v. (next t v, λ p. next_back t v p.0 p.1.0 p.1.1) }
     where
       -- the first of them
-      first_at : (v n : ℕ) → distance_at query.table v ≡ Some n → nearest ≤ 0 + n → C (0 + n - nearest) v → Origin query nearest C (0 + n - nearest) v → (v ≡ query.start) × IsOpen query limit 0 v
+      first_at : (v n : ℕ) → distance_at query.table v ≡ Some n → nearest ≤ 0 + n → C (0 + n - nearest) v → Origin query nearest C (0 + n - nearest) v → (v ≡ query.start) × IsUsable query limit 0 v
       first_at v n e l i (begins is k free) =
           let same : n ≡ nearest = omega (arith, same_distance (distance_at query.table v) n nearest e (ap (distance_at query.table) is ∙ ground.nearest_is)) in
           (is, (subst (λ w. ¬ Contains query.constraints (Vertex w 0)) (sym is) free, match_to (distance_at query.table v) n (λ m. 0 + m ≤ limit) e (omega (arith, h.bounded (0 + n - nearest) v i, l))))
@@ -79,13 +79,13 @@ module _ (query : Query) (limit nearest : ℕ) (C : ℕ → ℕ → Type 0) (gro
           let far : s.far ≡ n = same_distance (distance_at query.table v) s.far n s.enters.1.0 e in
           absurd (omega (arith, near, far, s.apart, is, l))
 
-      first : (v : ℕ) → At 0 v → (v ≡ query.start) × IsOpen query limit 0 v
+      first : (v : ℕ) → At 0 v → (v ≡ query.start) × IsUsable query limit 0 v
       first v a =
           let n = match_some (distance_at query.table v) (λ n. (nearest ≤ 0 + n) × C (0 + n - nearest) v) a in
           let p = match_at (distance_at query.table v) n.0 (λ n. (nearest ≤ 0 + n) × C (0 + n - nearest) v) n.1 a in
           first_at v n.0 n.1 p.0 p.1 (h.sound (0 + n.0 - nearest) v p.1)
 
-      first_back : (v : ℕ) → (v ≡ query.start) × IsOpen query limit 0 v → At 0 v
+      first_back : (v : ℕ) → (v ≡ query.start) × IsUsable query limit 0 v → At 0 v
       first_back v (is, (free, near)) =
           let at : distance_at query.table v ≡ Some nearest = ap (distance_at query.table) is ∙ ground.nearest_is in
           let within : 0 + nearest ≤ limit = match_at (distance_at query.table v) nearest (λ m. 0 + m ≤ limit) at near in
@@ -95,7 +95,7 @@ module _ (query : Query) (limit nearest : ℕ) (C : ℕ → ℕ → Type 0) (gro
 
       -- each later one
       next_at : (t v n : ℕ) → distance_at query.table v ≡ Some n → nearest ≤ t + 1 + n → C (t + 1 + n - nearest) v → Origin query nearest C (t + 1 + n - nearest) v →
-          IsOpen query limit (t + 1) v × ((u : ℕ) × ComesFrom query (t + 1) (At t) v u)
+          IsUsable query limit (t + 1) v × ((u : ℕ) × ComesFrom query (t + 1) (At t) v u)
       next_at t v n e l i (begins is k free) =
           let same : n ≡ nearest = same_distance (distance_at query.table v) n nearest e (ap (distance_at query.table) is ∙ ground.nearest_is) in
           absurd (omega (arith, same, k, l))
@@ -110,13 +110,13 @@ module _ (query : Query) (limit nearest : ℕ) (C : ℕ → ℕ → Type 0) (gro
             (u, (match_to (distance_at query.table u) s.near (λ m. (nearest ≤ t + m) × C (t + m - nearest) u) s.near_is (omega (arith, sum), subst (λ k. C k u) place c), (s.enters.0, enters.1.1))),
           )
 
-      next : (t v : ℕ) → At (t + 1) v → IsOpen query limit (t + 1) v × ((u : ℕ) × ComesFrom query (t + 1) (At t) v u)
+      next : (t v : ℕ) → At (t + 1) v → IsUsable query limit (t + 1) v × ((u : ℕ) × ComesFrom query (t + 1) (At t) v u)
       next t v a =
           let n = match_some (distance_at query.table v) (λ n. (nearest ≤ t + 1 + n) × C (t + 1 + n - nearest) v) a in
           let p = match_at (distance_at query.table v) n.0 (λ n. (nearest ≤ t + 1 + n) × C (t + 1 + n - nearest) v) n.1 a in
           next_at t v n.0 n.1 p.0 p.1 (h.sound (t + 1 + n.0 - nearest) v p.1)
 
-      leads_back : (t u v m n : ℕ) → distance_at query.table u ≡ Some m → distance_at query.table v ≡ Some n → IsOpen query limit (t + 1) v → nearest ≤ t + m → C (t + m - nearest) u → MayStep query (t + 1) u v → At (t + 1) v
+      leads_back : (t u v m n : ℕ) → distance_at query.table u ≡ Some m → distance_at query.table v ≡ Some n → IsUsable query limit (t + 1) v → nearest ≤ t + m → C (t + m - nearest) u → MayStep query (t + 1) u v → At (t + 1) v
       leads_back t u v m n at_u at_v o low there step =
           let within : t + 1 + n ≤ limit = match_at (distance_at query.table v) n (λ n. t + 1 + n ≤ limit) at_v o.1 in
           let down : m ≤ n + 1 = step_apart query u v m n ground.posed step.0 at_u at_v in
@@ -128,7 +128,7 @@ module _ (query : Query) (limit nearest : ℕ) (C : ℕ → ℕ → Type 0) (gro
           let place : t + m - nearest + (n + 1 - m) ≡ t + 1 + n - nearest = omega (arith, low, down) in
           match_to (distance_at query.table v) n (λ n. (nearest ≤ t + 1 + n) × C (t + 1 + n - nearest) v) at_v (omega (arith, low, down), subst (λ k. C k v) place found)
 
-      next_back : (t v : ℕ) → IsOpen query limit (t + 1) v → (u : ℕ) → ComesFrom query (t + 1) (At t) v u → At (t + 1) v
+      next_back : (t v : ℕ) → IsUsable query limit (t + 1) v → (u : ℕ) → ComesFrom query (t + 1) (At t) v u → At (t + 1) v
       next_back t v o u (from, step) =
           let n = match_some (distance_at query.table v) (λ n. t + 1 + n ≤ limit) o.1 in
           let m = match_some (distance_at query.table u) (λ n. (nearest ≤ t + n) × C (t + n - nearest) u) from in

@@ -11,7 +11,7 @@ use Rattle.mapf_low.specs.declared.constraint.Constraint.TheVariants.{Vertex, Ed
 use Rattle.mapf_low.specs.Constraints.{Breaks, IsAllowed, IsOwnPath, path_rank, IsSmallerAtLast}
 use Rattle.mapf_low.specs.Walk.{IsWalk, IsDistance}
 use Rattle.mapf_low.specs.Kept.{HasTwoEnds}
-use Rattle.mapf_low.specs.Reached.{IsOpen, MayStep, ComesFrom, AreReached, Arrives, IsReadBack}
+use Rattle.mapf_low.specs.Reached.{IsUsable, MayStep, ComesFrom, AreReached, EndsAt, IsReconstructed}
 use Rattle.mapf_low.proofs.ByLast.{order_is_by_last}
 use Rattle.mapf_low.proofs.Places.{free_below, rest_walks, obeys_each, obeys_from_each}
 
@@ -31,7 +31,7 @@ module _ (query : Query) (limit : ℕ) (At : ℕ → ℕ → Type 0) (count : �
       omega (arith, shorter, l, a.within)
 
   -- each place of an allowed path is open at its time
-  open_at : (p : List ℕ) → Allowed p → (t : ℕ) → t ≤ cost p → IsOpen query limit t (at p t)
+  open_at : (p : List ℕ) → Allowed p → (t : ℕ) → t ≤ cost p → IsUsable query limit t (at p t)
   open_at p a t l = (
     (λ i. obeys_each query.constraints p a.obeys (Vertex (at p t) t) i refl),
     near p a t l (slice_index_or query.table (at p t) None) (set.posed.distances.shortest (at p t) (free_below query.grid (at p t) set.posed.sizes (place_free query.grid query.start query.goal p a.path t))),
@@ -59,7 +59,7 @@ module _ (query : Query) (limit : ℕ) (At : ℕ → ℕ → Type 0) (count : �
   may_end p a s l i = obeys_each query.constraints p a.obeys (Vertex query.goal s) i (at_past p s l ∙ a.path.ends)
 
   -- so no allowed path costs less than the first arrival
-  pub no_cheaper : (end : ℕ) → ((t : ℕ) → t < end → ¬ Arrives query At t) → end ≤ count → (p : List ℕ) → Allowed p → end ≤ cost p
+  pub no_cheaper : (end : ℕ) → ((t : ℕ) → t < end → ¬ EndsAt query At t) → end ≤ count → (p : List ℕ) → Allowed p → end ≤ cost p
   no_cheaper end none long p a = go (cases_lt (cost p) end)
     where
       go : (cost p < end) ⊎ (end ≤ cost p) → end ≤ cost p
@@ -76,7 +76,7 @@ module _ (query : Query) (limit : ℕ) (At : ℕ → ℕ → Type 0) (count : �
       let there : At (t + 1) v = subst (λ k. At k v) n i in
       subst (λ k. ¬ Contains query.constraints (Vertex v k)) (sym n) ((set.reached_are.next t (omega (arith, l)) v).0 there).0.0
 
-  module _ (end : ℕ) (q : List ℕ) (long : end < count) (within : end ≤ limit) (read : IsReadBack query At q 0 end) (arrives : Arrives query At end) (first : (t : ℕ) → t < end → ¬ Arrives query At t) where
+  module _ (end : ℕ) (q : List ℕ) (long : end < count) (within : end ≤ limit) (read : IsReconstructed query At q 0 end) (arrives : EndsAt query At end) (first : (t : ℕ) → t < end → ¬ EndsAt query At t) where
     costs : cost q ≡ end
     costs = omega (arith, read.long)
 
@@ -185,9 +185,9 @@ module _ (query : Query) (limit : ℕ) (At : ℕ → ℕ → Type 0) (count : �
         least y a (inr h) = none_smaller y a h.0 ((order_is_by_last y q (omega (arith, h.0, a.path.some, is_path.some))).0 h.1)
 
   -- where nothing is reached and nothing arrived before, no path is allowed
-  pub none_through : (end : ℕ) → end < count → ((t : ℕ) → t < end → ¬ Arrives query At t) → ((v : ℕ) → ¬ At end v) → (p : List ℕ) → ¬ Allowed p
+  pub none_through : (end : ℕ) → end < count → ((t : ℕ) → t < end → ¬ EndsAt query At t) → ((v : ℕ) → ¬ At end v) → (p : List ℕ) → ¬ Allowed p
   none_through end long first empty p a = empty (at p end) (reached p a end (no_cheaper end first (omega (arith, long)) p a) long)
 
   -- where nothing arrives by the limit, no path is allowed
-  pub none_by_limit : limit < count → ((t : ℕ) → t < limit + 1 → ¬ Arrives query At t) → (p : List ℕ) → ¬ Allowed p
+  pub none_by_limit : limit < count → ((t : ℕ) → t < limit + 1 → ¬ EndsAt query At t) → (p : List ℕ) → ¬ Allowed p
   none_by_limit long first p a = omega (arith, no_cheaper (limit + 1) first (omega (arith, long)) p a, a.within)

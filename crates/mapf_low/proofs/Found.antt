@@ -5,7 +5,7 @@ use Rattle.std.specs.Option.{unwrap_or}
 use Rattle.mapf_low.specs.Query.{Query, IsPosed}
 use Rattle.mapf_low.specs.Constraints.{IsAllowed, IsOwnPath}
 use Rattle.mapf_low.specs.Classes.{InClasses, IsSearched}
-use Rattle.mapf_low.specs.Reached.{Arrives, AreLinked, IsReadBack}
+use Rattle.mapf_low.specs.Reached.{EndsAt, AreLinked, IsReconstructed}
 use Rattle.mapf_low.proofs.FirstArrival.{Setting, own, none_by_limit}
 use Rattle.mapf_low.proofs.Limits.{own_by_bound}
 use Rattle.mapf_low.proofs.Reading.{are_linked}
@@ -22,7 +22,7 @@ module _ (query : Query) (nearest : ℕ) (classes : List (List ℕ)) (posed : Is
   found_linked end e is s = are_linked query e (InClasses query nearest classes) (e + 1) e (setting (Some e) (known end (Some e) is s) (e + 1)) (omega arith)
 
   -- the path that was read back is the agent's own
-  pub found_own : (end : Option ℕ) (e : ℕ) (q : List ℕ) → end ≡ Some e → IsSearched query nearest classes end → IsReadBack query (InClasses query nearest classes) q 0 e → IsOwnPath query.grid query.start query.goal query.limit query.constraints q
+  pub found_own : (end : Option ℕ) (e : ℕ) (q : List ℕ) → end ≡ Some e → IsSearched query nearest classes end → IsReconstructed query (InClasses query nearest classes) q 0 e → IsOwnPath query.grid query.start query.goal query.limit query.constraints q
   found_own end e q is s read =
       let t = known end (Some e) is s in
       own_by_bound query.grid query.constraints e query.limit query.start query.goal q t.within
@@ -36,9 +36,9 @@ module _ (query : Query) (nearest : ℕ) (classes : List (List ℕ)) (posed : Is
       none : IsSearched query nearest classes None
       none = known end None is s
 
-      before : (t : ℕ) → t < query.limit + 1 → ¬ Arrives query (InClasses query nearest classes) t
+      before : (t : ℕ) → t < query.limit + 1 → ¬ EndsAt query (InClasses query nearest classes) t
       before t l = go (cases_lt t query.limit)
         where
-          go : (t < query.limit) ⊎ (query.limit ≤ t) → ¬ Arrives query (InClasses query nearest classes) t
+          go : (t < query.limit) ⊎ (query.limit ≤ t) → ¬ EndsAt query (InClasses query nearest classes) t
           go (inl m) = none.before t m
-          go (inr m) = subst (λ k. ¬ Arrives query (InClasses query nearest classes) k) (let e : query.limit ≡ t = omega (arith, l, m) in e) none.ends
+          go (inr m) = subst (λ k. ¬ EndsAt query (InClasses query nearest classes) k) (let e : query.limit ≡ t = omega (arith, l, m) in e) none.ends

@@ -4,7 +4,7 @@ use Rattle.std.proofs.lemmas.Bool.{cases_lt}
 use Rattle.std.proofs.lemmas.List.{get_or_append_left, get_or_at, length-append}
 use Rattle.mapf_low.specs.Query.{Query}
 use Rattle.mapf_low.specs.Layers.{IsFirstLayer, IsNextLayer, InLayers, layer_at}
-use Rattle.mapf_low.specs.Reached.{Arrives}
+use Rattle.mapf_low.specs.Reached.{EndsAt}
 use Rattle.mapf_low.proofs.Layering.{AreLayers}
 
 -- the earlier layers stand
@@ -39,13 +39,13 @@ module _ (query : Query) where
               subst₂ (λ a b. IsNextLayer query (t + 1) a b) (sym (layer_kept layers next t (omega (arith, e, long)))) (sym (layer_new layers next (t + 1) (omega (arith, e, long)))) here
 
 -- where nothing arrived before, and not now, nothing arrived up to now
-pub not_yet : (query : Query) (layers : List (List ℕ)) (next : List ℕ) (time : ℕ) → length layers ≡ time + 1 → ((t : ℕ) → t < time → ¬ Arrives query (InLayers layers) t) → ¬ Arrives query (InLayers layers) time →
-    (t : ℕ) → t < time + 1 → ¬ Arrives query (InLayers (layers ++ next ∷ [])) t
+pub not_yet : (query : Query) (layers : List (List ℕ)) (next : List ℕ) (time : ℕ) → length layers ≡ time + 1 → ((t : ℕ) → t < time → ¬ EndsAt query (InLayers layers) t) → ¬ EndsAt query (InLayers layers) time →
+    (t : ℕ) → t < time + 1 → ¬ EndsAt query (InLayers (layers ++ next ∷ [])) t
 not_yet query layers next time long before now t l = go (cases_lt t time)
   where
-    kept : Arrives query (InLayers (layers ++ next ∷ [])) t → Arrives query (InLayers layers) t
+    kept : EndsAt query (InLayers (layers ++ next ∷ [])) t → EndsAt query (InLayers layers) t
     kept a = (subst (λ layer. Contains layer query.goal) (layer_kept layers next t (omega (arith, l, long))) a.0, a.1)
 
-    go : (t < time) ⊎ (time ≤ t) → ¬ Arrives query (InLayers (layers ++ next ∷ [])) t
+    go : (t < time) ⊎ (time ≤ t) → ¬ EndsAt query (InLayers (layers ++ next ∷ [])) t
     go (inl m) = λ a. before t m (kept a)
-    go (inr m) = λ a. now (let e : t ≡ time = omega (arith, l, m) in subst (λ k. Arrives query (InLayers layers) k) e (kept a))
+    go (inr m) = λ a. now (let e : t ≡ time = omega (arith, l, m) in subst (λ k. EndsAt query (InLayers layers) k) e (kept a))

@@ -4,7 +4,7 @@ use Rattle.std.proofs.lemmas.Bool.{cases_lt}
 use Rattle.std.proofs.lemmas.List.{length-set, get_or-set_other, get_or-set_same, length-replicate, get_or-replicate, get_or_default}
 use Rattle.mapf_grid.specs.Grid.{IsFree, cells}
 use Rattle.mapf_low.specs.Query.{Query}
-use Rattle.mapf_low.specs.Reached.{AreLinked, ComesFrom, IsSmallestBefore, IsReadBack}
+use Rattle.mapf_low.specs.Reached.{AreLinked, ComesFrom, IsSmallestBefore, IsReconstructed}
 use Rattle.mapf_low.proofs.Places.{free_below}
 use Rattle.mapf_low.proofs.FirstArrival.{Setting}
 
@@ -24,15 +24,15 @@ are_linked query limit At count end s inside = record {
 
 module _ (query : Query) (At : ℕ → ℕ → Type 0) where
   -- before anything is read back, the list is the goal alone, over and over
-  pub read_none : (path : List ℕ) (end : ℕ) → path ≡ replicate (end + 1) query.goal → IsReadBack query At path end end
-  read_none path end e = subst (λ p. IsReadBack query At p end end) (sym e) (record {
+  pub read_none : (path : List ℕ) (end : ℕ) → path ≡ replicate (end + 1) query.goal → IsReconstructed query At path end end
+  read_none path end e = subst (λ p. IsReconstructed query At p end end) (sym e) (record {
     long = length-replicate (end + 1) query.goal;
     ends = get_or-replicate (end + 1) end query.goal 0 (omega arith);
     back = λ t l m. absurd (omega (arith, l, m));
   })
 
-  pub read_more : (path : List ℕ) (t u end : ℕ) → t < end → IsReadBack query At path (t + 1) end → IsSmallestBefore query (t + 1) (At t) (slice_index path (t + 1)) u →
-      IsReadBack query At (set path t u) t end
+  pub read_more : (path : List ℕ) (t u end : ℕ) → t < end → IsReconstructed query At path (t + 1) end → IsSmallestBefore query (t + 1) (At t) (slice_index path (t + 1)) u →
+      IsReconstructed query At (set path t u) t end
   read_more path t u end l h s = record {
     long = length-set path t u ∙ h.long;
     ends = get_or-set_other path t end u 0 (let ne : end ≢ t = omega (arith, l) in ne) ∙ h.ends;
@@ -57,8 +57,8 @@ module _ (query : Query) (At : ℕ → ℕ → Type 0) where
               subst (λ n. IsSmallestBefore query (n + 1) (At n) (slice_index (set path t u) (n + 1)) (slice_index (set path t u) n)) e now
 
   -- what is read at a time step is the smallest cell that the next may be entered from
-  pub read_step : (path : List ℕ) (t u end cell : ℕ) → t < end → IsReadBack query At path (t + 1) end → cell ≡ get_or path (t + 1) cell →
-      IsSmallestBefore query (t + 1) (At t) cell u → IsReadBack query At (set path t u) t end × At t (slice_index (set path t u) t)
+  pub read_step : (path : List ℕ) (t u end cell : ℕ) → t < end → IsReconstructed query At path (t + 1) end → cell ≡ get_or path (t + 1) cell →
+      IsSmallestBefore query (t + 1) (At t) cell u → IsReconstructed query At (set path t u) t end × At t (slice_index (set path t u) t)
   read_step path t u end cell l h at s = (read_more path t u end l h here, there)
     where
       same_cell : cell ≡ slice_index path (t + 1)
@@ -71,7 +71,7 @@ module _ (query : Query) (At : ℕ → ℕ → Type 0) where
       there = subst (λ v. At t v) (sym (get_or-set_same path t u 0 (omega (arith, l, h.long)))) here.comes.0
 
   -- the cell that was read last is free, in the map, and may be entered from one that was reached before
-  pub read_needs : (path : List ℕ) (t end cell : ℕ) → AreLinked query At end → t < end → IsReadBack query At path (t + 1) end → At (t + 1) (slice_index path (t + 1)) →
+  pub read_needs : (path : List ℕ) (t end cell : ℕ) → AreLinked query At end → t < end → IsReconstructed query At path (t + 1) end → At (t + 1) (slice_index path (t + 1)) →
       cell ≡ get_or path (t + 1) cell → (IsFree query.grid cell × (cell < cells query.grid)) × ((u : ℕ) × ComesFrom query (t + 1) (At t) cell u)
   read_needs path t end cell linked l h i at = (linked.places (t + 1) cell (omega (arith, l)) inside, linked.linked t cell l inside)
     where
@@ -79,7 +79,7 @@ module _ (query : Query) (At : ℕ → ℕ → Type 0) where
       inside = subst (λ v. At (t + 1) v) (sym (at ∙ get_or_default path (t + 1) cell 0 (omega (arith, l, h.long)))) i
 
   -- at the end, on the goal
-  pub read_first : (path : List ℕ) (end : ℕ) → path ≡ replicate (end + 1) query.goal → At end query.goal → IsReadBack query At path end end × At end (slice_index path end)
+  pub read_first : (path : List ℕ) (end : ℕ) → path ≡ replicate (end + 1) query.goal → At end query.goal → IsReconstructed query At path end end × At end (slice_index path end)
   read_first path end e i =
       let h = read_none path end e in
       (h, subst (λ v. At end v) (sym h.ends) i)

@@ -12,7 +12,7 @@ use Rattle.mapf_grid.specs.Grid.{Grid, IsFree, IsBeside, Next}
 use Rattle.mapf_low.specs.Query.{Query}
 use Rattle.mapf_low.specs.declared.constraint.Constraint.TheVariants.{Edge}
 use Rattle.mapf_low.specs.Layers.{MayEnter}
-use Rattle.mapf_low.specs.Reached.{IsOpen, MayStep, ComesFrom}
+use Rattle.mapf_low.specs.Reached.{IsUsable, MayStep, ComesFrom}
 use Rattle.mapf_low.proofs.Growing.{members_push, all_in_front, Grown}
 use Rattle.mapf_low.proofs.LevelSearch.{Next_back}
 use Rattle.mapf_low.proofs.Bests.{IsSmallest, smallest_same}
@@ -105,35 +105,35 @@ all_ways g cell sides found free h e v = (λ i. to ((members_push sides cell v).
     from (f, fv, inl s) = inr s
     from (f, fv, inr b) = inl ((h v).1 (fv, b))
 
--- what was met among the ways out are the cells that this one may be entered from
+-- what was met among the steps_from out are the cells that this one may be entered from
 pub met_before : (query : Query) (time : ℕ) (P : ℕ → Type 0) (cell : ℕ) (items : List ℕ) (k : ℕ) (o : Option ℕ) → k ≡ length items → ((v : ℕ) → Contains items v ↔ Next query.grid cell v) →
     IsSmallest (λ u. Contains (take k items) u × (P u × (¬ Contains query.constraints (Edge u cell time)))) o → IsSmallest (λ u. ComesFrom query time P cell u) o
-met_before query time P cell items k o e ways h =
+met_before query time P cell items k o e steps_from h =
     smallest_same (λ u. Contains (take k items) u × (P u × (¬ Contains query.constraints (Edge u cell time)))) (λ u. ComesFrom query time P cell u) o h
     (λ u. (
-      (λ c. ((all_in_front items k u e).1 ((ways u).1 (Next_back query.grid u cell c.1.0)), (c.0, c.1.1))),
-      (λ m. (m.1.0, (Next_back query.grid cell u ((ways u).0 ((all_in_front items k u e).0 m.0)), m.1.1))),
+      (λ c. ((all_in_front items k u e).1 ((steps_from u).1 (Next_back query.grid u cell c.1.0)), (c.0, c.1.1))),
+      (λ m. (m.1.0, (Next_back query.grid cell u ((steps_from u).0 ((all_in_front items k u e).0 m.0)), m.1.1))),
     ))
 
 -- what was added from a free cell and its sides
 pub spread_is : (query : Query) (time from : ℕ) (sides old mid new : List ℕ) → IsFree query.grid from → ((v : ℕ) → Contains sides v ↔ (IsFree query.grid v × IsBeside query.grid from v)) →
     ((v : ℕ) → Contains mid v ↔ (Contains old v ⊎ ((from ≡ v) × MayEnter query time from v))) → Grown (λ v. MayEnter query time from v) sides mid new →
-    (v : ℕ) → Contains new v ↔ (Contains old v ⊎ (IsOpen query query.limit time v × MayStep query time from v))
+    (v : ℕ) → Contains new v ↔ (Contains old v ⊎ (IsUsable query query.limit time v × MayStep query time from v))
 spread_is query time from sides old mid new free beside waits h v = (λ i. to ((h v).0 i), λ p. (h v).1 (back p))
   where
-    stays : Contains old v ⊎ ((from ≡ v) × MayEnter query time from v) → Contains old v ⊎ (IsOpen query query.limit time v × MayStep query time from v)
+    stays : Contains old v ⊎ ((from ≡ v) × MayEnter query time from v) → Contains old v ⊎ (IsUsable query query.limit time v × MayStep query time from v)
     stays (inl i) = inl i
     stays (inr p) = inr (p.1.0, ((free, subst (IsFree query.grid) p.0 free, inl p.0), p.1.1))
 
-    to : Contains mid v ⊎ (Contains sides v × MayEnter query time from v) → Contains old v ⊎ (IsOpen query query.limit time v × MayStep query time from v)
+    to : Contains mid v ⊎ (Contains sides v × MayEnter query time from v) → Contains old v ⊎ (IsUsable query query.limit time v × MayStep query time from v)
     to (inl i) = stays ((waits v).0 i)
     to (inr p) = let side = (beside v).0 p.0 in inr (p.1.0, ((free, side.0, inr side.1), p.1.1))
 
-    steps : IsOpen query query.limit time v → Next query.grid from v → (¬ Contains query.constraints (Edge from v time)) → Contains mid v ⊎ (Contains sides v × MayEnter query time from v)
+    steps : IsUsable query query.limit time v → Next query.grid from v → (¬ Contains query.constraints (Edge from v time)) → Contains mid v ⊎ (Contains sides v × MayEnter query time from v)
     steps o (f, fv, inl e) n = inl ((waits v).1 (inr (e, (o, n))))
     steps o (f, fv, inr b) n = inr ((beside v).1 (fv, b), (o, n))
 
-    back : Contains old v ⊎ (IsOpen query query.limit time v × MayStep query time from v) → Contains mid v ⊎ (Contains sides v × MayEnter query time from v)
+    back : Contains old v ⊎ (IsUsable query query.limit time v × MayStep query time from v) → Contains mid v ⊎ (Contains sides v × MayEnter query time from v)
     back (inl i) = inl ((waits v).1 (inl i))
     back (inr p) = steps p.0 p.1.0 p.1.1
 

@@ -3,7 +3,7 @@ use Rattle.std.specs.Prelude.{◌≡◌, ℕ, ◌+◌, ◌-◌, ◌<◌, ◌≤�
 use Rattle.mapf_grid.specs.Grid.{IsFree, Next, cells}
 use Rattle.mapf_low.specs.declared.constraint.Constraint.TheVariants.{Vertex, Edge}
 use Rattle.mapf_low.specs.Query.{Query}
-use Rattle.mapf_low.specs.Reached.{AreReached, Arrives}
+use Rattle.mapf_low.specs.Reached.{AreReached, EndsAt}
 use Rattle.mapf_low.specs.Walk.{distance_at}
 use Rattle.std.specs.Option.{unwrap_or}
 
@@ -67,7 +67,7 @@ InClasses query nearest classes t v =
 pub record IsSearched (query : Query) (nearest : ℕ) (classes : List (List ℕ)) (end : Option ℕ) : Type 0 where
   pub within : unwrap_or end query.limit ≤ query.limit
   pub reached : (count : ℕ) → AreReached query (unwrap_or end query.limit) (InClasses query nearest classes) count
-  pub before : (t : ℕ) → t < unwrap_or end query.limit → ¬ Arrives query (InClasses query nearest classes) t
-  pub ends : MatchOption end (¬ Arrives query (InClasses query nearest classes) query.limit) (Arrives query (InClasses query nearest classes))
+  pub before : (t : ℕ) → t < unwrap_or end query.limit → ¬ EndsAt query (InClasses query nearest classes) t
+  pub ends : MatchOption end (¬ EndsAt query (InClasses query nearest classes) query.limit) (EndsAt query (InClasses query nearest classes))
   pub few : nearest + length classes ≤ unwrap_or end query.limit + 1
   pub placed : (k v : ℕ) → Contains (class_at classes k) v → IsWithin query (nearest + k) v

@@ -6,8 +6,8 @@ use Rattle.mapf_low.specs.declared.constraint.Constraint.TheVariants.{Vertex, Ed
 use Rattle.mapf_low.specs.Query.{Query, MayEnd}
 
 -- the agent may be on the cell at this time, and the goal is near enough
-abbrev pub IsOpen : Query → ℕ → ℕ → ℕ → Type 0
-IsOpen query limit t v =
+abbrev pub IsUsable : Query → ℕ → ℕ → ℕ → Type 0
+IsUsable query limit t v =
     (¬ Contains query.constraints (Vertex v t)) × MatchOption (slice_index_or query.table v None) ⊥ (λ n. t + n ≤ limit)
 
 -- the agent may arrive on v from u at this time
@@ -20,13 +20,13 @@ ComesFrom query t P v u = P u × MayStep query t u v
 
 -- for each of so many time steps the open cells that an agent from the start may have reached
 pub record AreReached (query : Query) (limit : ℕ) (At : ℕ → ℕ → Type 0) (count : ℕ) : Type 0 where
-  pub first : (v : ℕ) → At 0 v ↔ ((v ≡ query.start) × IsOpen query limit 0 v)
+  pub first : (v : ℕ) → At 0 v ↔ ((v ≡ query.start) × IsUsable query limit 0 v)
   pub next : (t : ℕ) → t + 1 < count → (v : ℕ) →
-      At (t + 1) v ↔ (IsOpen query limit (t + 1) v × ((u : ℕ) × ComesFrom query (t + 1) (At t) v u))
+      At (t + 1) v ↔ (IsUsable query limit (t + 1) v × ((u : ℕ) × ComesFrom query (t + 1) (At t) v u))
 
 -- a path may end at this time
-abbrev pub Arrives : Query → (ℕ → ℕ → Type 0) → ℕ → Type 0
-Arrives query At t = At t query.goal × MayEnd query t
+abbrev pub EndsAt : Query → (ℕ → ℕ → Type 0) → ℕ → Type 0
+EndsAt query At t = At t query.goal × MayEnd query t
 
 -- of these cells from which v may be entered at this time, u is the smallest
 pub record IsSmallestBefore (query : Query) (t : ℕ) (P : ℕ → Type 0) (v u : ℕ) : Type 0 where
@@ -34,7 +34,7 @@ pub record IsSmallestBefore (query : Query) (t : ℕ) (P : ℕ → Type 0) (v u 
   pub smallest : (w : ℕ) → ComesFrom query t P v w → u ≤ w
 
 -- the cells from time `from` to time `end`, read backwards from the goal
-pub record IsReadBack (query : Query) (At : ℕ → ℕ → Type 0) (path : List ℕ) (from end : ℕ) : Type 0 where
+pub record IsReconstructed (query : Query) (At : ℕ → ℕ → Type 0) (path : List ℕ) (from end : ℕ) : Type 0 where
   pub long : length path ≡ end + 1
   pub ends : slice_index path end ≡ query.goal
   pub back : (t : ℕ) → from ≤ t → t < end →

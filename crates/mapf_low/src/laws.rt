@@ -8,7 +8,7 @@ ghost use Rattle.mapf_low.specs.Taken.{AreTaken};
 ghost use Rattle.mapf_low.specs.Constraints.{IsAllowed, IsOwnPath, OrderIsByLast};
 ghost use Rattle.mapf_low.specs.OwnPath.{OwnPathExists};
 
-use crate::arrival::by_layers;
+use crate::by_layers::by_layers;
 use crate::query::Query;
 use crate::taken::taken_by;
 use crate::{Constraints, Distances};

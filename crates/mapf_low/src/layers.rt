@@ -1,7 +1,7 @@
 ghost use Rattle.std.specs.Prelude.{◌≡◌, ◌⊎◌, ◌↔◌, ℕ, ◌<◌, IfOk, OnOk, Contains};
 ghost use Rattle.mapf_grid.specs.Grid.{cells, IsFree};
 ghost use Rattle.mapf_low.specs.Layers.{MayEnter, IsFirstLayer, IsNextLayer, InLayers};
-ghost use Rattle.mapf_low.specs.Reached.{IsOpen, MayStep};
+ghost use Rattle.mapf_low.specs.Reached.{IsUsable, MayStep};
 
 use crate::layer::Layer;
 use crate::query::Query;
@@ -20,7 +20,7 @@ fn generate(
     ensures { OnOk result ((v : ℕ) → Contains reached.new.items v
         ↔ (Contains reached.old.items v ⊎ ((to ≡ v) × MayEnter query.now time from v))) }
 {
-    if query.is_open(to, time) && query.allows_step(from, to, time) {
+    if query.is_usable(to, time) && query.allows_step(from, to, time) {
         reached.push(to)?;
     }
     Ok(())
@@ -31,7 +31,7 @@ fn expand(query: &Query, from: Cell, time: u32, reached: &mut Vec<Cell>) -> Resu
     requires free { IsFree query.now.grid from }
     requires inside { from < cells query.now.grid }
     ensures { OnOk result ((v : ℕ) → Contains reached.new.items v
-        ↔ (Contains reached.old.items v ⊎ (IsOpen query.now query.now.limit time v × MayStep query.now time from v))) }
+        ↔ (Contains reached.old.items v ⊎ (IsUsable query.now query.now.limit time v × MayStep query.now time from v))) }
 {
     generate(query, from, from, time, reached)?;
     for to in query.sides(from).as_slice() {
@@ -46,7 +46,7 @@ pub fn first_layer(alloc: Global, query: &Query) -> Result<Layer, NoMemory>
 {
     let start = query.start();
     let mut cells = Vec::new(alloc);
-    if query.is_open(start, 0) {
+    if query.is_usable(start, 0) {
         cells.push(start)?;
     }
     Ok(Layer::of(cells))

@@ -1,9 +1,8 @@
 //! Distances, constraints, and one agent's cheapest path under constraints.
 #![tactic(auto)]
 
-mod arrival;
-mod back;
 mod busy;
+mod by_layers;
 mod class;
 mod constraint;
 mod constraints;
@@ -15,6 +14,7 @@ mod layers;
 mod own_path;
 mod query;
 mod reached;
+mod reconstruction;
 mod search;
 mod states;
 mod taken;

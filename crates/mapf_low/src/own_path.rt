@@ -7,7 +7,7 @@ ghost use Rattle.mapf_low.specs.Query.{IsFound};
 ghost use Rattle.mapf_low.specs.Classes.{IsSearched};
 ghost use Rattle.mapf_low.specs.Constraints.{IsAllowed, IsOwnPath};
 
-use crate::back::read_back;
+use crate::reconstruction::reconstruct_path;
 use crate::query::Query;
 use crate::search::{Searched, search};
 use crate::states::States;
@@ -30,7 +30,7 @@ pub fn find(alloc: Global, query: &Query) -> Result<(Searched, Option<Path>), No
                 query,
                 searched: &searched,
             };
-            let path = read_back(alloc, query, &states, end)?;
+            let path = reconstruct_path(alloc, query, &states, end)?;
             Ok((searched, Some(path)))
         }
     }

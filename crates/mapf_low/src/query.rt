@@ -40,7 +40,7 @@ impl<'a> Model for Query<'a> {
 
 impl<'a> Query<'a> {
     ghost use Rattle.mapf_low.specs.Query.{IsPosed, MayEnd};
-    ghost use Rattle.mapf_low.specs.Reached.{IsOpen};
+    ghost use Rattle.mapf_low.specs.Reached.{IsUsable};
     ghost use Rattle.mapf_low.specs.Classes.{IsAllowedStep};
 
     /// Asks for the own path between two cells; `distances` are those of the goal on this map.
@@ -134,8 +134,8 @@ impl<'a> Query<'a> {
     }
 
     /// Whether the agent may be on the cell at this time step, and can still reach its goal by the limit.
-    pub fn is_open(&self, cell: Cell, time: u32) -> bool
-        ensures { IsTrue result ↔ IsOpen self.now self.now.limit time cell }
+    pub fn is_usable(&self, cell: Cell, time: u32) -> bool
+        ensures { IsTrue result ↔ IsUsable self.now self.now.limit time cell }
     {
         let Some(distance) = self.distances.get(cell) else {
             return false;

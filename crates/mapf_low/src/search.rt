@@ -40,7 +40,7 @@ fn can_end(query: &Query, class: &Class, sum: u32) -> bool
 }
 
 /// For how many cells the first class gets room, by the distance from the start to the goal: on open ground the shortest
-/// ways to the goal may go over a quarter of its square.
+/// steps_from to the goal may go over a quarter of its square.
 fn first_room(nearest: u32) -> usize {
     let near = (nearest as usize).min(256);
     4 * near + near * near / 8 + 4
@@ -55,7 +55,7 @@ pub fn search(alloc: Global, query: &Query) -> Result<Searched, NoMemory>
     let limit = query.limit();
     let start = query.start();
     let mut classes = Vec::new(alloc);
-    if !query.is_open(start, 0) {
+    if !query.is_usable(start, 0) {
         return Ok(Searched {
             nearest: 0,
             classes,

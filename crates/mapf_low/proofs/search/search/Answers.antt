@@ -2,7 +2,7 @@ use Rattle.std.proofs.Common.{◌≡◌, ◌≤◌, ◌<◌, ◌+◌, ◌-◌, �
 use Rattle.mapf_low.specs.Query.{MayEnd}
 use Rattle.mapf_low.specs.Walk.{distance_at}
 use Rattle.mapf_low.specs.Classes.{IsAdded, Grows, SomeLeads, Closes, ArePlaced, IsSearched, InClasses}
-use Rattle.mapf_low.specs.Reached.{IsOpen, Arrives}
+use Rattle.mapf_low.specs.Reached.{IsUsable, EndsAt}
 use Rattle.mapf_low.proofs.Rising.{not_true}
 use Rattle.mapf_low.proofs.Classing.{ground_of, AreClasses, match_at}
 use Rattle.mapf_low.proofs.Searching.{IsSearching}
@@ -18,7 +18,7 @@ loop-sum-init c =
       searching =
           search_first c.args.query.now c.unwrap-nearest.result ground c.new-classes.result.items c.make_room.new.self c.add.new.self c.new-next.result c.new-after.result
           none (c.in_ok-make_room.ensures ∙ c.new-now.ensures) c.new-next.ensures c.new-after.ensures c.limit-limit.ensures.posed.start
-          (subst (λ s. IsOpen c.args.query.now c.args.query.now.limit 0 s) c.start-start.ensures (c.is_open.ensures.0 c.if-not-is_open.false)).0 (subst (λ s. IsAdded s c.make_room.new.self c.add.new.self) c.start-start.ensures c.in_ok-add.ensures);
+          (subst (λ s. IsUsable c.args.query.now c.args.query.now.limit 0 s) c.start-start.ensures (c.is_usable.ensures.0 c.if-not-is_usable.false)).0 (subst (λ s. IsAdded s c.make_room.new.self c.add.new.self) c.start-start.ensures c.in_ok-add.ensures);
     }
 
 pub expand_class-requires-clause-placed : goal.expand_class-requires-clause-placed
@@ -39,7 +39,7 @@ returns-then-can_end-clause-searched c =
     let found : AreClasses c.args.query.now c.loop-sum.sum c.unwrap-nearest.result (Has (c.loop-sum.classes.items ++ c.expand_class.new.class ∷ [])) =
     subst (λ n. AreClasses c.args.query.now n c.unwrap-nearest.result (Has (c.loop-sum.classes.items ++ c.expand_class.new.class ∷ []))) (sym long)
     (last_classes c.args.query.now c.unwrap-nearest.result ground c.loop-sum.classes.items c.loop-sum.now c.loop-sum.next c.loop-sum.after c.loop-sum.invariant.searching c.expand_class.new.class closes placed) in
-    let before : (t : ℕ) → t < c.loop-sum.sum → ¬ Arrives c.args.query.now (InClasses c.args.query.now c.unwrap-nearest.result (c.loop-sum.classes.items ++ c.expand_class.new.class ∷ [])) t =
+    let before : (t : ℕ) → t < c.loop-sum.sum → ¬ EndsAt c.args.query.now (InClasses c.args.query.now c.unwrap-nearest.result (c.loop-sum.classes.items ++ c.expand_class.new.class ∷ [])) t =
     λ t l. no_arrival c.args.query.now c.unwrap-nearest.result ground (c.loop-sum.classes.items ++ c.expand_class.new.class ∷ []) (length c.loop-sum.classes.items)
     (before_last c.args.query.now c.unwrap-nearest.result ground c.loop-sum.classes.items c.loop-sum.now c.loop-sum.next c.loop-sum.after c.loop-sum.invariant.searching c.expand_class.new.class closes placed) t (omega (arith, l, long)) in
     searched_as c.args.query.now c.of.result.nearest _ c.of.result.classes.items _ c.of.result.end _ c.of.ensures.nearest c.of.ensures.classes c.of.ensures.end (
@@ -111,7 +111,7 @@ pub returns-clause-searched : goal.returns-clause-searched
 returns-clause-searched c =
     let ground = ground_of c.args.query.now c.start-start.result c.unwrap-nearest.result c.distance.result c.limit-limit.ensures.posed c.start-start.ensures c.distance.ensures c.unwrap-nearest.ensures in
     let long = c.loop-sum.invariant.long in
-    let near : 0 + c.unwrap-nearest.result ≤ c.args.query.now.limit = match_at (distance_at c.args.query.now.table c.args.query.now.start) c.unwrap-nearest.result (λ n. 0 + n ≤ c.args.query.now.limit) ground.nearest_is (subst (λ s. IsOpen c.args.query.now c.args.query.now.limit 0 s) c.start-start.ensures (c.is_open.ensures.0 c.if-not-is_open.false)).1 in
+    let near : 0 + c.unwrap-nearest.result ≤ c.args.query.now.limit = match_at (distance_at c.args.query.now.table c.args.query.now.start) c.unwrap-nearest.result (λ n. 0 + n ≤ c.args.query.now.limit) ground.nearest_is (subst (λ s. IsUsable c.args.query.now c.args.query.now.limit 0 s) c.start-start.ensures (c.is_usable.ensures.0 c.if-not-is_usable.false)).1 in
     let last : c.loop-sum.sum ≡ c.args.query.now.limit + 1 = omega (arith, near) in
     searched_as c.args.query.now c.of-2.result.nearest _ c.of-2.result.classes.items _ c.of-2.result.end _ c.of-2.ensures.nearest c.of-2.ensures.classes c.of-2.ensures.end (
     searched_none c.args.query.now c.unwrap-nearest.result ground c.loop-sum.classes.items

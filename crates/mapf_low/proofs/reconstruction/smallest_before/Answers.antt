@@ -5,8 +5,8 @@ use Rattle.mapf_low.specs.Reached.{ComesFrom}
 use Rattle.mapf_low.proofs.Growing.{members_more}
 use Rattle.mapf_low.proofs.Bests.{IsSmallest, smallest_takes, smallest_keeps, smallest_some, smallest_at}
 use Rattle.mapf_low.proofs.Rising.{met_before, not_true}
-use Rattle.mapf_low.proofs.back.smallest_before.Goals as goal
-use Rattle.mapf_low.proofs.back.smallest_before.Goals.{then-has+then-allows_step, else-has, else-has-via-then-has+else-allows_step, else-has-via-else-has}
+use Rattle.mapf_low.proofs.reconstruction.smallest_before.Goals as goal
+use Rattle.mapf_low.proofs.reconstruction.smallest_before.Goals.{then-has+then-allows_step, else-has, else-has-via-then-has+else-allows_step, else-has-via-else-has}
 
 -- the members of a longer front for which Q holds
 front_joins : (Q : ℕ → Type 0) (items : List ℕ) (k x : ℕ) → ((u : ℕ) → Contains (take (k + 1) items) u ↔ (Contains (take k items) u ⊎ (x ≡ u))) →
@@ -53,18 +53,18 @@ loop-from-preserved g c =
 pub unwrap-requires : goal.unwrap-requires
 unwrap-requires g c =
     let whole : c.loop-from.from-index ≡ length c.as_slice-from-items.result.now = omega arith in
-    let ways : (v : ℕ) → Contains c.as_slice-from-items.result.now v ↔ Next c.args.query.now.grid c.args.cell v =
-    subst (λ xs. (v : ℕ) → Contains xs v ↔ Next c.args.query.now.grid c.args.cell v) (sym c.as_slice-from-items.ensures) c.in_ok-ways.ensures in
+    let steps_from : (v : ℕ) → Contains c.as_slice-from-items.result.now v ↔ Next c.args.query.now.grid c.args.cell v =
+    subst (λ xs. (v : ℕ) → Contains xs v ↔ Next c.args.query.now.grid c.args.cell v) (sym c.as_slice-from-items.ensures) c.in_ok-steps_from.ensures in
     smallest_some (λ u. ComesFrom c.args.query.now (c.args.time + 1) (g.R.Reached.has c.args.reached.now c.args.time) c.args.cell u) c.loop-from.smallest
-    (met_before c.args.query.now (c.args.time + 1) (g.R.Reached.has c.args.reached.now c.args.time) c.args.cell c.as_slice-from-items.result.now c.loop-from.from-index c.loop-from.smallest whole ways c.loop-from.invariant)
+    (met_before c.args.query.now (c.args.time + 1) (g.R.Reached.has c.args.reached.now c.args.time) c.args.cell c.as_slice-from-items.result.now c.loop-from.from-index c.loop-from.smallest whole steps_from c.loop-from.invariant)
     c.requires.some
 
 pub returns : goal.returns
 returns g c =
     let whole : c.loop-from.from-index ≡ length c.as_slice-from-items.result.now = omega arith in
-    let ways : (v : ℕ) → Contains c.as_slice-from-items.result.now v ↔ Next c.args.query.now.grid c.args.cell v =
-    subst (λ xs. (v : ℕ) → Contains xs v ↔ Next c.args.query.now.grid c.args.cell v) (sym c.as_slice-from-items.ensures) c.in_ok-ways.ensures in
+    let steps_from : (v : ℕ) → Contains c.as_slice-from-items.result.now v ↔ Next c.args.query.now.grid c.args.cell v =
+    subst (λ xs. (v : ℕ) → Contains xs v ↔ Next c.args.query.now.grid c.args.cell v) (sym c.as_slice-from-items.ensures) c.in_ok-steps_from.ensures in
     let found =
     smallest_at (λ u. ComesFrom c.args.query.now (c.args.time + 1) (g.R.Reached.has c.args.reached.now c.args.time) c.args.cell u) c.loop-from.smallest c.unwrap.result c.unwrap.ensures
-    (met_before c.args.query.now (c.args.time + 1) (g.R.Reached.has c.args.reached.now c.args.time) c.args.cell c.as_slice-from-items.result.now c.loop-from.from-index c.loop-from.smallest whole ways c.loop-from.invariant) in
+    (met_before c.args.query.now (c.args.time + 1) (g.R.Reached.has c.args.reached.now c.args.time) c.args.cell c.as_slice-from-items.result.now c.loop-from.from-index c.loop-from.smallest whole steps_from c.loop-from.invariant) in
     record { comes = found.0; smallest = found.1 }

@@ -1,7 +1,7 @@
 ghost use Rattle.std.specs.Prelude.{◌↔◌, IsTrue, IfOk, Contains};
 ghost use Rattle.mapf_low.specs.Query.{MayEnd, IsFound};
 
-use crate::back::read_back;
+use crate::reconstruction::reconstruct_path;
 use crate::layer::Layer;
 use crate::layers::{first_layer, next_layer};
 use crate::query::Query;
@@ -10,7 +10,7 @@ use mapf_plan::Path;
 use std::alloc::Global;
 
 /// Whether a path may end on the goal at this time step.
-fn arrives(query: &Query, layer: &Layer, time: u32) -> bool
+fn ends_in(query: &Query, layer: &Layer, time: u32) -> bool
     ensures { IsTrue result ↔ (Contains layer.now query.now.goal × MayEnd query.now time) }
 {
     query.may_end(time) && layer.contains(query.goal())
@@ -28,8 +28,8 @@ pub fn by_layers(alloc: Global, query: &Query) -> Result<Option<Path>, NoMemory>
         if layer.is_empty() {
             return Ok(None);
         }
-        if arrives(query, layer, time) {
-            let path = read_back(alloc, query, &layers, time)?;
+        if ends_in(query, layer, time) {
+            let path = reconstruct_path(alloc, query, &layers, time)?;
             return Ok(Some(path));
         }
         let next = next_layer(alloc, query, layer, time + 1)?;

@@ -1,6 +1,6 @@
 use Rattle.std.proofs.Common.{◌∷◌, [], ◌++◌, ap, ◌∙◌}
 use Rattle.mapf_low.proofs.Rising.{all_ways}
-use Rattle.mapf_low.proofs.back.ways.Goals as goal
+use Rattle.mapf_low.proofs.reconstruction.steps_from.Goals as goal
 
 pub returns : goal.returns
 returns c =

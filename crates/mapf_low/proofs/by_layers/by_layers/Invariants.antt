@@ -1,13 +1,13 @@
 use Rattle.std.proofs.Common.{◌≡◌, ℕ, ◌+◌, ◌<◌, length}
 use Rattle.mapf_low.specs.Layers.{InLayers}
-use Rattle.mapf_low.specs.Reached.{Arrives}
+use Rattle.mapf_low.specs.Reached.{EndsAt}
 use Rattle.mapf_low.proofs.Layering.{AreLayers}
-use Rattle.mapf_low.proofs.arrival.by_layers.Given as goal
+use Rattle.mapf_low.proofs.by_layers.by_layers.Given as goal
 
 abbrev pub invariant-loop-time : goal.invariant-loop-time
 invariant-loop-time l =
     record {
       long : length l.layers.items ≡ l.time + 1;
       layers_are : AreLayers l.query l.layers.items;
-      before : (t : ℕ) → t < l.time → ¬ Arrives l.query (InLayers l.layers.items) t;
+      before : (t : ℕ) → t < l.time → ¬ EndsAt l.query (InLayers l.layers.items) t;
     }

@@ -1,5 +1,5 @@
 use Rattle.std.proofs.Common.{Contains, subst, sym}
-use Rattle.mapf_low.proofs.arrival.arrives.Goals as goal
+use Rattle.mapf_low.proofs.by_layers.ends_in.Goals as goal
 
 pub returns-then-may_end : goal.returns-then-may_end
 returns-then-may_end c = (

@@ -1,7 +1,7 @@
 ghost use Rattle.std.specs.Prelude.{◌≡◌, ◌↔◌, ℕ, ◌+◌, ◌<◌, ◌≤◌, IfOk, Contains};
 ghost use Rattle.mapf_grid.specs.Grid.{cells, IsFree, Next};
 ghost use Rattle.mapf_low.specs.Best.{smaller_of};
-ghost use Rattle.mapf_low.specs.Reached.{ComesFrom, AreLinked, IsSmallestBefore, IsReadBack};
+ghost use Rattle.mapf_low.specs.Reached.{ComesFrom, AreLinked, IsSmallestBefore, IsReconstructed};
 
 use crate::query::Query;
 use crate::reached::Reached;
@@ -22,7 +22,7 @@ fn smaller(one: Option<Cell>, other: Option<Cell>) -> Option<Cell>
 }
 
 /// The cells that a step may lead to, the cell itself among them.
-fn ways(alloc: Global, query: &Query, cell: Cell) -> Result<SmallVec<Cell, 5>, NoMemory>
+fn steps_from(alloc: Global, query: &Query, cell: Cell) -> Result<SmallVec<Cell, 5>, NoMemory>
     requires free { IsFree query.now.grid cell }
     requires inside { cell < cells query.now.grid }
     ensures { IfOk result (λ found. (v : ℕ) → Contains found.items v ↔ Next query.now.grid cell v) }
@@ -47,7 +47,7 @@ fn smallest_before<R: Reached>(
     ensures { IfOk result (IsSmallestBefore query.now (time + 1) (R.has reached.now time) cell) }
 {
     let mut smallest = None;
-    for from in ways(alloc, query, cell)?.as_slice() {
+    for from in steps_from(alloc, query, cell)?.as_slice() {
         if reached.has(*from, time) && query.allows_step(*from, cell, time + 1) {
             smallest = smaller(smallest, Some(*from));
         }
@@ -56,7 +56,7 @@ fn smallest_before<R: Reached>(
 }
 
 /// The path that arrives on the goal at this time step, read backwards by the smallest earlier cell.
-pub fn read_back<R: Reached>(
+pub fn reconstruct_path<R: Reached>(
     alloc: Global,
     query: &Query,
     reached: &R,
@@ -65,7 +65,7 @@ pub fn read_back<R: Reached>(
     requires linked { AreLinked query.now (R.has reached.now) end }
     requires arrived { R.has reached.now end query.now.goal }
     requires short { end ≤ 1000000 }
-    ensures { IfOk result (λ path. IsReadBack query.now (R.has reached.now) path 0 end) }
+    ensures { IfOk result (λ path. IsReconstructed query.now (R.has reached.now) path 0 end) }
 {
     let mut cells = vec![in alloc; query.goal(); end as usize + 1]?;
     for time in (0..end).rev() {

@@ -2,13 +2,13 @@ use Rattle.std.proofs.Common.{◌≡◌, ◌<◌, ◌+◌, ◌∷◌, [], ◌++�
 use Rattle.std.proofs.lemmas.List.{get_or_default}
 use Rattle.mapf_low.specs.Query.{MayEnd}
 use Rattle.mapf_low.specs.Layers.{layer_at, InLayers, IsNextLayer}
-use Rattle.mapf_low.specs.Reached.{Arrives}
+use Rattle.mapf_low.specs.Reached.{EndsAt}
 use Rattle.mapf_low.proofs.LayersGrow.{layers_one, layers_push, not_yet}
 use Rattle.mapf_low.proofs.Reading.{are_linked}
 use Rattle.mapf_low.proofs.Rising.{not_true}
 use Rattle.mapf_low.proofs.FirstArrival.{Setting, own, none_through, none_by_limit}
 use Rattle.mapf_low.proofs.Layering.{AreLayers, layers_reach}
-use Rattle.mapf_low.proofs.arrival.by_layers.Goals as goal
+use Rattle.mapf_low.proofs.by_layers.by_layers.Goals as goal
 
 pub loop-time-init : goal.loop-time-init
 loop-time-init c =
@@ -30,19 +30,19 @@ loop-time-preserved c =
     let here : c.index-layer.result.now ≡ layer_at layers time = c.index-layer.ensures ∙ get_or_default layers time c.index-layer.result.now [] inside in
     let next : IsNextLayer c.args.query.now (time + 1) (layer_at layers time) c.in_ok-next.next =
     subst (λ layer. IsNextLayer c.args.query.now (time + 1) layer c.in_ok-next.next) here c.in_ok-next.ensures in
-    let now : ¬ Arrives c.args.query.now (InLayers layers) time =
-    λ a. not_true c.arrives.result (Contains c.index-layer.result.now c.args.query.now.goal × MayEnd c.args.query.now time) c.arrives.ensures c.if-arrives.false
+    let now : ¬ EndsAt c.args.query.now (InLayers layers) time =
+    λ a. not_true c.ends_in.result (Contains c.index-layer.result.now c.args.query.now.goal × MayEnd c.args.query.now time) c.ends_in.ensures c.if-ends_in.false
     (subst (λ layer. Contains layer c.args.query.now.goal) (sym here) a.0, a.1) in
     record {
       long = ap length is ∙ (length-append layers (c.in_ok-next.next ∷ []) ∙ ap (λ n. n + 1) long);
       layers_are = subst (AreLayers c.args.query.now) (sym is)
           (layers_push c.args.query.now layers c.in_ok-next.next time c.loop-time.invariant.layers_are long next);
-      before = subst (λ ls. (t : ℕ) → t < time + 1 → ¬ Arrives c.args.query.now (InLayers ls) t) (sym is)
+      before = subst (λ ls. (t : ℕ) → t < time + 1 → ¬ EndsAt c.args.query.now (InLayers ls) t) (sym is)
           (not_yet c.args.query.now layers c.in_ok-next.next time long c.loop-time.invariant.before now);
     }
 
-pub read_back-requires : goal.read_back-requires
-read_back-requires c =
+pub reconstruct_path-requires : goal.reconstruct_path-requires
+reconstruct_path-requires c =
     let layers = c.loop-time.layers.items in
     let time = c.loop-time.time in
     let inside : time < length layers = omega arith in
@@ -51,7 +51,7 @@ read_back-requires c =
     record { posed = c.limit-limit.ensures.posed; reached_are = layers_reach c.args.query.now layers c.loop-time.invariant.layers_are } in
     record {
       linked = are_linked c.args.query.now c.args.query.now.limit (InLayers layers) (length layers) time set inside;
-      arrived = subst (λ layer. Contains layer c.args.query.now.goal) here (c.arrives.ensures.0 c.if-arrives.true).0;
+      arrived = subst (λ layer. Contains layer c.args.query.now.goal) here (c.ends_in.ensures.0 c.if-ends_in.true).0;
       short = omega arith;
     }
 
@@ -72,7 +72,7 @@ returns c =
     record { posed = c.limit-limit.ensures.posed; reached_are = layers_reach c.args.query.now layers c.loop-time.invariant.layers_are } in
     let all : c.loop-time.time ≡ c.args.query.now.limit + 1 = omega arith in
     none_by_limit c.args.query.now c.args.query.now.limit (InLayers layers) (length layers) set (omega arith)
-    (subst (λ n. (t : ℕ) → t < n → ¬ Arrives c.args.query.now (InLayers layers) t) all c.loop-time.invariant.before)
+    (subst (λ n. (t : ℕ) → t < n → ¬ EndsAt c.args.query.now (InLayers layers) t) all c.loop-time.invariant.before)
 
 pub returns-then-is_empty : goal.returns-then-is_empty
 returns-then-is_empty c =
@@ -86,13 +86,13 @@ returns-then-is_empty c =
     none_through c.args.query.now c.args.query.now.limit (InLayers layers) (length layers) set time inside c.loop-time.invariant.before
     (subst (λ layer. (v : ℕ) → ¬ Contains layer v) (sym empty) (λ v i. omega (arith, i.1)))
 
-pub returns-then-arrives : goal.returns-then-arrives
-returns-then-arrives c =
+pub returns-then-ends_in : goal.returns-then-ends_in
+returns-then-ends_in c =
     let layers = c.loop-time.layers.items in
     let time = c.loop-time.time in
     let inside : time < length layers = omega arith in
     let here : c.index-layer.result.now ≡ layer_at layers time = c.index-layer.ensures ∙ get_or_default layers time c.index-layer.result.now [] inside in
-    let met = c.arrives.ensures.0 c.if-arrives.true in
+    let met = c.ends_in.ensures.0 c.if-ends_in.true in
     let set : Setting c.args.query.now c.args.query.now.limit (InLayers layers) (length layers) =
     record { posed = c.limit-limit.ensures.posed; reached_are = layers_reach c.args.query.now layers c.loop-time.invariant.layers_are } in
     own c.args.query.now c.args.query.now.limit (InLayers layers) (length layers) set time c.in_ok-path.path inside (omega arith)

@@ -1,8 +1,0 @@
-use Rattle.std.proofs.Common.{slice_index}
-use Rattle.mapf_low.specs.Reached.{IsReadBack}
-use Rattle.mapf_low.proofs.back.read_back.Given as goal
-
-abbrev pub invariant-loop-time : goal.invariant-loop-time
-invariant-loop-time g l =
-    IsReadBack l.query (g.R.Reached.has l.reached) l.cells.items l.time l.end
-    × g.R.Reached.has l.reached l.time (slice_index l.cells.items l.time)
