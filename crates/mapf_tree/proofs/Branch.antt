@@ -1,4 +1,4 @@
--- A valid plan that obeys a pair obeys one of its sides.
+-- A valid plan that obeys a node obeys one of its sides.
 use Rattle.std.proofs.Common.{◌≡◌, ◌⊎◌, ℕ, ◌<◌, List, [], ◌∷◌, length, get_or, set, inl, inr, subst, sym, ap, ◌∙◌, arith, get_or-set_same, get_or-set_other}
 use native.Mathlib.Decide.{ℕ_discrete}
 use Rattle.mapf_grid.specs.Instance.{Instance}
@@ -7,10 +7,11 @@ use Rattle.mapf_plan.specs.declared.conflict.Conflict.TheVariants.{Vertex, Swapp
 use Rattle.mapf_plan.specs.Plan.{IsConflict, path_of}
 use Rattle.mapf_low.specs.declared.constraint.Constraint.{Constraint}
 use Rattle.mapf_low.specs.Constraints.{Obeys, Breaks}
+use Rattle.mapf_tree.specs.Problem.{Problem}
 use Rattle.mapf_tree.specs.declared.side.Side.{Side}
 use Rattle.mapf_tree.specs.declared.side.Side.TheVariants.{Left, Right}
-use Rattle.mapf_tree.specs.Tree.{Pair, side_of, constraint_on, agent_on}
-use Rattle.mapf_tree.specs.Sides.{ObeysPair, ObeysOneSide}
+use Rattle.mapf_tree.specs.Tree.{TreeNode, side_of, constraint_on, agent_on}
+use Rattle.mapf_tree.specs.Laws.{ObeysNode, ObeysOneSide}
 use Rattle.mapf_low.proofs.OwnPaths.{dec_breaks}
 
 -- a path obeys one constraint more for agent a, if it keeps that one where it is agent a's
@@ -24,10 +25,10 @@ obeys_set cs a j x p h new old = go (ℕ_discrete j a)
         subst (λ l. Obeys l p) (sym eq) (new e, old)
     go (no e) = subst (λ l. Obeys l p) (sym (get_or-set_other cs a j (x ∷ get_or cs a []) [] e)) old
 
--- a plan that obeys a pair, and keeps the constraint of a side, obeys that side
-obeys_side : (inst : Instance) (pair : Pair) (other : List (List ℕ)) (c : Conflict) (s : Side) → agent_on c s < length pair.constraints → ¬ Breaks (path_of other (agent_on c s)) (constraint_on c s) → ObeysPair inst pair other → ObeysPair inst (side_of pair c s) other
-obeys_side inst pair other c s h keeps obeys i lt =
-    obeys_set pair.constraints (agent_on c s) i (constraint_on c s) (path_of other i) h (λ e b. keeps (subst (λ k. Breaks (path_of other k) (constraint_on c s)) e b)) (obeys i lt)
+-- a plan that obeys a node, and keeps the constraint of a side, obeys that side
+obeys_side : (problem : Problem) (node : TreeNode) (other : List (List ℕ)) (c : Conflict) (s : Side) → agent_on c s < length node.constraints → ¬ Breaks (path_of other (agent_on c s)) (constraint_on c s) → ObeysNode problem node other → ObeysNode problem (side_of node c s) other
+obeys_side problem node other c s h keeps obeys i lt =
+    obeys_set node.constraints (agent_on c s) i (constraint_on c s) (path_of other i) h (λ e b. keeps (subst (λ k. Breaks (path_of other k) (constraint_on c s)) e b)) (obeys i lt)
 
 -- a plan in which both agents break what their sides forbid has the conflict
 both_break : (plan other : List (List ℕ)) (c : Conflict) → length plan ≡ length other → IsConflict plan c → Breaks (path_of other (agent_on c Left)) (constraint_on c Left) → Breaks (path_of other (agent_on c Right)) (constraint_on c Right) → IsConflict other c
@@ -43,15 +44,15 @@ agent_below plan (Swapping i j u v t) Right h = h.1
 
 -- no valid plan has the conflict, so one of its two agents keeps its side's constraint
 pub obeys_one_side : ObeysOneSide
-obeys_one_side inst pair plan other c nc np is valid obeys = left (dec_breaks _ _)
+obeys_one_side problem node plan other c nc np is valid obeys = left (dec_breaks _ _)
   where
-    agent : (s : Side) → agent_on c s < length pair.constraints
+    agent : (s : Side) → agent_on c s < length node.constraints
     agent s = subst (λ k. agent_on c s < k) (np ∙ sym nc) (agent_below plan c s is)
 
-    right : Breaks (path_of other (agent_on c Left)) (constraint_on c Left) → Dec (Breaks (path_of other (agent_on c Right)) (constraint_on c Right)) → ObeysPair inst (side_of pair c Left) other ⊎ ObeysPair inst (side_of pair c Right) other
-    right l (no r) = inr (obeys_side inst pair other c Right (agent Right) r obeys)
+    right : Breaks (path_of other (agent_on c Left)) (constraint_on c Left) → Dec (Breaks (path_of other (agent_on c Right)) (constraint_on c Right)) → ObeysNode problem (side_of node c Left) other ⊎ ObeysNode problem (side_of node c Right) other
+    right l (no r) = inr (obeys_side problem node other c Right (agent Right) r obeys)
     right l (yes r) = absurd (valid.apart c (both_break plan other c (np ∙ sym valid.agents) is l r))
 
-    left : Dec (Breaks (path_of other (agent_on c Left)) (constraint_on c Left)) → ObeysPair inst (side_of pair c Left) other ⊎ ObeysPair inst (side_of pair c Right) other
-    left (no l) = inl (obeys_side inst pair other c Left (agent Left) l obeys)
+    left : Dec (Breaks (path_of other (agent_on c Left)) (constraint_on c Left)) → ObeysNode problem (side_of node c Left) other ⊎ ObeysNode problem (side_of node c Right) other
+    left (no l) = inl (obeys_side problem node other c Left (agent Left) l obeys)
     left (yes l) = right l (dec_breaks _ _)

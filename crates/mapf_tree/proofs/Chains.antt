@@ -9,9 +9,7 @@ use Rattle.mapf_low.specs.declared.constraint.Constraint.{Constraint}
 use Rattle.mapf_plan.specs.Plan.{path_of, plan_cost}
 use Rattle.mapf_plan.specs.declared.conflict.Conflict.{Conflict}
 use Rattle.mapf_tree.specs.declared.side.Side.{Side}
-use Rattle.mapf_tree.specs.Nodes.{Shown, shown_of, IsConflictOf}
-use Rattle.mapf_tree.specs.NodeFacts.{AgreesWith}
-use Rattle.mapf_tree.specs.Changes.{Changed, changed_plan, changed_sets}
+use Rattle.mapf_tree.specs.Nodes.{Node, node_of, IsConflictOf, AgreesWith, Changed, changed_plan, changed_sets}
 use Rattle.mapf_tree.proofs.Members.{Contains-In, In-Contains}
 
 -- the last change is made last
@@ -98,10 +96,10 @@ pub chain_all : {X Y : Type 0} (P : Y → Type 0) (f : X → Y) (xs : List X) (k
 chain_all P f xs k x y inside is e all =
     subst P (get_or-map f xs k x (f x) inside ∙ ap f (sym is) ∙ sym e) (all k (f x) (subst (λ n. k < n) (sym (length-map xs f)) inside))
 
-module _ (name : List Side) (root : List (List ℕ)) (xs : List Changed) (conflict : Option Conflict) (node : Shown) (is : shown_of name root xs conflict ≡ node) where
+module _ (name : List Side) (root : List (List ℕ)) (xs : List Changed) (conflict : Option Conflict) (node : Node) (is : node_of name root xs conflict ≡ node) where
   -- an agent of a node is one of the root
   pub at_root : (agent : ℕ) (plan : List (List ℕ)) → plan ≡ root → agent < length node.plan → agent < length plan
-  at_root agent plan e inside = omega (arith, subst (λ (n : Shown). agent < length n.plan) (sym is) inside, length-changed_plan root xs, ap length e)
+  at_root agent plan e inside = omega (arith, subst (λ (n : Node). agent < length n.plan) (sym is) inside, length-changed_plan root xs, ap length e)
 
   -- and so are those of its changes
   pub all_at_root : (plan : List (List ℕ)) (changes : List Changed) → plan ≡ root → changes ≡ xs → All (λ x. x.agent < length (changed_plan root xs)) xs → All (λ x. x.agent < length plan) changes
@@ -114,29 +112,29 @@ module _ (name : List Side) (root : List (List ℕ)) (xs : List Changed) (confli
       ((agents : ℕ) → agent < agents → (x : Constraint) → Contains set x ↔ Contains (get_or (changed_sets (replicate agents []) changes) agent []) x) →
       (x : Constraint) → Contains set x ↔ Contains (get_or node.constraints agent []) x
   sets_at agent set changes f inside gathered x =
-      subst (λ (n : Shown). Contains set x ↔ Contains (get_or n.constraints agent []) x) is
+      subst (λ (n : Node). Contains set x ↔ Contains (get_or n.constraints agent []) x) is
       (subst (λ l. Contains set x ↔ Contains (get_or (changed_sets (replicate (length root) []) l) agent []) x) f (gathered (length root) (at_root agent root refl inside) x))
 
   module _ (root' : List (List ℕ)) (xs' : List Changed) (x : Changed) (e : root' ≡ root) (f : xs' ≡ xs ++ x ∷ []) where
     -- with one change more the plan has another path for its agent
     pub plan_turned : changed_plan root' xs' ≡ set node.plan x.agent x.path
-    plan_turned = ap₂ (λ plan l. changed_plan plan l) e f ∙ changed_plan-push root xs x ∙ ap (λ (n : Shown). set n.plan x.agent x.path) is
+    plan_turned = ap₂ (λ plan l. changed_plan plan l) e f ∙ changed_plan-push root xs x ∙ ap (λ (n : Node). set n.plan x.agent x.path) is
 
     -- and the agent one constraint more
     pub sets_turned : changed_sets (replicate (length root') []) xs' ≡ set node.constraints x.agent (x.constraint ∷ get_or node.constraints x.agent [])
     sets_turned =
         ap₂ (λ plan l. changed_sets (replicate (length plan) []) l) e f ∙ changed_sets-push (replicate (length root) []) xs x
-        ∙ ap (λ (n : Shown). set n.constraints x.agent (x.constraint ∷ get_or n.constraints x.agent [])) is
+        ∙ ap (λ (n : Node). set n.constraints x.agent (x.constraint ∷ get_or n.constraints x.agent [])) is
 
     -- what is always so of a node is so of the one after it
-    pub agrees_turned : (sum turns sum' turns' : ℕ) (name' : List Side) (s : Side) (conflict' : Option Conflict) → AgreesWith sum turns (shown_of name root xs conflict) → x.agent < length node.plan →
+    pub agrees_turned : (sum turns sum' turns' : ℕ) (name' : List Side) (s : Side) (conflict' : Option Conflict) → AgreesWith sum turns (node_of name root xs conflict) → x.agent < length node.plan →
         sum' ≡ plan_cost (set node.plan x.agent x.path) → turns' ≡ length node.name + 1 → name' ≡ node.name ++ s ∷ [] → IsConflictOf (set node.plan x.agent x.path) conflict' →
-        AgreesWith sum' turns' (shown_of name' root' xs' conflict')
+        AgreesWith sum' turns' (node_of name' root' xs' conflict')
     agrees_turned sum turns sum' turns' name' s conflict' agrees inside costs deep named first = record {
       cost = costs ∙ ap plan_cost (sym plan_turned);
       depth = deep ∙ sym (ap length named ∙ length_push node.name s);
       conflict = subst (λ plan. IsConflictOf plan conflict') (sym plan_turned) first;
-      turned = ap length f ∙ length_push xs x ∙ ap (λ n. n + 1) (agrees.turned ∙ ap (λ (n : Shown). length n.name) is) ∙ sym (ap length named ∙ length_push node.name s);
+      turned = ap length f ∙ length_push xs x ∙ ap (λ n. n + 1) (agrees.turned ∙ ap (λ (n : Node). length n.name) is) ∙ sym (ap length named ∙ length_push node.name s);
       agents = subst (λ n. All (λ y. y.agent < n) xs') (sym many) (subst (All (λ y. y.agent < length node.plan)) (sym f) (All-push (λ y. y.agent < length node.plan) xs x old inside));
     }
       where
@@ -144,7 +142,7 @@ module _ (name : List Side) (root : List (List ℕ)) (xs : List Changed) (confli
         many = ap length plan_turned ∙ length-set node.plan x.agent x.path
 
         old : All (λ y. y.agent < length node.plan) xs
-        old = subst (λ (n : Shown). All (λ y. y.agent < length n.plan) xs) is agrees.agents
+        old = subst (λ (n : Node). All (λ y. y.agent < length n.plan) xs) is agrees.agents
 
 -- what follows of an answer follows of what is answered
 pub if_ok : {A E : Type 0} (r : Result A E) (P Q : A → Type 0) → ((x : A) → P x → Q x) → IfOk r P → IfOk r Q

@@ -11,102 +11,100 @@ use Rattle.mapf_plan.specs.Plan.{IsFirstConflict, HasNoConflict, IsValid, path_o
 use Rattle.mapf_plan.proofs.Conflicts.{first_conflict}
 use Rattle.mapf_low.specs.Constraints.{Obeys}
 use Rattle.mapf_low.proofs.OwnPaths.{own_path_costs}
+use Rattle.mapf_tree.specs.Problem.{Problem}
 use Rattle.mapf_tree.specs.declared.side.Side.{Side}
 use Rattle.mapf_tree.specs.declared.side.Side.TheVariants.{Left, Right}
-use Rattle.mapf_tree.specs.Tree.{Pair, HasPlan, InTree, root, side, side_of, root_pair, turn, IsSolution}
-use Rattle.mapf_tree.specs.Sides.{ObeyedIsInCost, ObeysPair}
-use Rattle.mapf_tree.specs.Finite.{DepthIsBounded}
-use Rattle.mapf_tree.specs.Optimal.{AnswerIsOptimum, NoneIsNone}
-use Rattle.mapf_tree.specs.Search.{Planned}
+use Rattle.mapf_tree.specs.Tree.{TreeNode, HasPlan, InTree, root, side, side_of, root_of, turn, IsSolution, PlannedNode}
+use Rattle.mapf_tree.specs.Laws.{ObeyedIsInCost, ObeysNode, DepthIsBounded, AnswerIsOptimum, NoneIsNone}
 use Rattle.mapf_tree.proofs.Branch.{obeys_one_side}
 use Rattle.mapf_tree.proofs.Measure.{grown_all, most, depth_le, depth_most}
 use Rattle.mapf_tree.proofs.Plans.{AllowedAt, OwnAt, own_at}
 
--- a valid plan within the bound that obeys a pair puts it in cost, since each of its paths is allowed
+-- a valid plan within the bound that obeys a node puts it in cost, since each of its paths is allowed
 pub obeyed_is_in_cost : ObeyedIsInCost
-obeyed_is_in_cost inst bound pair other valid within obeys = go (build [] (length inst.starts) (OwnAt inst bound pair) own)
+obeyed_is_in_cost problem node other valid within obeys = go (build [] (length problem.inst.starts) (OwnAt problem node) own)
   where
-    allowed : (i : ℕ) → i < length inst.starts → AllowedAt inst bound pair i (path_of other i)
+    allowed : (i : ℕ) → i < length problem.inst.starts → AllowedAt problem node i (path_of other i)
     allowed i h =
         let l = part_le_sum_by cost [] other i (subst (λ k. i < k) (sym valid.agents) h) in
         record { path = valid.paths i h; within = omega (arith, l, within); obeys = obeys i h }
 
-    own : (i : ℕ) → i < length inst.starts → (p : List ℕ) × OwnAt inst bound pair i p
-    own i h = pick (own_at inst bound pair i)
+    own : (i : ℕ) → i < length problem.inst.starts → (p : List ℕ) × OwnAt problem node i p
+    own i h = pick (own_at problem node i)
       where
-        pick : ((p : List ℕ) × OwnAt inst bound pair i p) ⊎ ((p : List ℕ) → ¬ AllowedAt inst bound pair i p) → (p : List ℕ) × OwnAt inst bound pair i p
+        pick : ((p : List ℕ) × OwnAt problem node i p) ⊎ ((p : List ℕ) → ¬ AllowedAt problem node i p) → (p : List ℕ) × OwnAt problem node i p
         pick (inl w) = w
         pick (inr n) = absurd (n (path_of other i) (allowed i h))
 
-    go : (plan : List (List ℕ)) × (length plan ≡ length inst.starts) × ((i : ℕ) → i < length inst.starts → OwnAt inst bound pair i (get_or plan i [])) → (plan : List (List ℕ)) × HasPlan inst bound pair plan × (plan_cost plan ≤ plan_cost other)
+    go : (plan : List (List ℕ)) × (length plan ≡ length problem.inst.starts) × ((i : ℕ) → i < length problem.inst.starts → OwnAt problem node i (get_or plan i [])) → (plan : List (List ℕ)) × HasPlan problem node plan × (plan_cost plan ≤ plan_cost other)
     go w =
         let costs : plan_cost w.0 ≤ plan_cost other = sum_by-le cost [] w.0 other (w.1 ∙ sym valid.agents) (λ i h. let k = subst (λ n. i < n) w.1 h in own_path_costs _ _ _ _ _ _ _ (w.2 i k) (allowed i k)) in
         (w.0, record { agents = w.1; own = w.2; within = omega (arith, costs, within) }, costs)
 
-module _ (inst : Instance) (bound : ℕ) (other : List (List ℕ)) (valid : IsValid inst other) (within : plan_cost other ≤ bound) where
+module _ (problem : Problem) (other : List (List ℕ)) (valid : IsValid problem.inst other) (within : plan_cost other ≤ problem.bound) where
   -- a solution that costs no more than the valid plan
   abbrev Cheaper : Type 0
-  Cheaper = (found : Planned) × IsSolution inst bound found × (plan_cost found.1 ≤ plan_cost other)
+  Cheaper = (found : PlannedNode) × IsSolution problem found × (plan_cost found.1 ≤ plan_cost other)
 
-  -- down from a pair that the plan obeys, as long as names can grow
-  descend : (fuel : ℕ) (pair : Pair) (plan : List (List ℕ)) → InTree inst bound pair → HasPlan inst bound pair plan → plan_cost plan ≤ plan_cost other → ObeysPair inst pair other → most inst bound < length pair.name + fuel → Cheaper
-  descend zero pair plan inside has costs obeys deep = absurd (omega (arith, deep, depth_most inst bound pair (grown_all inst bound pair inside)))
-  descend (suc fuel) pair plan inside has costs obeys deep =
-      found (λ pair plan inside has costs obeys deep. descend fuel pair plan inside has costs obeys deep) (first_conflict plan)
+  -- down from a node that the plan obeys, as long as names can grow
+  descend : (fuel : ℕ) (node : TreeNode) (plan : List (List ℕ)) → InTree problem node → HasPlan problem node plan → plan_cost plan ≤ plan_cost other → ObeysNode problem node other → most problem < length node.name + fuel → Cheaper
+  descend zero node plan inside has costs obeys deep = absurd (omega (arith, deep, depth_most problem node (grown_all problem node inside)))
+  descend (suc fuel) node plan inside has costs obeys deep =
+      found (λ node plan inside has costs obeys deep. descend fuel node plan inside has costs obeys deep) (first_conflict plan)
     where
       Below : Type 0
-      Below = (p : Pair) (q : List (List ℕ)) → InTree inst bound p → HasPlan inst bound p q → plan_cost q ≤ plan_cost other → ObeysPair inst p other → most inst bound < length p.name + fuel → Cheaper
+      Below = (p : TreeNode) (q : List (List ℕ)) → InTree problem p → HasPlan problem p q → plan_cost q ≤ plan_cost other → ObeysNode problem p other → most problem < length p.name + fuel → Cheaper
 
-      on_side : Below → (c : Conflict) → IsFirstConflict plan c → (s : Side) → ObeysPair inst (side_of pair c s) other → Cheaper
+      on_side : Below → (c : Conflict) → IsFirstConflict plan c → (s : Side) → ObeysNode problem (side_of node c s) other → Cheaper
       on_side below c first s o =
-          let w = obeyed_is_in_cost inst bound (side_of pair c s) other valid within o in
-          below (side_of pair c s) w.0 (side s inside has first w.1) w.1 w.2 o (omega (arith, deep, length-append pair.name (s ∷ [])))
+          let w = obeyed_is_in_cost problem (side_of node c s) other valid within o in
+          below (side_of node c s) w.0 (side s inside has first w.1) w.1 w.2 o (omega (arith, deep, length-append node.name (s ∷ [])))
 
-      sides : Below → (c : Conflict) → IsFirstConflict plan c → ObeysPair inst (side_of pair c Left) other ⊎ ObeysPair inst (side_of pair c Right) other → Cheaper
+      sides : Below → (c : Conflict) → IsFirstConflict plan c → ObeysNode problem (side_of node c Left) other ⊎ ObeysNode problem (side_of node c Right) other → Cheaper
       sides below c first (inl o) = on_side below c first Left o
       sides below c first (inr o) = on_side below c first Right o
 
       found : Below → ((c : Conflict) × IsFirstConflict plan c) ⊎ HasNoConflict plan → Cheaper
-      found below (inr none) = ((pair, plan), record { inside = inside; plan = has; apart = none }, costs)
+      found below (inr none) = ((node, plan), record { planned = record { inside = inside; plan = has }; apart = none }, costs)
       found below (inl w) =
-          sides below w.0 w.1 (obeys_one_side inst pair plan other w.0 (grown_all inst bound pair inside).agents has.agents w.1.member valid obeys)
+          sides below w.0 w.1 (obeys_one_side problem node plan other w.0 (grown_all problem node inside).agents has.agents w.1.member valid obeys)
 
   -- a valid plan within the bound has a solution that costs no more, since every plan obeys the root
-  cheaper_solution : (found : Planned) × IsSolution inst bound found × (plan_cost found.1 ≤ plan_cost other)
+  cheaper_solution : (found : PlannedNode) × IsSolution problem found × (plan_cost found.1 ≤ plan_cost other)
   cheaper_solution =
-      let w = obeyed_is_in_cost inst bound (root_pair inst) other valid within free in
-      descend (most inst bound + 1) (root_pair inst) w.0 (root w.1) w.1 w.2 free (omega arith)
+      let w = obeyed_is_in_cost problem (root_of problem) other valid within free in
+      descend (most problem + 1) (root_of problem) w.0 (root w.1) w.1 w.2 free (omega arith)
     where
-      free : ObeysPair inst (root_pair inst) other
-      free i h = subst (λ cs. Obeys cs (path_of other i)) (sym (get_or-replicate (length inst.starts) i [] [] h)) tt
+      free : ObeysNode problem (root_of problem) other
+      free i h = subst (λ cs. Obeys cs (path_of other i)) (sym (get_or-replicate (length problem.inst.starts) i [] [] h)) tt
 
 -- a solution's plan is valid
-solution_valid : (inst : Instance) (bound : ℕ) (found : Planned) → IsSolution inst bound found → IsValid inst found.1
-solution_valid inst bound found s = record { agents = s.plan.agents; paths = λ i h. (s.plan.own i h).member.path; apart = s.apart }
+solution_valid : (problem : Problem) (found : PlannedNode) → IsSolution problem found → IsValid problem.inst found.1
+solution_valid problem found s = record { agents = s.planned.plan.agents; paths = λ i h. (s.planned.plan.own i h).member.path; apart = s.apart }
 
 -- the first solution costs no more than that solution
 pub answer_is_optimum : AnswerIsOptimum
-answer_is_optimum inst bound plan answer =
+answer_is_optimum problem plan answer =
     record {
-      valid = solution_valid inst bound (answer.0, plan) answer.1.member;
-      within = answer.1.member.plan.within;
-      least = λ other valid. go other valid (cases_lt bound (plan_cost other));
+      valid = solution_valid problem (answer.0, plan) answer.1.member;
+      within = answer.1.member.planned.plan.within;
+      least = λ other valid. go other valid (cases_lt problem.bound (plan_cost other));
     }
   where
-    go : (other : List (List ℕ)) → IsValid inst other → (bound < plan_cost other) ⊎ (plan_cost other ≤ bound) → plan_cost plan ≤ plan_cost other
-    go other valid (inl h) = omega (arith, h, answer.1.member.plan.within)
+    go : (other : List (List ℕ)) → IsValid problem.inst other → (problem.bound < plan_cost other) ⊎ (plan_cost other ≤ problem.bound) → plan_cost plan ≤ plan_cost other
+    go other valid (inl h) = omega (arith, h, answer.1.member.planned.plan.within)
     go other valid (inr h) =
-        let w = cheaper_solution inst bound other valid h in
+        let w = cheaper_solution problem other valid h in
         let l : plan_cost plan ≤ plan_cost w.0.1 = first_le (plan_cost plan) (plan_cost w.0.1) (length answer.0.name ∷ map turn answer.0.name) (length w.0.0.name ∷ map turn w.0.0.name) (answer.1.least w.0 w.1) in
         omega (arith, l, w.2)
 
 -- a valid plan has a solution, and a solution's plan is valid
 pub none_is_none : NoneIsNone
-none_is_none inst bound = (
-  (λ none plan valid within. let w = cheaper_solution inst bound plan valid within in none w.0 w.1),
-  (λ none found s. none found.1 (solution_valid inst bound found s) s.plan.within),
+none_is_none problem = (
+  (λ none plan valid within. let w = cheaper_solution problem plan valid within in none w.0 w.1),
+  (λ none found s. none found.1 (solution_valid problem found s) s.planned.plan.within),
 )
 
--- said of the pairs of the tree
+-- said of the nodes of the tree
 pub depth_is_bounded : DepthIsBounded
-depth_is_bounded inst bound cells edges holds pair inside = depth_le inst bound cells edges holds pair (grown_all inst bound pair inside)
+depth_is_bounded problem cells edges holds node inside = depth_le problem cells edges holds node (grown_all problem node inside)

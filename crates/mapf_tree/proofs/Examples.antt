@@ -8,7 +8,7 @@ use Rattle.mapf_plan.specs.declared.conflict.Conflict.{Conflict}
 use Rattle.mapf_plan.specs.declared.conflict.Conflict.TheVariants.{Vertex, Swapping}
 use Rattle.mapf_plan.specs.Plan.{IsConflict, conflict_rank, path_of}
 use Rattle.mapf_low.specs.Constraints.{IsOwnPath, path_rank}
-use Rattle.mapf_tree.specs.Tree.{root_pair}
+use Rattle.mapf_tree.specs.Tree.{root_of}
 use Rattle.mapf_tree.specs.Worked.{two_by_two, two_by_two_plan, corridor_with_bay, corridor_plan, WorkedRoot}
 
 module _ (g : Grid) (bound : ℕ) where
@@ -74,7 +74,7 @@ module _ (g : Grid) (bound : ℕ) where
       not_less (a ∷ b ∷ c ∷ q) p (inr h) = omega (arith, h.0)
 
 -- from one end of the corridor to the other
-through : IsOwnPath corridor_with_bay.grid 0 2 4 [] (0 ∷ 1 ∷ 2 ∷ [])
+through : IsOwnPath corridor_with_bay.inst.grid 0 2 4 [] (0 ∷ 1 ∷ 2 ∷ [])
 through =
     record {
       member = record {
@@ -92,7 +92,7 @@ through =
       least = λ q a. not_less q a.path;
     }
   where
-    step : (t : ℕ) → t < 2 → Next corridor_with_bay.grid (at (0 ∷ 1 ∷ 2 ∷ []) t) (at (0 ∷ 1 ∷ 2 ∷ []) (t + 1))
+    step : (t : ℕ) → t < 2 → Next corridor_with_bay.inst.grid (at (0 ∷ 1 ∷ 2 ∷ []) t) (at (0 ∷ 1 ∷ 2 ∷ []) (t + 1))
     step zero h = (refl, refl, inr (inl (inl (refl, refl))))
     step (suc zero) h = (refl, refl, inr (inl (inl (refl, refl))))
     step (suc (suc t)) h = absurd (omega (arith, h))
@@ -102,10 +102,10 @@ through =
     arrive (suc zero) h = λ e. omega (arith, e)
     arrive (suc (suc t)) h = absurd (omega (arith, h))
 
-    apart : ¬ Next corridor_with_bay.grid 0 2
+    apart : ¬ Next corridor_with_bay.inst.grid 0 2
     apart n = ends n.2
       where
-        ends : (◌≡◌ {A = ℕ} 0 2) ⊎ IsBeside corridor_with_bay.grid 0 2 → ⊥
+        ends : (◌≡◌ {A = ℕ} 0 2) ⊎ IsBeside corridor_with_bay.inst.grid 0 2 → ⊥
         ends (inl e) = omega (arith, e)
         ends (inr (inl (inl e))) = omega (arith, e.0)
         ends (inr (inl (inr e))) = omega (arith, e)
@@ -113,19 +113,19 @@ through =
         ends (inr (inr (inr e))) = omega (arith, e)
 
     -- a path of two steps waits first or goes through the middle
-    by_middle : (b : ℕ) → (b < 1) ⊎ ((b ≡ 1) × Precedes (0 ∷ []) (0 ∷ [])) → Next corridor_with_bay.grid b 2 → ⊥
-    by_middle b (inl h) n = let z : b ≡ 0 = omega (arith, h) in apart (subst (λ x. Next corridor_with_bay.grid x 2) z n)
+    by_middle : (b : ℕ) → (b < 1) ⊎ ((b ≡ 1) × Precedes (0 ∷ []) (0 ∷ [])) → Next corridor_with_bay.inst.grid b 2 → ⊥
+    by_middle b (inl h) n = let z : b ≡ 0 = omega (arith, h) in apart (subst (λ x. Next corridor_with_bay.inst.grid x 2) z n)
     by_middle b (inr h) n = irreflexive (0 ∷ []) h.1
 
-    not_less : (q : List ℕ) → IsPath corridor_with_bay.grid 0 2 q → ¬ Precedes (path_rank q) (path_rank (0 ∷ 1 ∷ 2 ∷ []))
+    not_less : (q : List ℕ) → IsPath corridor_with_bay.inst.grid 0 2 q → ¬ Precedes (path_rank q) (path_rank (0 ∷ 1 ∷ 2 ∷ []))
     not_less [] p h = omega (arith, p.some)
     not_less (a ∷ []) p h = omega (arith, p.starts, p.ends)
-    not_less (a ∷ b ∷ []) p h = apart (subst (λ x. Next corridor_with_bay.grid x 2) p.starts (subst (λ x. Next corridor_with_bay.grid a x) p.ends (p.steps 0 (omega arith))))
+    not_less (a ∷ b ∷ []) p h = apart (subst (λ x. Next corridor_with_bay.inst.grid x 2) p.starts (subst (λ x. Next corridor_with_bay.inst.grid a x) p.ends (p.steps 0 (omega arith))))
     not_less (a ∷ b ∷ c ∷ []) p (inl h) = omega (arith, h)
     not_less (a ∷ b ∷ c ∷ []) p (inr h) = last h.1
       where
         second : Precedes (b ∷ a ∷ []) (1 ∷ 0 ∷ []) → ⊥
-        second k = by_middle b (subst (λ x. Precedes (b ∷ x ∷ []) (1 ∷ 0 ∷ [])) p.starts k) (subst (λ x. Next corridor_with_bay.grid b x) p.ends (p.steps 1 (omega arith)))
+        second k = by_middle b (subst (λ x. Precedes (b ∷ x ∷ []) (1 ∷ 0 ∷ [])) p.starts k) (subst (λ x. Next corridor_with_bay.inst.grid b x) p.ends (p.steps 1 (omega arith)))
 
         last : Precedes (c ∷ b ∷ a ∷ []) (2 ∷ 1 ∷ 0 ∷ []) → ⊥
         last (inl k) = omega (arith, k, p.ends)
@@ -178,12 +178,12 @@ worked_root = record {
   bay_right = refl;
 }
   where
-    swapping : (i : ℕ) → i < 2 → IsOwnPath two_by_two.grid (get_or two_by_two.starts i 0) (get_or two_by_two.goals i 0) 4 (get_or (root_pair two_by_two).constraints i []) (path_of two_by_two_plan i)
-    swapping zero h = one_step two_by_two.grid 4 0 1 (omega arith) (omega arith) (refl, refl, inr (inl (inl (refl, refl))))
-    swapping (suc zero) h = one_step two_by_two.grid 4 1 0 (omega arith) (omega arith) (refl, refl, inr (inr (inl (refl, refl))))
+    swapping : (i : ℕ) → i < 2 → IsOwnPath two_by_two.inst.grid (get_or two_by_two.inst.starts i 0) (get_or two_by_two.inst.goals i 0) 4 (get_or (root_of two_by_two).constraints i []) (path_of two_by_two_plan i)
+    swapping zero h = one_step two_by_two.inst.grid 4 0 1 (omega arith) (omega arith) (refl, refl, inr (inl (inl (refl, refl))))
+    swapping (suc zero) h = one_step two_by_two.inst.grid 4 1 0 (omega arith) (omega arith) (refl, refl, inr (inr (inl (refl, refl))))
     swapping (suc (suc i)) h = absurd (omega (arith, h))
 
-    passing : (i : ℕ) → i < 2 → IsOwnPath corridor_with_bay.grid (get_or corridor_with_bay.starts i 0) (get_or corridor_with_bay.goals i 0) 4 (get_or (root_pair corridor_with_bay).constraints i []) (path_of corridor_plan i)
-    passing zero h = no_step corridor_with_bay.grid 4 1 refl
+    passing : (i : ℕ) → i < 2 → IsOwnPath corridor_with_bay.inst.grid (get_or corridor_with_bay.inst.starts i 0) (get_or corridor_with_bay.inst.goals i 0) 4 (get_or (root_of corridor_with_bay).constraints i []) (path_of corridor_plan i)
+    passing zero h = no_step corridor_with_bay.inst.grid 4 1 refl
     passing (suc zero) h = through
     passing (suc (suc i)) h = absurd (omega (arith, h))

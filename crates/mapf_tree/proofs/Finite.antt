@@ -8,133 +8,134 @@ use Rattle.mapf_grid.proofs.Lists.{In-append_left, In-append_right}
 use Rattle.mapf_plan.specs.declared.conflict.Conflict.{Conflict}
 use Rattle.mapf_plan.specs.Plan.{IsConflict, IsFirstConflict, HasNoConflict}
 use Rattle.mapf_plan.proofs.Conflicts.{first_conflict, same_first}
+use Rattle.mapf_tree.specs.Problem.{Problem}
 use Rattle.mapf_tree.specs.declared.side.Side.{Side}
 use Rattle.mapf_tree.specs.declared.side.Side.TheVariants.{Left, Right}
-use Rattle.mapf_tree.specs.Tree.{Pair, HasPlan, InTree, root, side, side_of, root_pair}
-use Rattle.mapf_tree.specs.Finite.{TreeIsFinite}
+use Rattle.mapf_tree.specs.Tree.{TreeNode, HasPlan, InTree, root, side, side_of, root_of}
+use Rattle.mapf_tree.specs.Laws.{TreeIsFinite}
 use Rattle.mapf_tree.proofs.Measure.{grown_all, most, depth_most}
 use Rattle.mapf_tree.proofs.Members.{Contains-In, In-Contains, All-append, All-In}
 use Rattle.mapf_tree.proofs.Plans.{InCost, dec_in_cost, same_plan}
 
-module _ (inst : Instance) (bound : ℕ) where
+module _ (problem : Problem) where
   -- q is a side of p, and in cost
-  record IsSideOf (p q : Pair) : Type 0 where
+  record IsSideOf (p q : TreeNode) : Type 0 where
     plan : List (List ℕ)
     conflict : Conflict
     turn : Side
-    has : HasPlan inst bound p plan
+    has : HasPlan problem p plan
     first : IsFirstConflict plan conflict
     is : q ≡ side_of p conflict turn
-    in_cost : InCost inst bound q
+    in_cost : InCost problem q
 
-  -- a list of pairs of the tree that has each pair with P
-  abbrev Holding : (Pair → Type 0) → Type 0
-  Holding P = (ps : List Pair) × AllByRecursion (InTree inst bound) ps × ((p : Pair) → P p → In ps p)
+  -- a list of nodes of the tree that has each node with P
+  abbrev Holding : (TreeNode → Type 0) → Type 0
+  Holding P = (ps : List TreeNode) × AllByRecursion (InTree problem) ps × ((p : TreeNode) → P p → In ps p)
 
-  -- no pair has P
-  nothing : (P : Pair → Type 0) → ((p : Pair) → ¬ P p) → Holding P
+  -- no node has P
+  nothing : (P : TreeNode → Type 0) → ((p : TreeNode) → ¬ P p) → Holding P
   nothing P n = ([], tt, λ p h. n p h)
 
-  -- each pair with R has P or Q
-  both : (P Q R : Pair → Type 0) → Holding P → Holding Q → ((p : Pair) → R p → P p ⊎ Q p) → Holding R
-  both P Q R l r which = (l.0 ++ r.0, All-append (InTree inst bound) l.0 r.0 l.1 r.1, λ p h. at_either p (which p h))
+  -- each node with R has P or Q
+  both : (P Q R : TreeNode → Type 0) → Holding P → Holding Q → ((p : TreeNode) → R p → P p ⊎ Q p) → Holding R
+  both P Q R l r which = (l.0 ++ r.0, All-append (InTree problem) l.0 r.0 l.1 r.1, λ p h. at_either p (which p h))
     where
-      at_either : (p : Pair) → P p ⊎ Q p → In (l.0 ++ r.0) p
+      at_either : (p : TreeNode) → P p ⊎ Q p → In (l.0 ++ r.0) p
       at_either p (inl h) = In-append_left l.0 r.0 p (l.2 p h)
       at_either p (inr h) = In-append_right l.0 r.0 p (r.2 p h)
 
-  -- one pair, if it is in cost
-  only : (q : Pair) → (InCost inst bound q → InTree inst bound q) → Holding (λ p. (q ≡ p) × InCost inst bound p)
-  only q into = go (dec_in_cost inst bound q)
+  -- one node, if it is in cost
+  only : (q : TreeNode) → (InCost problem q → InTree problem q) → Holding (λ p. (q ≡ p) × InCost problem p)
+  only q into = go (dec_in_cost problem q)
     where
-      go : Dec (InCost inst bound q) → Holding (λ p. (q ≡ p) × InCost inst bound p)
+      go : Dec (InCost problem q) → Holding (λ p. (q ≡ p) × InCost problem p)
       go (yes w) = (q ∷ [], (into w, tt), λ p h. inl h.0)
-      go (no n) = nothing (λ p. (q ≡ p) × InCost inst bound p) (λ p h. n (subst (λ x. InCost inst bound x) (sym h.0) h.1))
+      go (no n) = nothing (λ p. (q ≡ p) × InCost problem p) (λ p h. n (subst (λ x. InCost problem x) (sym h.0) h.1))
 
-  -- the sides of a pair
-  sides : (p : Pair) → InTree inst bound p → Holding (IsSideOf p)
-  sides p inside = go (dec_in_cost inst bound p)
+  -- the sides of a node
+  sides : (p : TreeNode) → InTree problem p → Holding (IsSideOf p)
+  sides p inside = go (dec_in_cost problem p)
     where
-      go : Dec (InCost inst bound p) → Holding (IsSideOf p)
+      go : Dec (InCost problem p) → Holding (IsSideOf p)
       go (no n) = nothing (IsSideOf p) (λ q s. n (s.plan, s.has))
       go (yes w) = by (first_conflict w.0)
         where
-          plan : (q : Pair) (s : IsSideOf p q) → s.plan ≡ w.0
-          plan q s = same_plan inst bound p s.plan w.0 s.has w.1
+          plan : (q : TreeNode) (s : IsSideOf p q) → s.plan ≡ w.0
+          plan q s = same_plan problem p s.plan w.0 s.has w.1
 
           by : ((c : Conflict) × IsFirstConflict w.0 c) ⊎ HasNoConflict w.0 → Holding (IsSideOf p)
           by (inr none) = nothing (IsSideOf p) (λ q s. none s.conflict (subst (λ r. IsConflict r s.conflict) (plan q s) s.first.member))
           by (inl c) =
               both (On Left) (On Right) (IsSideOf p) (on Left) (on Right) (λ q s. which q s s.turn refl)
             where
-              On : Side → Pair → Type 0
-              On t q = (side_of p c.0 t ≡ q) × InCost inst bound q
+              On : Side → TreeNode → Type 0
+              On t q = (side_of p c.0 t ≡ q) × InCost problem q
 
               on : (t : Side) → Holding (On t)
               on t = only (side_of p c.0 t) (λ h. side t inside w.1 c.1 h.1)
 
-              is : (q : Pair) (s : IsSideOf p q) (t : Side) → s.turn ≡ t → side_of p c.0 t ≡ q
+              is : (q : TreeNode) (s : IsSideOf p q) (t : Side) → s.turn ≡ t → side_of p c.0 t ≡ q
               is q s t e =
                   let same : s.conflict ≡ c.0 = same_first w.0 s.conflict c.0 (subst (λ r. IsFirstConflict r s.conflict) (plan q s) s.first) c.1 in
                   sym (s.is ∙ ap₂ (λ x y. side_of p x y) same e)
 
-              which : (q : Pair) (s : IsSideOf p q) (t : Side) → s.turn ≡ t → On Left q ⊎ On Right q
+              which : (q : TreeNode) (s : IsSideOf p q) (t : Side) → s.turn ≡ t → On Left q ⊎ On Right q
               which q s Left e = inl (is q s Left e, s.in_cost)
               which q s Right e = inr (is q s Right e, s.in_cost)
 
-  -- the sides of all pairs of a list
-  abbrev IsSideOfSome : List Pair → Pair → Type 0
-  IsSideOfSome ps q = (p : Pair) × In ps p × IsSideOf p q
+  -- the sides of all nodes of a list
+  abbrev IsSideOfSome : List TreeNode → TreeNode → Type 0
+  IsSideOfSome ps q = (p : TreeNode) × In ps p × IsSideOf p q
 
   -- they are a list
-  all_sides : (ps : List Pair) → AllByRecursion (InTree inst bound) ps → Holding (IsSideOfSome ps)
+  all_sides : (ps : List TreeNode) → AllByRecursion (InTree problem) ps → Holding (IsSideOfSome ps)
   all_sides [] a = nothing (IsSideOfSome []) (λ q s. s.1)
   all_sides (p ∷ ps) a = both (IsSideOf p) (IsSideOfSome ps) (IsSideOfSome (p ∷ ps)) (sides p a.0) (all_sides ps a.1) which
     where
-      which : (q : Pair) → IsSideOfSome (p ∷ ps) q → IsSideOf p q ⊎ IsSideOfSome ps q
+      which : (q : TreeNode) → IsSideOfSome (p ∷ ps) q → IsSideOf p q ⊎ IsSideOfSome ps q
       which q (x, inl e, s) = inl (subst (λ y. IsSideOf y q) (sym e) s)
       which q (x, inr i, s) = inr (x, i, s)
 
-  -- the pairs of the tree whose names have n turns
-  abbrev AtDepth : ℕ → Pair → Type 0
-  AtDepth n p = InTree inst bound p × (length p.name ≡ n)
+  -- the nodes of the tree whose names have n turns
+  abbrev AtDepth : ℕ → TreeNode → Type 0
+  AtDepth n p = InTree problem p × (length p.name ≡ n)
 
   -- they are a list: the root, or the sides of the level above
   level : (n : ℕ) → Holding (AtDepth n)
-  level zero = let r = only (root_pair inst) (λ h. root h.1) in (r.0, r.1, λ p h. r.2 p (at_root p h.0 h.1))
+  level zero = let r = only (root_of problem) (λ h. root h.1) in (r.0, r.1, λ p h. r.2 p (at_root p h.0 h.1))
     where
-      at_root : (p : Pair) → InTree inst bound p → length p.name ≡ zero → (root_pair inst ≡ p) × InCost inst bound p
+      at_root : (p : TreeNode) → InTree problem p → length p.name ≡ zero → (root_of problem ≡ p) × InCost problem p
       at_root _ (root {plan = plan} h) e = (refl, (plan, h))
-      at_root _ (side {pair = p} s i h f h') e = absurd (omega (arith, e, length-append p.name (s ∷ [])))
+      at_root _ (side {node = p} s i h f h') e = absurd (omega (arith, e, length-append p.name (s ∷ [])))
   level (suc n) = go (level n)
     where
       go : Holding (AtDepth n) → Holding (AtDepth (suc n))
       go l = let s = all_sides l.0 l.1 in (s.0, s.1, λ p h. s.2 p (is_side p h.0 h.1))
         where
-          is_side : (p : Pair) → InTree inst bound p → length p.name ≡ suc n → IsSideOfSome l.0 p
+          is_side : (p : TreeNode) → InTree problem p → length p.name ≡ suc n → IsSideOfSome l.0 p
           is_side _ (root h) e = absurd (omega (arith, e))
-          is_side _ (side {pair = p} {plan = plan} {plan' = plan'} {c = c} s i h f h') e =
+          is_side _ (side {node = p} {plan = plan} {plan' = plan'} {c = c} s i h f h') e =
               (p, l.2 p (i, omega (arith, e, length-append p.name (s ∷ []))), record { plan = plan; conflict = c; turn = s; has = h; first = f; is = refl; in_cost = (plan', h') })
 
-  -- the pairs of the tree whose names have n turns at most
-  abbrev UpToDepth : ℕ → Pair → Type 0
-  UpToDepth n p = InTree inst bound p × (length p.name ≤ n)
+  -- the nodes of the tree whose names have n turns at most
+  abbrev UpToDepth : ℕ → TreeNode → Type 0
+  UpToDepth n p = InTree problem p × (length p.name ≤ n)
 
   -- they are a list
   levels : (n : ℕ) → Holding (UpToDepth n)
   levels zero = let l = level zero in (l.0, l.1, λ p h. l.2 p (h.0, omega (arith, h.1)))
   levels (suc n) = both (AtDepth (suc n)) (UpToDepth n) (UpToDepth (suc n)) (level (suc n)) (levels n) (λ p h. which p h (cases_eq (length p.name) (suc n)))
     where
-      which : (p : Pair) → UpToDepth (suc n) p → (length p.name ≡ suc n) ⊎ (length p.name ≡ suc n → ⊥) → AtDepth (suc n) p ⊎ UpToDepth n p
+      which : (p : TreeNode) → UpToDepth (suc n) p → (length p.name ≡ suc n) ⊎ (length p.name ≡ suc n → ⊥) → AtDepth (suc n) p ⊎ UpToDepth n p
       which p h (inl e) = inl (h.0, e)
       which p h (inr e) = inr (h.0, omega (arith, h.1, e))
 
   -- the whole tree
-  pub tree : (ps : List Pair) × AllByRecursion (InTree inst bound) ps × ((p : Pair) → InTree inst bound p → In ps p)
-  tree = let l = levels (most inst bound) in (l.0, l.1, λ p i. l.2 p (i, depth_most inst bound p (grown_all inst bound p i)))
+  pub tree : (ps : List TreeNode) × AllByRecursion (InTree problem) ps × ((p : TreeNode) → InTree problem p → In ps p)
+  tree = let l = levels (most problem) in (l.0, l.1, λ p i. l.2 p (i, depth_most problem p (grown_all problem p i)))
 
 -- said of std's membership
 pub tree_is_finite : TreeIsFinite
-tree_is_finite inst bound =
-    let t = tree inst bound in
-    (t.0, λ p. ((λ i. Contains-In t.0 p (t.2 p i)), (λ c. All-In (InTree inst bound) t.0 p t.1 (In-Contains t.0 p c))))
+tree_is_finite problem =
+    let t = tree problem in
+    (t.0, λ p. ((λ i. Contains-In t.0 p (t.2 p i)), (λ c. All-In (InTree problem) t.0 p t.1 (In-Contains t.0 p c))))

@@ -8,22 +8,22 @@ use Rattle.mapf_plan.specs.declared.answer.Answer.{Answer}
 use Rattle.mapf_tree.specs.declared.progress.Progress.{Progress}
 use Rattle.mapf_tree.specs.declared.progress.Progress.TheVariants.{Working, Finished}
 use Rattle.mapf_tree.specs.Problem.{Problem}
-use Rattle.mapf_tree.specs.Search.{Planned, IsMember, IsReached}
+use Rattle.mapf_tree.specs.Tree.{PlannedNode, IsMember}
+use Rattle.mapf_tree.specs.Search.{IsReached, Searched, IsSearch, IsLawful, TakesBetween, answer_of}
 use Rattle.mapf_tree.specs.Answered.{IsAnswerOf, IsBestAnswer}
-use Rattle.mapf_tree.specs.Searched.{Searched, IsSearch, IsLawful, TakesBetween, TakesOne, answer_of}
-use Rattle.mapf_tree.specs.Stepped.{IsStep}
+use Rattle.mapf_tree.specs.Turns.{TakesOne, IsStep}
 use Rattle.mapf_tree.proofs.Descent.{answer_is_optimum, none_is_none}
 use Rattle.mapf_tree.proofs.Members.{Contains-In, In-Contains}
 
--- a search that has taken n pairs above a key, and has no answer yet
+-- a search that has taken n nodes above a key, and has no answer yet
 pub record GoesOn (p : Problem) (from : Option (List ℕ)) (now : Searched) (n : ℕ) : Type 0 where
   pub same : now.problem ≡ p
   pub going : now.outcome ≡ Ok None
   pub search : IsSearch now
-  pub further : (m : Planned) → IsMember p.inst p.bound m → IsReached from m → IsReached now.last m
+  pub further : (m : PlannedNode) → IsMember p m → IsReached from m → IsReached now.last m
   pub took : TakesBetween p from now.last n
 
--- no pair is taken between a key and itself
+-- no node is taken between a key and itself
 pub takes_none : (p : Problem) (last : Option (List ℕ)) → TakesBetween p last last 0
 takes_none p last = ([], tt, refl, λ m. ((λ c. absurd (In-Contains [] m c)), (λ k. absurd (k.2 k.1))))
 
@@ -32,7 +32,7 @@ pub goes_first : (s : Searched) → IsSearch s → s.outcome ≡ Ok None → Goe
 goes_first s h e =
     record { same = refl; going = e; search = h; further = λ m i r. r; took = takes_none s.problem s.last }
 
--- one pair more
+-- one node more
 took_more : (p : Problem) (from : Option (List ℕ)) (now new : Searched) (n : ℕ) → GoesOn p from now n → TakesOne p now.last new.last → TakesBetween p from new.last (n + 1)
 took_more p from now new n g one =
     (one.0 ∷ g.took.0, (fresh, g.took.1), omega (arith, g.took.2), λ m. ((λ c. forth m (In-Contains (one.0 ∷ g.took.0) m c)), (λ k. Contains-In (one.0 ∷ g.took.0) m (back m k.0 k.2 ((one.3 m k.0).0 k.1)))))
@@ -40,11 +40,11 @@ took_more p from now new n g one =
     fresh : ¬ Contains g.took.0 one.0
     fresh c = one.2 ((g.took.3 one.0).0 c).1
 
-    forth : (m : Planned) → (one.0 ≡ m) ⊎ In g.took.0 m → IsMember p.inst p.bound m × IsReached new.last m × ¬ IsReached from m
-    forth m (inl e) = subst (λ y. IsMember p.inst p.bound y × IsReached new.last y × ¬ IsReached from y) e (one.1, (one.3 one.0 one.1).1 (inr refl), λ r. one.2 (g.further one.0 one.1 r))
+    forth : (m : PlannedNode) → (one.0 ≡ m) ⊎ In g.took.0 m → IsMember p m × IsReached new.last m × ¬ IsReached from m
+    forth m (inl e) = subst (λ y. IsMember p y × IsReached new.last y × ¬ IsReached from y) e (one.1, (one.3 one.0 one.1).1 (inr refl), λ r. one.2 (g.further one.0 one.1 r))
     forth m (inr i) = let k = (g.took.3 m).0 (Contains-In g.took.0 m i) in (k.0, (one.3 m k.0).1 (inl k.1), k.2)
 
-    back : (m : Planned) → IsMember p.inst p.bound m → ¬ IsReached from m → IsReached now.last m ⊎ (m ≡ one.0) → (one.0 ≡ m) ⊎ In g.took.0 m
+    back : (m : PlannedNode) → IsMember p m → ¬ IsReached from m → IsReached now.last m ⊎ (m ≡ one.0) → (one.0 ≡ m) ⊎ In g.took.0 m
     back m i k (inl r) = inr (In-Contains g.took.0 m ((g.took.3 m).1 (i, r, k)))
     back m i k (inr e) = inl (sym e)
 
@@ -59,7 +59,7 @@ pub goes_on : (p : Problem) (from : Option (List ℕ)) (now new : Searched) (n :
 goes_on p from now new n Working not_finished g e h step = goes_more p from now new n g e h step
 goes_on p from now new n Finished not_finished g e h step = absurd (not_finished refl)
 
--- the pairs that were taken
+-- the nodes that were taken
 pub taken_between : (p : Problem) (from : Option (List ℕ)) (now : Searched) (n k : ℕ) → GoesOn p from now n → n ≡ k → TakesBetween now.problem from now.last k
 taken_between p from now n k g e = subst (λ q. TakesBetween q from now.last k) (sym g.same) (subst (λ j. TakesBetween p from now.last j) e g.took)
 
@@ -71,28 +71,28 @@ taken_at_end p from now new n turns g h e (inr one) =
     (n + 1, omega (arith, h), subst (λ q. TakesBetween q from new.last (n + 1)) (sym (e ∙ g.same)) (took_more p from now new n g (subst (λ q. TakesOne q now.last new.last) g.same one)))
 
 -- an answer that a search has is right
-pub answer_is_right : (s : Searched) (given : Answer) → IsSearch s → s.outcome ≡ Ok (Some given) → IsAnswerOf s.problem.inst s.problem.bound given
+pub answer_is_right : (s : Searched) (given : Answer) → IsSearch s → s.outcome ≡ Ok (Some given) → IsAnswerOf s.problem given
 answer_is_right s given h e = let k = subst (λ o. IsLawful s.problem s.waiting s.last o) e h in k.1
 
 -- what is stated of the answer is best
-pub best_answer : (inst : Instance) (bound : ℕ) (given : Answer) → IsAnswerOf inst bound given → IsBestAnswer inst bound given
-best_answer inst bound given (Some plan, is, e) = subst (λ a. IsBestAnswer inst bound a) (sym e) (answer_is_optimum inst bound plan is, refl)
-best_answer inst bound given (None, is, e) = subst (λ a. IsBestAnswer inst bound a) (sym e) (refl, (none_is_none inst bound).0 is)
+pub best_answer : (problem : Problem) (given : Answer) → IsAnswerOf problem given → IsBestAnswer problem given
+best_answer problem given (Some plan, is, e) = subst (λ a. IsBestAnswer problem a) (sym e) (answer_is_optimum problem plan is, refl)
+best_answer problem given (None, is, e) = subst (λ a. IsBestAnswer problem a) (sym e) (refl, (none_is_none problem).0 is)
 
 -- a search's answer, where it has one
-answer_out : (s : Searched) (outcome : Result (Option Answer) NoMemory) (refused : NoMemory) → IsLawful s.problem s.waiting s.last outcome → IfOk (ok_or (answer_of outcome) refused) (IsAnswerOf s.problem.inst s.problem.bound)
+answer_out : (s : Searched) (outcome : Result (Option Answer) NoMemory) (refused : NoMemory) → IsLawful s.problem s.waiting s.last outcome → IfOk (ok_or (answer_of outcome) refused) (IsAnswerOf s.problem)
 answer_out s (Ok None) refused h = tt
 answer_out s (Ok (Some given)) refused h = h.1
 answer_out s (Err e) refused h = tt
 
 -- so what comes out of a search is right
-pub right_out : (p : Problem) (s : Searched) (o : Option Answer) (r : Result Answer NoMemory) (refused : NoMemory) → IsSearch s → s.problem ≡ p → o ≡ answer_of s.outcome → r ≡ ok_or o refused → IfOk r (IsAnswerOf p.inst p.bound)
+pub right_out : (p : Problem) (s : Searched) (o : Option Answer) (r : Result Answer NoMemory) (refused : NoMemory) → IsSearch s → s.problem ≡ p → o ≡ answer_of s.outcome → r ≡ ok_or o refused → IfOk r (IsAnswerOf p)
 right_out p s o r refused h e is out =
-    subst (λ x. IfOk x (IsAnswerOf p.inst p.bound)) (sym out)
-    (subst (λ x. IfOk (ok_or x refused) (IsAnswerOf p.inst p.bound)) (sym is)
-    (subst (λ q. IfOk (ok_or (answer_of s.outcome) refused) (IsAnswerOf q.inst q.bound)) e (answer_out s s.outcome refused h)))
+    subst (λ x. IfOk x (IsAnswerOf p)) (sym out)
+    (subst (λ x. IfOk (ok_or x refused) (IsAnswerOf p)) (sym is)
+    (subst (λ q. IfOk (ok_or (answer_of s.outcome) refused) (IsAnswerOf q)) e (answer_out s s.outcome refused h)))
 
 -- and best
-pub best_out : (p : Problem) (r : Result Answer NoMemory) → IfOk r (IsAnswerOf p.inst p.bound) → IfOk r (IsBestAnswer p.inst p.bound)
-best_out p (Ok given) h = best_answer p.inst p.bound given h
+pub best_out : (p : Problem) (r : Result Answer NoMemory) → IfOk r (IsAnswerOf p) → IfOk r (IsBestAnswer p)
+best_out p (Ok given) h = best_answer p given h
 best_out p (Err e) h = tt

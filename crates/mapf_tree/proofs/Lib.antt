@@ -10,7 +10,7 @@ pub mod Descent
 pub mod Finite
 pub mod Solutions
 pub mod SearchLaws
-pub mod Taken
+pub mod TakenNodes
 pub mod Keyed
 pub mod Examples
 pub mod Tables
@@ -18,7 +18,7 @@ pub mod RootNodes
 pub mod Chains
 pub mod SideNodes
 pub mod Rising
-pub mod ShownPairs
+pub mod OpenNodes
 pub mod TurnLemmas
 pub mod Remaining
 pub mod GoingOn

@@ -17,11 +17,11 @@ use Rattle.mapf_plan.proofs.Paths.{place_free, moves}
 use Rattle.mapf_plan.proofs.Conflicts.{first_early}
 use Rattle.mapf_low.specs.declared.constraint.Constraint.{Constraint}
 use Rattle.mapf_low.specs.Constraints.{Obeys, Breaks}
+use Rattle.mapf_tree.specs.Problem.{Problem}
 use Rattle.mapf_tree.specs.declared.side.Side.{Side}
 use Rattle.mapf_tree.specs.declared.side.Side.TheVariants.{Left, Right}
-use Rattle.mapf_tree.specs.Tree.{Pair, HasPlan, InTree, root, side, side_of, constraints_of, constraint_on, agent_on, root_pair}
-use Rattle.mapf_tree.specs.Sides.{ConstraintIsNew, ConstraintIsEarly}
-use Rattle.mapf_tree.specs.Finite.{HoldsGrid}
+use Rattle.mapf_tree.specs.Tree.{TreeNode, HasPlan, InTree, root, side, side_of, constraints_of, constraint_on, agent_on, root_of}
+use Rattle.mapf_tree.specs.Laws.{ConstraintIsNew, ConstraintIsEarly, HoldsGrid}
 use Rattle.mapf_tree.proofs.Branch.{agent_below}
 use Rattle.mapf_tree.proofs.Distinct.{Distinct, distinct_le}
 use Rattle.mapf_tree.proofs.Members.{In-Contains}
@@ -29,26 +29,26 @@ use Rattle.mapf_tree.proofs.Plans.{plan_costs}
 use Rattle.mapf_tree.proofs.Universe.{universe, Fits, In-universe, length-universe, fits_early, cells_of, edges_of, holds_all}
 
 -- what holds along the tree
-pub record Grown (inst : Instance) (bound : ℕ) (pair : Pair) : Type 0 where
-  pub agents : length pair.constraints ≡ length inst.starts
-  pub distinct : (i : ℕ) → i < length inst.starts → Distinct (constraints_of pair i)
-  pub fits : (i : ℕ) → i < length inst.starts → (c : Constraint) → In (constraints_of pair i) c → Fits inst.grid bound c
-  pub depth : length pair.name ≡ sum_by (λ cs. length cs) pair.constraints
+pub record Grown (problem : Problem) (node : TreeNode) : Type 0 where
+  pub agents : length node.constraints ≡ length problem.inst.starts
+  pub distinct : (i : ℕ) → i < length problem.inst.starts → Distinct (constraints_of node i)
+  pub fits : (i : ℕ) → i < length problem.inst.starts → (c : Constraint) → In (constraints_of node i) c → Fits problem.inst.grid problem.bound c
+  pub depth : length node.name ≡ sum_by (λ cs. length cs) node.constraints
 
 -- the root has no constraint
-grown_root : (inst : Instance) (bound : ℕ) → Grown inst bound (root_pair inst)
-grown_root inst bound =
+grown_root : (problem : Problem) → Grown problem (root_of problem)
+grown_root problem =
     record {
-      agents = length-replicate (length inst.starts) [];
+      agents = length-replicate (length problem.inst.starts) [];
       distinct = λ i h. subst (λ cs. Distinct cs) (sym (none i h)) tt;
       fits = λ i h c k. absurd (subst (λ cs. In cs c) (none i h) k);
-      depth = sym (sum_by-replicate (λ cs. length cs) (length inst.starts) [] ∙ zeros);
+      depth = sym (sum_by-replicate (λ cs. length cs) (length problem.inst.starts) [] ∙ zeros);
     }
   where
-    none : (i : ℕ) → i < length inst.starts → constraints_of (root_pair inst) i ≡ []
-    none i h = get_or-replicate (length inst.starts) i [] [] h
+    none : (i : ℕ) → i < length problem.inst.starts → constraints_of (root_of problem) i ≡ []
+    none i h = get_or-replicate (length problem.inst.starts) i [] [] h
 
-    zeros : length inst.starts * 0 ≡ 0
+    zeros : length problem.inst.starts * 0 ≡ 0
     zeros = omega arith
 
 -- the own path broke the side's constraint
@@ -65,36 +65,36 @@ unbroken (d ∷ cs) p c o (inl e) b = o.0 (subst (λ x. Breaks p x) (sym e) b)
 unbroken (d ∷ cs) p c o (inr i) b = unbroken cs p c o.1 i b
 
 -- so it is new to its agent
-is_new : (inst : Instance) (bound : ℕ) (pair : Pair) (plan : List (List ℕ)) (c : Conflict) (s : Side) → HasPlan inst bound pair plan → IsConflict plan c → ¬ In (constraints_of pair (agent_on c s)) (constraint_on c s)
-is_new inst bound pair plan c s has is i =
-    let h : agent_on c s < length inst.starts = subst (λ k. agent_on c s < k) has.agents (agent_below plan c s is) in
-    unbroken (constraints_of pair (agent_on c s)) (path_of plan (agent_on c s)) (constraint_on c s) (has.own (agent_on c s) h).member.obeys i (broke plan c s is)
+is_new : (problem : Problem) (node : TreeNode) (plan : List (List ℕ)) (c : Conflict) (s : Side) → HasPlan problem node plan → IsConflict plan c → ¬ In (constraints_of node (agent_on c s)) (constraint_on c s)
+is_new problem node plan c s has is i =
+    let h : agent_on c s < length problem.inst.starts = subst (λ k. agent_on c s < k) has.agents (agent_below plan c s is) in
+    unbroken (constraints_of node (agent_on c s)) (path_of plan (agent_on c s)) (constraint_on c s) (has.own (agent_on c s) h).member.obeys i (broke plan c s is)
 
 -- it is on cells of the grid, and at most at the bound
-side_fits : (inst : Instance) (bound : ℕ) (pair : Pair) (plan : List (List ℕ)) (c : Conflict) (s : Side) → HasPlan inst bound pair plan → IsFirstConflict plan c → Fits inst.grid bound (constraint_on c s)
-side_fits inst bound pair plan c s has first = go c s first.member (first_early plan bound (plan_costs inst bound pair plan has) c first)
+side_fits : (problem : Problem) (node : TreeNode) (plan : List (List ℕ)) (c : Conflict) (s : Side) → HasPlan problem node plan → IsFirstConflict plan c → Fits problem.inst.grid problem.bound (constraint_on c s)
+side_fits problem node plan c s has first = go c s first.member (first_early plan problem.bound (plan_costs problem node plan has) c first)
   where
-    path : (i : ℕ) → i < length plan → IsPath inst.grid (get_or inst.starts i 0) (get_or inst.goals i 0) (path_of plan i)
+    path : (i : ℕ) → i < length plan → IsPath problem.inst.grid (get_or problem.inst.starts i 0) (get_or problem.inst.goals i 0) (path_of plan i)
     path i h = (has.own i (subst (λ k. i < k) has.agents h)).member.path
 
-    cell : (i t v : ℕ) → i < length plan → place plan i t ≡ v → IsFree inst.grid v
-    cell i t v h e = subst (λ k. IsFree inst.grid k) e (place_free inst.grid _ _ (path_of plan i) (path i h) t)
+    cell : (i t v : ℕ) → i < length plan → place plan i t ≡ v → IsFree problem.inst.grid v
+    cell i t v h e = subst (λ k. IsFree problem.inst.grid k) e (place_free problem.inst.grid _ _ (path_of plan i) (path i h) t)
 
-    edge : (i t u v : ℕ) → i < length plan → 0 < t → place plan i (t - 1) ≡ u → place plan i t ≡ v → u ≢ v → Next inst.grid u v
+    edge : (i t u v : ℕ) → i < length plan → 0 < t → place plan i (t - 1) ≡ u → place plan i t ≡ v → u ≢ v → Next problem.inst.grid u v
     edge i t u v h l eu ev ne =
-        let next = moves inst.grid _ _ (path_of plan i) (path i h) (t - 1) t (omega (arith, l)) (λ e. ne (sym eu ∙ e ∙ ev)) in
-        subst₂ (λ a b. Next inst.grid a b) eu ev next
+        let next = moves problem.inst.grid _ _ (path_of plan i) (path i h) (t - 1) t (omega (arith, l)) (λ e. ne (sym eu ∙ e ∙ ev)) in
+        subst₂ (λ a b. Next problem.inst.grid a b) eu ev next
 
-    go : (c : Conflict) (s : Side) → IsConflict plan c → conflict_time c ≤ bound → Fits inst.grid bound (constraint_on c s)
+    go : (c : Conflict) (s : Side) → IsConflict plan c → conflict_time c ≤ problem.bound → Fits problem.inst.grid problem.bound (constraint_on c s)
     go (Vertex i j v t) s h l = (cell j t v h.1 h.3, l)
     go (Swapping i j u v t) Left h l = (edge i t u v (omega (arith, h.0, h.1)) h.2 h.4 h.5 h.3, h.3, l)
     go (Swapping i j u v t) Right h l = (edge j t v u h.1 h.2 h.6 h.7 (λ e. h.3 (sym e)), (λ e. h.3 (sym e)), l)
 
--- a side has one constraint more, and all that held of the pair holds of it
-grown_side : (inst : Instance) (bound : ℕ) (pair : Pair) (plan : List (List ℕ)) (c : Conflict) (s : Side) → Grown inst bound pair → HasPlan inst bound pair plan → IsFirstConflict plan c → Grown inst bound (side_of pair c s)
-grown_side inst bound pair plan c s grown has first =
+-- a side has one constraint more, and all that held of the node holds of it
+grown_side : (problem : Problem) (node : TreeNode) (plan : List (List ℕ)) (c : Conflict) (s : Side) → Grown problem node → HasPlan problem node plan → IsFirstConflict plan c → Grown problem (side_of node c s)
+grown_side problem node plan c s grown has first =
     record {
-      agents = length-set pair.constraints a _ ∙ grown.agents;
+      agents = length-set node.constraints a _ ∙ grown.agents;
       distinct = λ i h. distinct i h (ℕ_discrete i a);
       fits = λ i h d k. fits i h d (ℕ_discrete i a) k;
       depth = depth;
@@ -106,68 +106,68 @@ grown_side inst bound pair plan c s grown has first =
     x : Constraint
     x = constraint_on c s
 
-    inside : agent_on c s < length pair.constraints
+    inside : agent_on c s < length node.constraints
     inside = subst (λ k. agent_on c s < k) (has.agents ∙ sym grown.agents) (agent_below plan c s first.member)
 
-    here : (i : ℕ) → i ≡ agent_on c s → constraints_of (side_of pair c s) i ≡ constraint_on c s ∷ constraints_of pair i
+    here : (i : ℕ) → i ≡ agent_on c s → constraints_of (side_of node c s) i ≡ constraint_on c s ∷ constraints_of node i
     here i e =
-        ap (λ k. get_or (side_of pair c s).constraints k []) e ∙ get_or-set_same pair.constraints (agent_on c s) _ [] inside
-        ∙ ap (λ k. constraint_on c s ∷ constraints_of pair k) (sym e)
+        ap (λ k. get_or (side_of node c s).constraints k []) e ∙ get_or-set_same node.constraints (agent_on c s) _ [] inside
+        ∙ ap (λ k. constraint_on c s ∷ constraints_of node k) (sym e)
 
-    other : (i : ℕ) → i ≢ agent_on c s → constraints_of (side_of pair c s) i ≡ constraints_of pair i
-    other i e = get_or-set_other pair.constraints (agent_on c s) i _ [] e
+    other : (i : ℕ) → i ≢ agent_on c s → constraints_of (side_of node c s) i ≡ constraints_of node i
+    other i e = get_or-set_other node.constraints (agent_on c s) i _ [] e
 
-    distinct : (i : ℕ) → i < length inst.starts → Dec (i ≡ agent_on c s) → Distinct (constraints_of (side_of pair c s) i)
+    distinct : (i : ℕ) → i < length problem.inst.starts → Dec (i ≡ agent_on c s) → Distinct (constraints_of (side_of node c s) i)
     distinct i h (no e) = subst (λ cs. Distinct cs) (sym (other i e)) (grown.distinct i h)
     distinct i h (yes e) =
         subst (λ cs. Distinct cs) (sym (here i e))
-        ((λ k. is_new inst bound pair plan c s has first.member (subst (λ n. In (constraints_of pair n) (constraint_on c s)) e k)), grown.distinct i h)
+        ((λ k. is_new problem node plan c s has first.member (subst (λ n. In (constraints_of node n) (constraint_on c s)) e k)), grown.distinct i h)
 
-    new : (i : ℕ) → i < length inst.starts → (d : Constraint) → In (constraint_on c s ∷ constraints_of pair i) d → Fits inst.grid bound d
-    new i h d (inl e) = subst (λ y. Fits inst.grid bound y) e (side_fits inst bound pair plan c s has first)
+    new : (i : ℕ) → i < length problem.inst.starts → (d : Constraint) → In (constraint_on c s ∷ constraints_of node i) d → Fits problem.inst.grid problem.bound d
+    new i h d (inl e) = subst (λ y. Fits problem.inst.grid problem.bound y) e (side_fits problem node plan c s has first)
     new i h d (inr k) = grown.fits i h d k
 
-    fits : (i : ℕ) → i < length inst.starts → (d : Constraint) → Dec (i ≡ agent_on c s) → In (constraints_of (side_of pair c s) i) d → Fits inst.grid bound d
+    fits : (i : ℕ) → i < length problem.inst.starts → (d : Constraint) → Dec (i ≡ agent_on c s) → In (constraints_of (side_of node c s) i) d → Fits problem.inst.grid problem.bound d
     fits i h d (no e) k = grown.fits i h d (subst (λ cs. In cs d) (other i e) k)
     fits i h d (yes e) k = new i h d (subst (λ cs. In cs d) (here i e) k)
 
-    depth : length (side_of pair c s).name ≡ sum_by (λ cs. length cs) (side_of pair c s).constraints
+    depth : length (side_of node c s).name ≡ sum_by (λ cs. length cs) (side_of node c s).constraints
     depth =
-        let e = sum_by-set (λ cs. length cs) pair.constraints (agent_on c s) (constraint_on c s ∷ constraints_of pair (agent_on c s)) [] inside in
-        omega (arith, e, length-append pair.name (s ∷ []), grown.depth)
+        let e = sum_by-set (λ cs. length cs) node.constraints (agent_on c s) (constraint_on c s ∷ constraints_of node (agent_on c s)) [] inside in
+        omega (arith, e, length-append node.name (s ∷ []), grown.depth)
 
--- so it holds of each pair of the tree
-pub grown_all : (inst : Instance) (bound : ℕ) (pair : Pair) → InTree inst bound pair → Grown inst bound pair
-grown_all inst bound pair (root has) = grown_root inst bound
-grown_all inst bound _ (side {pair = p} {plan = q} {c = c} s inside has first has') = grown_side inst bound p q c s (grown_all inst bound p inside) has first
+-- so it holds of each node of the tree
+pub grown_all : (problem : Problem) (node : TreeNode) → InTree problem node → Grown problem node
+grown_all problem node (root has) = grown_root problem
+grown_all problem _ (side {node = p} {plan = q} {c = c} s inside has first has') = grown_side problem p q c s (grown_all problem p inside) has first
 
 -- no name is longer than there are constraints for all agents
-pub depth_le : (inst : Instance) (bound : ℕ) (cells : List ℕ) (edges : List (ℕ × ℕ)) → HoldsGrid inst.grid cells edges → (pair : Pair) → Grown inst bound pair → length pair.name ≤ length inst.starts * ((bound + 1) * (length cells + length edges))
-depth_le inst bound cells edges holds pair g =
-    let m : ℕ = (bound + 1) * (length cells + length edges) in
-    let all = All-from_get_or (λ cs. length cs ≤ m) pair.constraints [] (λ i h. one i (subst (λ k. i < k) g.agents h)) in
-    let sums = sum_by-le (λ cs. length cs) m pair.constraints all in
-    subst (λ k. length pair.name ≤ k * m) g.agents (subst (λ k. k ≤ length pair.constraints * m) (sym g.depth) sums)
+pub depth_le : (problem : Problem) (cells : List ℕ) (edges : List (ℕ × ℕ)) → HoldsGrid problem.inst.grid cells edges → (node : TreeNode) → Grown problem node → length node.name ≤ length problem.inst.starts * ((problem.bound + 1) * (length cells + length edges))
+depth_le problem cells edges holds node g =
+    let m : ℕ = (problem.bound + 1) * (length cells + length edges) in
+    let all = All-from_get_or (λ cs. length cs ≤ m) node.constraints [] (λ i h. one i (subst (λ k. i < k) g.agents h)) in
+    let sums = sum_by-le (λ cs. length cs) m node.constraints all in
+    subst (λ k. length node.name ≤ k * m) g.agents (subst (λ k. k ≤ length node.constraints * m) (sym g.depth) sums)
   where
-    one : (i : ℕ) → i < length inst.starts → length (constraints_of pair i) ≤ (bound + 1) * (length cells + length edges)
+    one : (i : ℕ) → i < length problem.inst.starts → length (constraints_of node i) ≤ (problem.bound + 1) * (length cells + length edges)
     one i h =
-        subst (λ k. length (constraints_of pair i) ≤ k) (length-universe cells edges bound)
-        (distinct_le (constraints_of pair i) (universe cells edges bound) (g.distinct i h) (λ c k. In-universe inst.grid cells edges bound holds c (g.fits i h c k)))
+        subst (λ k. length (constraints_of node i) ≤ k) (length-universe cells edges problem.bound)
+        (distinct_le (constraints_of node i) (universe cells edges problem.bound) (g.distinct i h) (λ c k. In-universe problem.inst.grid cells edges problem.bound holds c (g.fits i h c k)))
 
 -- some number that no depth exceeds
-pub most : Instance → ℕ → ℕ
-most inst bound = length inst.starts * ((bound + 1) * (length (cells_of inst.grid) + length (edges_of inst.grid)))
+pub most : Problem → ℕ
+most problem = length problem.inst.starts * ((problem.bound + 1) * (length (cells_of problem.inst.grid) + length (edges_of problem.inst.grid)))
 
 -- it is such a number
-pub depth_most : (inst : Instance) (bound : ℕ) (pair : Pair) → Grown inst bound pair → length pair.name ≤ most inst bound
+pub depth_most : (problem : Problem) (node : TreeNode) → Grown problem node → length node.name ≤ most problem
 unfolding most
-depth_most inst bound pair g = depth_le inst bound (cells_of inst.grid) (edges_of inst.grid) (holds_all inst.grid) pair g
+depth_most problem node g = depth_le problem (cells_of problem.inst.grid) (edges_of problem.inst.grid) (holds_all problem.inst.grid) node g
 
 -- what is said of a recursion, said of std's membership
 pub constraint_is_new : ConstraintIsNew
-constraint_is_new inst bound pair plan c s has is k =
-    is_new inst bound pair plan c s has is (In-Contains (constraints_of pair (agent_on c s)) (constraint_on c s) k)
+constraint_is_new problem node plan c s has is k =
+    is_new problem node plan c s has is (In-Contains (constraints_of node (agent_on c s)) (constraint_on c s) k)
 
 -- a conflict that a plan branches on is at most at the bound
 pub constraint_is_early : ConstraintIsEarly
-constraint_is_early inst bound pair plan c s has first = fits_early inst.grid bound (constraint_on c s) (side_fits inst bound pair plan c s has first)
+constraint_is_early problem node plan c s has first = fits_early problem.inst.grid problem.bound (constraint_on c s) (side_fits problem node plan c s has first)

@@ -1,34 +1,33 @@
--- How many pairs of the tree are not taken yet: the measure of a search.
+-- How many nodes of the tree are not taken yet: the measure of a search.
 use Rattle.std.proofs.Common.{◌≡◌, ◌↔◌, ℕ, ◌+◌, ◌<◌, ◌≤◌, List, [], ◌∷◌, length, Option, Some, None, inl, inr, subst, sym, refl, arith, Contains}
 use Rattle.std.specs.List.{AllByRecursion}
 use Rattle.mapf_grid.specs.Instance.{Instance}
 use Rattle.mapf_grid.specs.Least.{Precedes}
 use Rattle.mapf_grid.proofs.Orders.{In, transitive, le_before, dec_precedes}
 use Rattle.mapf_tree.specs.Problem.{Problem}
-use Rattle.mapf_tree.specs.Tree.{Pair, HasPlan, InTree, root, side, key}
-use Rattle.mapf_tree.specs.Search.{Planned, IsMember, IsReached}
-use Rattle.mapf_tree.specs.Searched.{TakesBetween}
+use Rattle.mapf_tree.specs.Tree.{TreeNode, HasPlan, InTree, root, side, key, PlannedNode, IsMember}
+use Rattle.mapf_tree.specs.Search.{IsReached, TakesBetween}
 use Rattle.mapf_tree.proofs.Finite.{tree}
 use Rattle.mapf_tree.proofs.Members.{Contains-In}
 use Rattle.mapf_tree.proofs.Plans.{InCost, same_plan}
 use Rattle.mapf_tree.proofs.SearchLaws.{dec_reached}
 
-module _ (inst : Instance) (bound : ℕ) where
-  -- a pair of the tree has a plan
-  plan_of : (p : Pair) → InTree inst bound p → InCost inst bound p
+module _ (problem : Problem) where
+  -- a node of the tree has a plan
+  plan_of : (p : TreeNode) → InTree problem p → InCost problem p
   plan_of _ (root {plan = plan} h) = (plan, h)
   plan_of _ (side {plan' = plan} s i h f k) = (plan, k)
 
-  -- pairs of the tree, with their plans
-  with_plans : (ps : List Pair) → AllByRecursion (InTree inst bound) ps → List Planned
+  -- nodes of the tree, with their plans
+  with_plans : (ps : List TreeNode) → AllByRecursion (InTree problem) ps → List PlannedNode
   with_plans [] a = []
   with_plans (p ∷ ps) a = (p, (plan_of p a.0).0) ∷ with_plans ps a.1
 
-  -- a member is among those of its pair
-  In-with_plans : (ps : List Pair) (a : AllByRecursion (InTree inst bound) ps) (m : Planned) → IsMember inst bound m → In ps m.0 → In (with_plans ps a) m
+  -- a member is among those of its node
+  In-with_plans : (ps : List TreeNode) (a : AllByRecursion (InTree problem) ps) (m : PlannedNode) → IsMember problem m → In ps m.0 → In (with_plans ps a) m
   unfolding with_plans
   In-with_plans [] a m h i = i
-  In-with_plans (p ∷ ps) a m h (inl e) = inl (λ i. (e i, same_plan inst bound m.0 (plan_of p a.0).0 m.1 (subst (λ q. HasPlan inst bound q (plan_of p a.0).0) e (plan_of p a.0).1) h.plan i))
+  In-with_plans (p ∷ ps) a m h (inl e) = inl (λ i. (e i, same_plan problem m.0 (plan_of p a.0).0 m.1 (subst (λ q. HasPlan problem q (plan_of p a.0).0) e (plan_of p a.0).1) h.plan i))
   In-with_plans (p ∷ ps) a m h (inr i) = inr (In-with_plans ps a.1 m h i)
 
   -- one for what isn't reached
@@ -52,31 +51,31 @@ module _ (inst : Instance) (bound : ℕ) where
   weight_lt (no m) (no k) n b = absurd (k b)
 
   -- how many of a list are not reached
-  count : Option (List ℕ) → List Planned → ℕ
+  count : Option (List ℕ) → List PlannedNode → ℕ
   count last [] = 0
-  count last (m ∷ ms) = weight (dec_reached inst bound last m) + count last ms
+  count last (m ∷ ms) = weight (dec_reached problem last m) + count last ms
 
   -- where more is reached, no more are left
-  count_le : (from to : Option (List ℕ)) (ms : List Planned) → ((m : Planned) → IsReached from m → IsReached to m) → count to ms ≤ count from ms
+  count_le : (from to : Option (List ℕ)) (ms : List PlannedNode) → ((m : PlannedNode) → IsReached from m → IsReached to m) → count to ms ≤ count from ms
   unfolding count
   count_le from to [] f = omega arith
-  count_le from to (m ∷ ms) f = omega (arith, weight_le (dec_reached inst bound from m) (dec_reached inst bound to m) (f m), count_le from to ms f)
+  count_le from to (m ∷ ms) f = omega (arith, weight_le (dec_reached problem from m) (dec_reached problem to m) (f m), count_le from to ms f)
 
   -- and fewer, where one of them is reached then and wasn't before
-  count_lt : (from to : Option (List ℕ)) (ms : List Planned) (x : Planned) → ((m : Planned) → IsReached from m → IsReached to m) → In ms x → ¬ IsReached from x → IsReached to x → count to ms < count from ms
+  count_lt : (from to : Option (List ℕ)) (ms : List PlannedNode) (x : PlannedNode) → ((m : PlannedNode) → IsReached from m → IsReached to m) → In ms x → ¬ IsReached from x → IsReached to x → count to ms < count from ms
   unfolding count
   count_lt from to [] x f i n r = absurd i
   count_lt from to (m ∷ ms) x f (inl e) n r =
-      omega (arith, weight_lt (dec_reached inst bound from m) (dec_reached inst bound to m) (subst (λ y. ¬ IsReached from y) (sym e) n) (subst (λ y. IsReached to y) (sym e) r), count_le from to ms f)
+      omega (arith, weight_lt (dec_reached problem from m) (dec_reached problem to m) (subst (λ y. ¬ IsReached from y) (sym e) n) (subst (λ y. IsReached to y) (sym e) r), count_le from to ms f)
   count_lt from to (m ∷ ms) x f (inr i) n r =
-      omega (arith, weight_le (dec_reached inst bound from m) (dec_reached inst bound to m) (f m), count_lt from to ms x f i n r)
+      omega (arith, weight_le (dec_reached problem from m) (dec_reached problem to m) (f m), count_lt from to ms x f i n r)
 
--- the pairs of the tree that are not taken
+-- the nodes of the tree that are not taken
 pub remaining : Problem → Option (List ℕ) → ℕ
-remaining p last = let t = tree p.inst p.bound in count p.inst p.bound last (with_plans p.inst p.bound t.0 t.1)
+remaining p last = let t = tree p in count p last (with_plans p t.0 t.1)
 
 -- where one is reached that wasn't, all that was reached still is
-still_reached : (from to : Option (List ℕ)) (x m : Planned) → ¬ IsReached from x → IsReached to x → IsReached from m → IsReached to m
+still_reached : (from to : Option (List ℕ)) (x m : PlannedNode) → ¬ IsReached from x → IsReached to x → IsReached from m → IsReached to m
 still_reached None to x m n r k = absurd k
 still_reached (Some a) None x m n r k = absurd r
 still_reached (Some a) (Some b) x m n r k = λ l. go l (dec_precedes a (key x))
@@ -85,14 +84,14 @@ still_reached (Some a) (Some b) x m n r k = λ l. go l (dec_precedes a (key x))
     go l (yes h) = k (transitive a (key x) (key m) h (le_before (key x) b (key m) r l))
     go l (no h) = n h
 
--- the count falls with each pair that is taken
+-- the count falls with each node that is taken
 pub remaining_falls : (p q : Problem) (from to : Option (List ℕ)) → q ≡ p → TakesBetween q from to 1 → remaining q to < remaining p from
 unfolding remaining
 remaining_falls p q from to e t = subst (λ r. remaining q to < remaining r from) e (falls t.0 t.2 t.3)
   where
-    falls : (taken : List Planned) → length taken ≡ 1 → ((m : Planned) → Contains taken m ↔ (IsMember q.inst q.bound m × IsReached to m × ¬ IsReached from m)) → remaining q to < remaining q from
+    falls : (taken : List PlannedNode) → length taken ≡ 1 → ((m : PlannedNode) → Contains taken m ↔ (IsMember q m × IsReached to m × ¬ IsReached from m)) → remaining q to < remaining q from
     falls [] l is = absurd (omega (arith, l))
     falls (x ∷ xs) l is =
         let h = (is x).0 (Contains-In (x ∷ xs) x (inl refl)) in
-        let ps = tree q.inst q.bound in
-        count_lt q.inst q.bound from to (with_plans q.inst q.bound ps.0 ps.1) x (λ m. still_reached from to x m h.2 h.1) (In-with_plans q.inst q.bound ps.0 ps.1 x h.0 (ps.2 x.0 h.0.inside)) h.2 h.1
+        let ps = tree q in
+        count_lt q from to (with_plans q ps.0 ps.1) x (λ m. still_reached from to x m h.2 h.1) (In-with_plans q ps.0 ps.1 x h.0 (ps.2 x.0 h.0.inside)) h.2 h.1

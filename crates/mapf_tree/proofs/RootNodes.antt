@@ -7,55 +7,54 @@ use Rattle.mapf_plan.specs.Plan.{path_of, plan_cost}
 use Rattle.mapf_low.specs.declared.constraint.Constraint.{Constraint}
 use Rattle.mapf_low.specs.Constraints.{IsOwnPath}
 use Rattle.mapf_tree.specs.Problem.{Problem}
-use Rattle.mapf_tree.specs.Tree.{HasPlan, root, root_pair, constraints_of}
-use Rattle.mapf_tree.specs.Changes.{AreChanges, unchanged}
-use Rattle.mapf_tree.specs.Nodes.{Shown, IsConflictOf}
+use Rattle.mapf_tree.specs.Tree.{IsOwnPathOf, HasPlan, root, root_of, constraints_of}
+use Rattle.mapf_tree.specs.Nodes.{AreChanges, unchanged, Node, IsConflictOf}
 use Rattle.mapf_tree.specs.Family.{IsRoot, IsOwn, AreRootPaths}
 use Rattle.mapf_tree.proofs.Plans.{OwnAt, dear_plan}
 
 -- no agent has a constraint at the root
-pub free_at_root : (inst : Instance) (i : ℕ) → i < length inst.starts → constraints_of (root_pair inst) i ≡ []
-free_at_root inst i h = get_or-replicate (length inst.starts) i [] [] h
+pub free_at_root : (problem : Problem) (i : ℕ) → i < length problem.inst.starts → constraints_of (root_of problem) i ≡ []
+free_at_root problem i h = get_or-replicate (length problem.inst.starts) i [] [] h
 
 -- the agents' own paths under no constraints are those of the root
-root_own : (p : Problem) (paths : List (List ℕ)) → AreRootPaths p paths → (i : ℕ) → i < length p.inst.starts → OwnAt p.inst p.bound (root_pair p.inst) i (path_of paths i)
+root_own : (p : Problem) (paths : List (List ℕ)) → AreRootPaths p paths → (i : ℕ) → i < length p.inst.starts → OwnAt p (root_of p) i (path_of paths i)
 root_own p paths are i h =
-    subst (λ cs. IsOwnPath p.inst.grid (get_or p.inst.starts i 0) (get_or p.inst.goals i 0) p.bound cs (path_of paths i)) (sym (free_at_root p.inst i h)) (are.own i h)
+    subst (λ cs. IsOwnPathOf p i cs (path_of paths i)) (sym (free_at_root p i h)) (are.own i h)
 
 -- if they cost too much, the root has no plan
 pub no_root : (p : Problem) (paths : List (List ℕ)) → AreRootPaths p paths → p.bound < plan_cost paths → IsRoot p None
 no_root p paths are dear plan has =
-    dear_plan p.inst p.bound (root_pair p.inst) paths plan are.each (root_own p paths are) dear has
+    dear_plan p (root_of p) paths plan are.each (root_own p paths are) dear has
 
 -- and if not, they are its plan
-pub root_shown : (p : Problem) (node : Shown) (paths : List (List ℕ)) → AreRootPaths p paths → plan_cost paths ≤ p.bound →
+pub root_stands : (p : Problem) (node : Node) (paths : List (List ℕ)) → AreRootPaths p paths → plan_cost paths ≤ p.bound →
     node.name ≡ [] → node.changes ≡ [] → node.constraints ≡ replicate (length p.inst.starts) [] → node.plan ≡ paths → IsConflictOf paths node.conflict → IsRoot p (Some node)
-root_shown p node paths are within name changes sets plan conflict = (
+root_stands p node paths are within name changes sets plan conflict = (
   paths,
   record {
     member = record { inside = root has; plan = has };
     name = name;
-    changes = subst (AreChanges p.inst p.bound (root_pair p.inst) paths) (sym changes) (unchanged has);
+    changes = subst (AreChanges p (root_of p) paths) (sym changes) (unchanged has);
     plan = plan;
     agents = ap length sets ∙ length-replicate (length p.inst.starts) [];
-    sets = λ i h c. subst (λ xs. Contains (get_or xs i []) c ↔ Contains (constraints_of (root_pair p.inst) i) c) (sym sets) ((λ k. k), (λ k. k));
+    sets = λ i h c. subst (λ xs. Contains (get_or xs i []) c ↔ Contains (constraints_of (root_of p) i) c) (sym sets) ((λ k. k), (λ k. k));
     conflict = subst (λ q. IsConflictOf q node.conflict) (sym plan) conflict;
   },
 )
   where
-    has : HasPlan p.inst p.bound (root_pair p.inst) paths
+    has : HasPlan p (root_of p) paths
     has = record { agents = are.each; own = root_own p paths are; within = within }
 
 -- one own path more
 pub own_more : (p : Problem) (paths more : List (List ℕ)) (cs : List Constraint) (n : ℕ) (path : List ℕ) → cs ≡ [] → length paths ≡ n →
-    ((i : ℕ) → i < n → IsOwnPath p.inst.grid (get_or p.inst.starts i 0) (get_or p.inst.goals i 0) p.bound [] (path_of paths i)) →
+    ((i : ℕ) → i < n → IsOwnPathOf p i [] (path_of paths i)) →
     more ≡ paths ++ path ∷ [] → IsOwn p n cs (Some path) →
-    (length more ≡ n + 1) × ((i : ℕ) → i < n + 1 → IsOwnPath p.inst.grid (get_or p.inst.starts i 0) (get_or p.inst.goals i 0) p.bound [] (path_of more i))
+    (length more ≡ n + 1) × ((i : ℕ) → i < n + 1 → IsOwnPathOf p i [] (path_of more i))
 own_more p paths more cs n path free count own is last =
     (ap length is ∙ length_push paths path ∙ ap (λ k. k + 1) count, below_more (λ i. Own i (path_of more i)) n earlier here)
   where
     Own : ℕ → List ℕ → Type 0
-    Own i q = IsOwnPath p.inst.grid (get_or p.inst.starts i 0) (get_or p.inst.goals i 0) p.bound [] q
+    Own i q = IsOwnPathOf p i [] q
 
     earlier : (i : ℕ) → i < n → Own i (path_of more i)
     earlier i h =
@@ -66,4 +65,4 @@ own_more p paths more cs n path free count own is last =
     here : Own n (path_of more n)
     here =
         let same : path_of more n ≡ path = ap (λ l. get_or l n []) is ∙ get_or_push paths path [] n count in
-        subst (Own n) (sym same) (subst (λ l. IsOwnPath p.inst.grid (get_or p.inst.starts n 0) (get_or p.inst.goals n 0) p.bound l path) free last)
+        subst (Own n) (sym same) (subst (λ l. IsOwnPathOf p n l path) free last)

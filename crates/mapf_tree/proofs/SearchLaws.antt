@@ -11,14 +11,15 @@ use Rattle.mapf_plan.specs.Plan.{HasNoConflict, path_of, plan_cost}
 use Rattle.mapf_low.specs.declared.constraint.Constraint.{Constraint}
 use Rattle.mapf_low.specs.Constraints.{Obeys}
 use Rattle.mapf_low.proofs.OwnPaths.{own_path_costs}
+use Rattle.mapf_tree.specs.Problem.{Problem}
 use Rattle.mapf_tree.specs.declared.side.Side.{Side}
-use Rattle.mapf_tree.specs.Tree.{Pair, HasPlan, InTree, root, side, side_of, constraint_on, agent_on, root_pair, key, IsSolution, IsFirstSolution, IsAnswer}
-use Rattle.mapf_tree.specs.Search.{Planned, IsMember, IsReached, IsChild, IsWaiting, IsSearchAt, IsTurn}
-use Rattle.mapf_tree.specs.Turns.{TurnTakesNext, EndsAtAnswer, SearchStarts}
+use Rattle.mapf_tree.specs.Tree.{TreeNode, HasPlan, InTree, root, side, side_of, constraint_on, agent_on, root_of, key, IsSolution, IsFirstSolution, IsAnswer, PlannedNode, IsMember}
+use Rattle.mapf_tree.specs.Search.{IsReached, IsChild, IsWaiting}
+use Rattle.mapf_tree.specs.Turns.{IsSearchAt, IsTurn, TurnTakesNext, EndsAtAnswer, SearchStarts}
 use Rattle.mapf_tree.proofs.Plans.{AllowedAt}
 use Rattle.mapf_tree.proofs.Unique.{same_member}
 
--- a path that obeys a side obeys the pair
+-- a path that obeys a side obeys the node
 obeys_fewer : (cs : List (List Constraint)) (a i : ℕ) (x : Constraint) (q : List ℕ) → Obeys (get_or (set cs a (x ∷ get_or cs a [])) i []) q → Obeys (get_or cs i []) q
 obeys_fewer [] a i x q h = h
 obeys_fewer (c ∷ cs) zero zero x q h = h.1
@@ -26,24 +27,24 @@ obeys_fewer (c ∷ cs) zero (suc i) x q h = h
 obeys_fewer (c ∷ cs) (suc a) zero x q h = h
 obeys_fewer (c ∷ cs) (suc a) (suc i) x q h = obeys_fewer cs a i x q h
 
-module _ (inst : Instance) (bound : ℕ) where
-  -- a side costs no less than the pair
-  side_costs : (p : Pair) (c : Conflict) (s : Side) (a b : List (List ℕ)) → HasPlan inst bound p a → HasPlan inst bound (side_of p c s) b → plan_cost a ≤ plan_cost b
+module _ (problem : Problem) where
+  -- a side costs no less than the node
+  side_costs : (p : TreeNode) (c : Conflict) (s : Side) (a b : List (List ℕ)) → HasPlan problem p a → HasPlan problem (side_of p c s) b → plan_cost a ≤ plan_cost b
   side_costs p c s a b h k =
       sum_by-le cost [] a b (h.agents ∙ sym k.agents)
       (λ i l. let n = subst (λ m. i < m) h.agents l in own_path_costs _ _ _ _ _ _ _ (h.own i n) (fewer i n))
     where
-      fewer : (i : ℕ) → i < length inst.starts → AllowedAt inst bound p i (path_of b i)
+      fewer : (i : ℕ) → i < length problem.inst.starts → AllowedAt problem p i (path_of b i)
       fewer i n =
           let m = (k.own i n).member in
           record { path = m.path; within = m.within; obeys = obeys_fewer p.constraints (agent_on c s) i (constraint_on c s) (path_of b i) m.obeys }
 
   -- each child comes after its parent
-  pub parent_before : (p c : Planned) → IsMember inst bound p → IsMember inst bound c → IsChild p c → Precedes (key p) (key c)
+  pub parent_before : (p c : PlannedNode) → IsMember problem p → IsMember problem c → IsChild p c → Precedes (key p) (key c)
   parent_before p c m n h = go (cases_lt (plan_cost p.1) (plan_cost c.1))
     where
       costs : plan_cost p.1 ≤ plan_cost c.1
-      costs = side_costs p.0 h.conflict h.turn p.1 c.1 m.plan (subst (λ x. HasPlan inst bound x c.1) h.is n.plan)
+      costs = side_costs p.0 h.conflict h.turn p.1 c.1 m.plan (subst (λ x. HasPlan problem x c.1) h.is n.plan)
 
       deeper : length p.0.name < length c.0.name
       deeper = omega (arith, ap (λ x. length x.name) h.is, length-append p.0.name (h.turn ∷ []))
@@ -52,8 +53,8 @@ module _ (inst : Instance) (bound : ℕ) where
       go (inl l) = inl l
       go (inr l) = inr (omega (arith, l, costs), inl deeper)
 
-  -- whether a pair was reached can be decided
-  pub dec_reached : (last : Option (List ℕ)) (m : Planned) → Dec (IsReached last m)
+  -- whether a node was reached can be decided
+  pub dec_reached : (last : Option (List ℕ)) (m : PlannedNode) → Dec (IsReached last m)
   dec_reached None m = no (λ h. h)
   dec_reached (Some l) m = go (dec_precedes l (key m))
     where
@@ -62,48 +63,48 @@ module _ (inst : Instance) (bound : ℕ) where
       go (no n) = yes n
 
   -- what isn't reached is at or below one that waits, whose key is at most its own
-  waits_above : (last : Option (List ℕ)) (p : Pair) (plan : List (List ℕ)) → InTree inst bound p → HasPlan inst bound p plan → ¬ IsReached last (p, plan) → (w : Planned) × IsWaiting inst bound last w × (¬ Precedes (key (p, plan)) (key w))
+  waits_above : (last : Option (List ℕ)) (p : TreeNode) (plan : List (List ℕ)) → InTree problem p → HasPlan problem p plan → ¬ IsReached last (p, plan) → (w : PlannedNode) × IsWaiting problem last w × (¬ Precedes (key (p, plan)) (key w))
   waits_above last _ plan (root h) has n =
-      ((root_pair inst, plan), record { member = record { inside = root h; plan = has }; open_yet = n; from = inl refl }, irreflexive (key (root_pair inst, plan)))
-  waits_above last _ plan (side {pair = p} {plan = a} {c = c} s i h f k) has n = go (waits_above last p a i h) (dec_reached last (p, a))
+      ((root_of problem, plan), record { member = record { inside = root h; plan = has }; open_yet = n; from = inl refl }, irreflexive (key (root_of problem, plan)))
+  waits_above last _ plan (side {node = p} {plan = a} {c = c} s i h f k) has n = go (waits_above last p a i h) (dec_reached last (p, a))
     where
-      parent : IsMember inst bound (p, a)
+      parent : IsMember problem (p, a)
       parent = record { inside = i; plan = h }
 
-      child : IsMember inst bound (side_of p c s, plan)
+      child : IsMember problem (side_of p c s, plan)
       child = record { inside = side s i h f k; plan = has }
 
       is : IsChild (p, a) (side_of p c s, plan)
       is = record { conflict = c; turn = s; first = f; is = refl }
 
-      go : (¬ IsReached last (p, a) → (w : Planned) × IsWaiting inst bound last w × (¬ Precedes (key (p, a)) (key w))) → Dec (IsReached last (p, a)) → (w : Planned) × IsWaiting inst bound last w × (¬ Precedes (key (side_of p c s, plan)) (key w))
+      go : (¬ IsReached last (p, a) → (w : PlannedNode) × IsWaiting problem last w × (¬ Precedes (key (p, a)) (key w))) → Dec (IsReached last (p, a)) → (w : PlannedNode) × IsWaiting problem last w × (¬ Precedes (key (side_of p c s, plan)) (key w))
       go up (yes r) = ((side_of p c s, plan), record { member = child; open_yet = n; from = inr ((p, a), parent, r, is) }, irreflexive (key (side_of p c s, plan)))
       go up (no r) =
           let w = up r in
           (w.0, w.1, λ l. w.2 (transitive (key (p, a)) (key (side_of p c s, plan)) (key w.0) (parent_before (p, a) (side_of p c s, plan) parent child is) l))
 
-  module _ (last : Option (List ℕ)) (waiting : List Planned) (x : Planned) (at : IsSearchAt inst bound last waiting) (least : IsLeast key (Contains waiting) x) where
+  module _ (last : Option (List ℕ)) (Waits : PlannedNode → Type 0) (x : PlannedNode) (at : IsSearchAt problem last Waits) (least : IsLeast key Waits x) where
     -- x waits
-    pub x_waits : IsWaiting inst bound last x
+    pub x_waits : IsWaiting problem last x
     x_waits = (at.waits x).0 least.member
 
     -- nothing in the tree lies between
-    none_between : (m : Planned) → IsMember inst bound m → ¬ IsReached last m → ¬ Precedes (key m) (key x)
+    none_between : (m : PlannedNode) → IsMember problem m → ¬ IsReached last m → ¬ Precedes (key m) (key x)
     none_between m h n l =
         let w = waits_above last m.0 m.1 h.inside h.plan n in
         least.least w.0 ((at.waits w.0).1 w.1) (le_before (key w.0) (key m) (key x) w.2 l)
 
     -- what was reached before is at most x
-    still : (last : Option (List ℕ)) → ¬ IsReached last x → (m : Planned) → IsReached last m → ¬ Precedes (key x) (key m)
+    still : (last : Option (List ℕ)) → ¬ IsReached last x → (m : PlannedNode) → IsReached last m → ¬ Precedes (key x) (key m)
     still None n m r l = r
     still (Some k) n m r l = n (λ h. r (transitive k (key x) (key m) h l))
 
     -- what is reached now was reached before, or is x
-    pub reached_now : (m : Planned) → IsMember inst bound m → IsReached (Some (key x)) m → IsReached last m ⊎ (m ≡ x)
+    pub reached_now : (m : PlannedNode) → IsMember problem m → IsReached (Some (key x)) m → IsReached last m ⊎ (m ≡ x)
     reached_now m h r = go (dec_reached last m)
       where
         equal : ¬ IsReached last m → (key m ≡ key x) ⊎ (Precedes (key m) (key x) ⊎ Precedes (key x) (key m)) → m ≡ x
-        equal n (inl e) = same_member inst bound m x h x_waits.member e
+        equal n (inl e) = same_member problem m x h x_waits.member e
         equal n (inr (inl l)) = absurd (none_between m h n l)
         equal n (inr (inr l)) = absurd (r l)
 
@@ -112,84 +113,84 @@ module _ (inst : Instance) (bound : ℕ) where
         go (no n) = inr (equal n (compare (key m) (key x)))
 
     -- and the other way round
-    pub reached_then : (m : Planned) → IsReached last m ⊎ (m ≡ x) → IsReached (Some (key x)) m
+    pub reached_then : (m : PlannedNode) → IsReached last m ⊎ (m ≡ x) → IsReached (Some (key x)) m
     reached_then m (inl r) = still last x_waits.open_yet m r
     reached_then m (inr e) = λ l. irreflexive (key x) (subst (λ y. Precedes (key x) (key y)) e l)
 
     -- what waits then waited before and isn't x, or is a side of x
-    pub next_waits : (next : List Planned) → IsTurn inst bound waiting x next → (m : Planned) → Contains next m ↔ IsWaiting inst bound (Some (key x)) m
-    next_waits next is m = ((λ c. forth ((is m).0 c)), (λ w. (is m).1 (back w w.from)))
+    pub next_waits : (Next : PlannedNode → Type 0) → IsTurn problem Waits x Next → (m : PlannedNode) → Next m ↔ IsWaiting problem (Some (key x)) m
+    next_waits Next is m = ((λ c. forth ((is m).0 c)), (λ w. (is m).1 (back w w.from)))
       where
-        origin : (m.0 ≡ root_pair inst) ⊎ ((p : Planned) × IsMember inst bound p × IsReached last p × IsChild p m) → (m.0 ≡ root_pair inst) ⊎ ((p : Planned) × IsMember inst bound p × IsReached (Some (key x)) p × IsChild p m)
+        origin : (m.0 ≡ root_of problem) ⊎ ((p : PlannedNode) × IsMember problem p × IsReached last p × IsChild p m) → (m.0 ≡ root_of problem) ⊎ ((p : PlannedNode) × IsMember problem p × IsReached (Some (key x)) p × IsChild p m)
         origin (inl e) = inl e
         origin (inr p) = inr (p.0, p.1, reached_then p.0 (inl p.2), p.3)
 
-        old : IsWaiting inst bound last m → m ≢ x → IsReached last m ⊎ (m ≡ x) → ⊥
+        old : IsWaiting problem last m → m ≢ x → IsReached last m ⊎ (m ≡ x) → ⊥
         old w n (inl r) = w.open_yet r
         old w n (inr e) = n e
 
-        forth : (Contains waiting m × (m ≢ x)) ⊎ (IsMember inst bound m × IsChild x m) → IsWaiting inst bound (Some (key x)) m
+        forth : (Waits m × (m ≢ x)) ⊎ (IsMember problem m × IsChild x m) → IsWaiting problem (Some (key x)) m
         forth (inl c) =
             let w = (at.waits m).0 c.0 in
             record { member = w.member; open_yet = λ r. old w c.1 (reached_now m w.member r); from = origin w.from }
         forth (inr c) =
             record { member = c.0; open_yet = λ r. r (parent_before x m x_waits.member c.0 c.1); from = inr (x, x_waits.member, reached_then x (inr refl), c.1) }
 
-        back : IsWaiting inst bound (Some (key x)) m → (m.0 ≡ root_pair inst) ⊎ ((p : Planned) × IsMember inst bound p × IsReached (Some (key x)) p × IsChild p m) → (Contains waiting m × (m ≢ x)) ⊎ (IsMember inst bound m × IsChild x m)
+        back : IsWaiting problem (Some (key x)) m → (m.0 ≡ root_of problem) ⊎ ((p : PlannedNode) × IsMember problem p × IsReached (Some (key x)) p × IsChild p m) → (Waits m × (m ≢ x)) ⊎ (IsMember problem m × IsChild x m)
         back w (inl e) = inl ((at.waits m).1 (record { member = w.member; open_yet = λ r. w.open_yet (reached_then m (inl r)); from = inl e }), (λ e. w.open_yet (reached_then m (inr e))))
         back w (inr p) = by (reached_now p.0 p.1 p.2)
           where
-            by : IsReached last p.0 ⊎ (p.0 ≡ x) → (Contains waiting m × (m ≢ x)) ⊎ (IsMember inst bound m × IsChild x m)
+            by : IsReached last p.0 ⊎ (p.0 ≡ x) → (Waits m × (m ≢ x)) ⊎ (IsMember problem m × IsChild x m)
             by (inl r) = inl ((at.waits m).1 (record { member = w.member; open_yet = λ r. w.open_yet (reached_then m (inl r)); from = inr (p.0, p.1, r, p.3) }), (λ e. w.open_yet (reached_then m (inr e))))
             by (inr e) = inr (w.member, subst (λ y. IsChild y m) e p.3)
 
     -- so the search goes on
-    turn_takes_next : (next : List Planned) → ¬ HasNoConflict x.1 → IsTurn inst bound waiting x next → IsSearchAt inst bound (Some (key x)) next
-    turn_takes_next next conflict is = record { waits = next_waits next is; none_yet = λ m h r. none m (reached_now m h r) h }
+    turn_takes_next : (Next : PlannedNode → Type 0) → ¬ HasNoConflict x.1 → IsTurn problem Waits x Next → IsSearchAt problem (Some (key x)) Next
+    turn_takes_next Next conflict is = record { waits = next_waits Next is; none_yet = λ m h r. none m (reached_now m h r) h }
       where
-        none : (m : Planned) → IsReached last m ⊎ (m ≡ x) → IsMember inst bound m → ¬ HasNoConflict m.1
+        none : (m : PlannedNode) → IsReached last m ⊎ (m ≡ x) → IsMember problem m → ¬ HasNoConflict m.1
         none m (inl r) h = at.none_yet m h r
         none m (inr e) h = λ n. conflict (subst (λ y. HasNoConflict y.1) e n)
 
     -- all that comes before x is reached, and no solution
-    ends_at_first : HasNoConflict x.1 → IsFirstSolution inst bound x
+    pub ends_at_first : HasNoConflict x.1 → IsFirstSolution problem x
     ends_at_first none =
         record {
-          member = record { inside = x_waits.member.inside; plan = x_waits.member.plan; apart = none };
+          member = record { planned = x_waits.member; apart = none };
           least = λ y s l. go y s l (dec_reached last y);
         }
       where
-        go : (y : Planned) → IsSolution inst bound y → Precedes (key y) (key x) → Dec (IsReached last y) → ⊥
-        go y s l (yes r) = at.none_yet y (record { inside = s.inside; plan = s.plan }) r s.apart
-        go y s l (no n) = none_between y (record { inside = s.inside; plan = s.plan }) n l
+        go : (y : PlannedNode) → IsSolution problem y → Precedes (key y) (key x) → Dec (IsReached last y) → ⊥
+        go y s l (yes r) = at.none_yet y s.planned r s.apart
+        go y s l (no n) = none_between y s.planned n l
 
   -- if none waits, all of the tree is reached
-  ends_at_none : (last : Option (List ℕ)) (waiting : List Planned) → IsSearchAt inst bound last waiting → ((x : Planned) → ¬ Contains waiting x) → IsAnswer inst bound None
-  ends_at_none last waiting at empty y s = go (dec_reached last y)
+  pub ends_at_none : (last : Option (List ℕ)) (Waits : PlannedNode → Type 0) → IsSearchAt problem last Waits → ((x : PlannedNode) → ¬ Waits x) → IsAnswer problem None
+  ends_at_none last Waits at empty y s = go (dec_reached last y)
     where
       go : Dec (IsReached last y) → ⊥
-      go (yes r) = at.none_yet y (record { inside = s.inside; plan = s.plan }) r s.apart
-      go (no n) = let w = waits_above last y.0 y.1 s.inside s.plan n in empty w.0 ((at.waits w.0).1 w.1)
+      go (yes r) = at.none_yet y s.planned r s.apart
+      go (no n) = let w = waits_above last y.0 y.1 s.planned.inside s.planned.plan n in empty w.0 ((at.waits w.0).1 w.1)
 
   -- nothing is reached, so the root alone waits
-  starts : (waiting : List Planned) → ((m : Planned) → Contains waiting m ↔ (IsMember inst bound m × (m.0 ≡ root_pair inst))) → IsSearchAt inst bound None waiting
-  starts waiting is = record { waits = λ m. ((λ c. let h = (is m).0 c in record { member = h.0; open_yet = λ r. r; from = inl h.1 }), (λ w. (is m).1 (w.member, at_root m w.from))); none_yet = λ m h r. absurd r }
+  pub starts : (Waits : PlannedNode → Type 0) → ((m : PlannedNode) → Waits m ↔ (IsMember problem m × (m.0 ≡ root_of problem))) → IsSearchAt problem None Waits
+  starts Waits is = record { waits = λ m. ((λ c. let h = (is m).0 c in record { member = h.0; open_yet = λ r. r; from = inl h.1 }), (λ w. (is m).1 (w.member, at_root m w.from))); none_yet = λ m h r. absurd r }
     where
-      at_root : (m : Planned) → (m.0 ≡ root_pair inst) ⊎ ((p : Planned) × IsMember inst bound p × ⊥ × IsChild p m) → m.0 ≡ root_pair inst
+      at_root : (m : PlannedNode) → (m.0 ≡ root_of problem) ⊎ ((p : PlannedNode) × IsMember problem p × ⊥ × IsChild p m) → m.0 ≡ root_of problem
       at_root m (inl e) = e
       at_root m (inr p) = absurd p.2
 
--- a turn takes the next pair
+-- a turn takes the next node
 pub turn_law : TurnTakesNext
-turn_law inst bound last waiting next x at least conflict is = (
-  turn_takes_next inst bound last waiting x at least next conflict is,
-  λ m h. (reached_now inst bound last waiting x at least m h, reached_then inst bound last waiting x at least m),
+turn_law problem last waiting next x at least conflict is = (
+  turn_takes_next problem last (Contains waiting) x at least (Contains next) conflict is,
+  λ m h. (reached_now problem last (Contains waiting) x at least m h, reached_then problem last (Contains waiting) x at least m),
 )
 
 -- a search ends at the answer
 pub end_law : EndsAtAnswer
-end_law inst bound last waiting at = ((λ x least none. ends_at_first inst bound last waiting x at least none), ends_at_none inst bound last waiting at)
+end_law problem last waiting at = ((λ x least none. ends_at_first problem last (Contains waiting) x at least none), ends_at_none problem last (Contains waiting) at)
 
 -- a search starts at the root
 pub start_law : SearchStarts
-start_law inst bound waiting is = starts inst bound waiting is
+start_law problem waiting is = starts problem (Contains waiting) is

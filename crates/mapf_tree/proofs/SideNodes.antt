@@ -12,11 +12,10 @@ use Rattle.mapf_low.proofs.Limits.{own_by_bound}
 use Rattle.mapf_low.proofs.Sets.{own_set, none_set}
 use Rattle.mapf_tree.specs.declared.side.Side.{Side}
 use Rattle.mapf_tree.specs.Problem.{Problem}
-use Rattle.mapf_tree.specs.Tree.{Pair, HasPlan, side, side_of, agent_on, constraint_on, constraints_of}
-use Rattle.mapf_tree.specs.Search.{Planned}
-use Rattle.mapf_tree.specs.Changes.{Changed, AreChanges, turned}
-use Rattle.mapf_tree.specs.Nodes.{Shown, Shows, IsConflictOf, IsSameSet}
-use Rattle.mapf_tree.specs.Family.{IsSide, IsOwn, IsOwnWithin, Leaves, NoneIsDearer}
+use Rattle.mapf_tree.specs.Tree.{IsOwnPathOf, TreeNode, HasPlan, side, side_of, agent_on, constraint_on, constraints_of, PlannedNode}
+use Rattle.mapf_tree.specs.Nodes.{Changed, AreChanges, turned, Node, StandsFor, IsConflictOf, IsSameSet}
+use Rattle.mapf_tree.specs.Family.{IsSide, IsOwn, IsOwnWithin, Leaves}
+use Rattle.mapf_tree.specs.Laws.{NoneIsDearer}
 use Rattle.mapf_grid.proofs.Orders.{In}
 use Rattle.mapf_tree.proofs.Branch.{agent_below}
 use Rattle.mapf_tree.proofs.Measure.{grown_all}
@@ -64,7 +63,7 @@ with_same k old same more is after x = ((λ h. forth ((after x).0 h)), (λ h. (a
     back (inr h) = inr ((is x).1 h)
 
 -- what was searched: agent a under one constraint k more than it had at the node
-pub record IsSearched (p : Problem) (node : Shown) (c : Conflict) (s : Side) (a limit : ℕ) (k : Constraint) (more : List Constraint) (found : Option (List ℕ)) : Type 0 where
+pub record IsSearched (p : Problem) (node : Node) (c : Conflict) (s : Side) (a limit : ℕ) (k : Constraint) (more : List Constraint) (found : Option (List ℕ)) : Type 0 where
   pub agent : a ≡ agent_on c s
   pub forbidden : k ≡ constraint_on c s
   pub after : IsWith k (get_or node.constraints a []) more
@@ -76,7 +75,7 @@ IsOwn-set : (p : Problem) (limit i : ℕ) (xs ys : List Constraint) (found : Opt
 IsOwn-set p limit i xs ys None same none = none_set _ _ _ _ xs ys same none
 IsOwn-set p limit i xs ys (Some path) same own = own_set _ _ _ _ xs ys path same own
 
--- no plan of a pair has a dearer path than the other agents leave of the bound
+-- no plan of a node has a dearer path than the other agents leave of the bound
 pub none_is_dearer : NoneIsDearer
 none_is_dearer p pair plan i limit has leaves = omega (arith, leaves, has.within)
 
@@ -85,7 +84,7 @@ pub within_bound : (p : Problem) (plan : List (List ℕ)) (a limit : ℕ) (more 
     plan_cost (set plan a path) ≤ p.bound
 within_bound p plan a limit more path inside leaves own = omega (arith, sum_by-set cost plan a path [] inside, leaves, own.member.within)
 
-module _ (p : Problem) (node : Shown) (m : Planned) (c : Conflict) (s : Side) (shows : Shows p.inst p.bound node m) (is : node.conflict ≡ Some c) where
+module _ (p : Problem) (node : Node) (m : PlannedNode) (c : Conflict) (s : Side) (shows : StandsFor p node m) (is : node.conflict ≡ Some c) where
   -- the node branches on its plan's first conflict
   first : IsFirstConflict m.1 c
   first =
@@ -96,14 +95,14 @@ module _ (p : Problem) (node : Shown) (m : Planned) (c : Conflict) (s : Side) (s
   agent_inside : agent_on c s < length p.inst.starts
   agent_inside = subst (λ n. agent_on c s < n) shows.member.plan.agents (agent_below m.1 c s first.member)
 
-  -- the pair on this side
-  abbrev there : Pair
+  -- the node on this side
+  abbrev there : TreeNode
   there = side_of m.0 c s
 
   -- the set that the agent has on this side
   set_there : (more : List Constraint) → IsWith (constraint_on c s) (get_or node.constraints (agent_on c s) []) more → IsSameSet more (constraints_of there (agent_on c s))
   set_there more after =
-      let in_pair : agent_on c s < length m.0.constraints = omega (arith, agent_inside, (grown_all p.inst p.bound m.0 shows.member.inside).agents) in
+      let in_pair : agent_on c s < length m.0.constraints = omega (arith, agent_inside, (grown_all p m.0 shows.member.inside).agents) in
       subst (IsSameSet more) (sym (get_or-set_same m.0.constraints (agent_on c s) (constraint_on c s ∷ constraints_of m.0 (agent_on c s)) [] in_pair))
       (IsWith-cons (constraint_on c s) (constraints_of m.0 (agent_on c s)) (get_or node.constraints (agent_on c s) []) more (shows.sets (agent_on c s) agent_inside) after)
 
@@ -119,16 +118,16 @@ module _ (p : Problem) (node : Shown) (m : Planned) (c : Conflict) (s : Side) (s
   in_plan = subst (λ n. agent_on c s < n) (sym (ap length shows.plan ∙ shows.member.plan.agents)) agent_inside
 
   -- with that path the plan has the own path of every agent on this side
-  own_there : (path : List ℕ) → IsOwn p (agent_on c s) (constraints_of there (agent_on c s)) (Some path) → (i : ℕ) → i < length p.inst.starts → OwnAt p.inst p.bound there i (path_of (set node.plan (agent_on c s) path) i)
+  own_there : (path : List ℕ) → IsOwn p (agent_on c s) (constraints_of there (agent_on c s)) (Some path) → (i : ℕ) → i < length p.inst.starts → OwnAt p there i (path_of (set node.plan (agent_on c s) path) i)
   own_there path own i h = go (ℕ_discrete i (agent_on c s))
     where
       At : ℕ → List Constraint → List ℕ → Type 0
-      At j cs q = IsOwnPath p.inst.grid (get_or p.inst.starts j 0) (get_or p.inst.goals j 0) p.bound cs q
+      At j cs q = IsOwnPathOf p j cs q
 
-      go : Dec (i ≡ agent_on c s) → OwnAt p.inst p.bound there i (path_of (set node.plan (agent_on c s) path) i)
+      go : Dec (i ≡ agent_on c s) → OwnAt p there i (path_of (set node.plan (agent_on c s) path) i)
       go (yes e) =
           let new : path_of (set node.plan (agent_on c s) path) (agent_on c s) ≡ path = get_or-set_same node.plan (agent_on c s) path [] in_plan in
-          subst (λ j. OwnAt p.inst p.bound there j (path_of (set node.plan (agent_on c s) path) j)) (sym e)
+          subst (λ j. OwnAt p there j (path_of (set node.plan (agent_on c s) path) j)) (sym e)
           (subst (At (agent_on c s) (constraints_of there (agent_on c s))) (sym new) own)
       go (no ne) =
           let cs : constraints_of there i ≡ constraints_of m.0 i = get_or-set_other m.0.constraints (agent_on c s) i _ [] ne in
@@ -149,12 +148,12 @@ module _ (p : Problem) (node : Shown) (m : Planned) (c : Conflict) (s : Side) (s
       path : List ℕ
       path = path_of plan (agent_on c s)
 
-      own : OwnAt p.inst p.bound there (agent_on c s) path
+      own : OwnAt p there (agent_on c s) path
       own = has.own (agent_on c s) agent_inside
 
       -- the other agents have the paths that they had
       same : plan ≡ set node.plan (agent_on c s) path
-      same = same_paths p.inst p.bound there plan (set node.plan (agent_on c s) path) has.agents (length-set node.plan (agent_on c s) path ∙ ap length shows.plan ∙ shows.member.plan.agents) has.own (own_there path own)
+      same = same_paths p there plan (set node.plan (agent_on c s) path) has.agents (length-set node.plan (agent_on c s) path ∙ ap length shows.plan ∙ shows.member.plan.agents) has.own (own_there path own)
 
       within : cost path ≤ limit
       within =
@@ -177,32 +176,32 @@ module _ (p : Problem) (node : Shown) (m : Planned) (c : Conflict) (s : Side) (s
     found = found_there a limit k more (Some path) searched
 
     -- the plan has each agent's own path on this side
-    all_there : (i : ℕ) → i < length p.inst.starts → OwnAt p.inst p.bound there i (path_of plan i)
+    all_there : (i : ℕ) → i < length p.inst.starts → OwnAt p there i (path_of plan i)
     all_there i h =
         let less : limit ≤ p.bound = omega (arith, leaves, get_or-le-sum_by cost node.plan (agent_on c s) [] in_plan) in
-        subst (λ l. OwnAt p.inst p.bound there i (path_of l i)) replaced (own_there path (own_by_bound _ _ limit p.bound _ _ path less found) i h)
+        subst (λ l. OwnAt p there i (path_of l i)) replaced (own_there path (own_by_bound _ _ limit p.bound _ _ path less found) i h)
 
     -- and costs at most the bound
     within : plan_cost plan ≤ p.bound
     within = omega (arith, costs_with limit path leaves, ap plan_cost replaced, found.member.within)
 
     -- so the new node stands for the side
-    pub side_shown : (new : Shown) → new.name ≡ node.name ++ s ∷ [] → new.changes ≡ node.changes ++ record { agent = a; constraint = k; path = path } ∷ [] →
+    pub side_stands : (new : Node) → new.name ≡ node.name ++ s ∷ [] → new.changes ≡ node.changes ++ record { agent = a; constraint = k; path = path } ∷ [] →
         new.constraints ≡ set node.constraints a (k ∷ get_or node.constraints a []) → new.plan ≡ plan → IsConflictOf plan new.conflict → IsSide p m c s (Some new)
-    side_shown new name changes constraints shown conflict = (
+    side_stands new name changes constraints stand conflict = (
       plan,
       record {
         member = record { inside = side s shows.member.inside shows.member.plan first has; plan = has };
         name = name ∙ ap (λ l. l ++ s ∷ []) shows.name;
-        changes = subst (AreChanges p.inst p.bound there plan) (sym (changes ∙ ap (λ x. node.changes ++ x ∷ []) change)) (turned s shows.changes first has);
-        plan = shown;
+        changes = subst (AreChanges p there plan) (sym (changes ∙ ap (λ x. node.changes ++ x ∷ []) change)) (turned s shows.changes first has);
+        plan = stand;
         agents = ap length constraints ∙ length-set node.constraints a _ ∙ shows.agents;
         sets = λ i h. subst (λ l. IsSameSet (get_or l i []) (constraints_of there i)) (sym renamed) (sets i h (ℕ_discrete i (agent_on c s)));
-        conflict = subst (λ q. IsConflictOf q new.conflict) (sym shown) conflict;
+        conflict = subst (λ q. IsConflictOf q new.conflict) (sym stand) conflict;
       },
     )
       where
-        has : HasPlan p.inst p.bound there plan
+        has : HasPlan p there plan
         has = record { agents = same_length plan a path is_plan; own = all_there; within = within }
 
         -- what this turn changed

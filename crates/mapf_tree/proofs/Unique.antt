@@ -5,22 +5,22 @@ use Rattle.mapf_grid.specs.Instance.{Instance}
 use Rattle.mapf_grid.proofs.Orders.{same_rank}
 use Rattle.mapf_plan.specs.Plan.{IsFirstConflict}
 use Rattle.mapf_plan.proofs.Conflicts.{same_first}
+use Rattle.mapf_tree.specs.Problem.{Problem}
 use Rattle.mapf_tree.specs.declared.side.Side.{Side}
 use Rattle.mapf_tree.specs.declared.side.Side.TheVariants.{Left, Right}
-use Rattle.mapf_tree.specs.Tree.{Pair, HasPlan, InTree, root, side, side_of, turn, key, IsSolution}
-use Rattle.mapf_tree.specs.Optimal.{AnswerIsUnique}
-use Rattle.mapf_tree.specs.Search.{Planned, IsMember}
+use Rattle.mapf_tree.specs.Tree.{TreeNode, HasPlan, InTree, root, side, side_of, turn, key, IsSolution, PlannedNode, IsMember}
+use Rattle.mapf_tree.specs.Laws.{AnswerIsUnique}
 use Rattle.mapf_tree.proofs.Plans.{same_plan}
 
--- two pairs of the tree with one name are one
-pub same_pair : (inst : Instance) (bound : ℕ) (p q : Pair) → InTree inst bound p → InTree inst bound q → p.name ≡ q.name → p ≡ q
-same_pair inst bound _ _ (root h) (root k) e = refl
-same_pair inst bound _ _ (root h) (side {pair = q} s i h' f k) e = absurd (omega (arith, ap length e, length-append q.name (s ∷ [])))
-same_pair inst bound _ _ (side {pair = p} s i h' f k) (root h) e = absurd (omega (arith, ap length e, length-append p.name (s ∷ [])))
-same_pair inst bound _ _ (side {pair = p} {plan = a} {c = c} s i h f _) (side {pair = q} {plan = b} {c = d} s' i' h' f' _) e =
+-- two nodes of the tree with one name are one
+pub same_node : (problem : Problem) (p q : TreeNode) → InTree problem p → InTree problem q → p.name ≡ q.name → p ≡ q
+same_node problem _ _ (root h) (root k) e = refl
+same_node problem _ _ (root h) (side {node = q} s i h' f k) e = absurd (omega (arith, ap length e, length-append q.name (s ∷ [])))
+same_node problem _ _ (side {node = p} s i h' f k) (root h) e = absurd (omega (arith, ap length e, length-append p.name (s ∷ [])))
+same_node problem _ _ (side {node = p} {plan = a} {c = c} s i h f _) (side {node = q} {plan = b} {c = d} s' i' h' f' _) e =
     let names = same_from_push p.name q.name s s' e in
-    let ep = same_pair inst bound p q i i' names.0 in
-    let ea = same_plan inst bound q a b (subst (λ r. HasPlan inst bound r a) ep h) h' in
+    let ep = same_node problem p q i i' names.0 in
+    let ea = same_plan problem q a b (subst (λ r. HasPlan problem r a) ep h) h' in
     let ec = same_first b c d (subst (λ r. IsFirstConflict r c) ea f) f' in
     ap₂ (λ r x. side_of r x s) ep ec ∙ ap (λ x. side_of q d x) names.1
 
@@ -41,22 +41,19 @@ same_turns (x ∷ m) (y ∷ n) e =
     same Right Right h = refl
 
 -- two members with one key are one
-pub same_member : (inst : Instance) (bound : ℕ) (m n : Planned) → IsMember inst bound m → IsMember inst bound n → key m ≡ key n → m ≡ n
-same_member inst bound m n h k e =
+pub same_member : (problem : Problem) (m n : PlannedNode) → IsMember problem m → IsMember problem n → key m ≡ key n → m ≡ n
+same_member problem m n h k e =
     let turns : map turn m.0.name ≡ map turn n.0.name = cc in
-    let pairs = same_pair inst bound m.0 n.0 h.inside k.inside (same_turns _ _ turns) in
-    let plans = same_plan inst bound n.0 m.1 n.1 (subst (λ x. HasPlan inst bound x m.1) pairs h.plan) k.plan in
+    let pairs = same_node problem m.0 n.0 h.inside k.inside (same_turns _ _ turns) in
+    let plans = same_plan problem n.0 m.1 n.1 (subst (λ x. HasPlan problem x m.1) pairs h.plan) k.plan in
     λ i. (pairs i, plans i)
 
 -- so two least solutions are one
 pub answer_is_unique : AnswerIsUnique
-answer_is_unique inst bound (Some p) (Some q) a b =
-    let e = same_rank key (IsSolution inst bound) (a.0, p) (b.0, q) a.1 b.1 in
-    let m : (a.0, p) ≡ (b.0, q) = same_member inst bound (a.0, p) (b.0, q) (member (a.0, p) a.1.member) (member (b.0, q) b.1.member) e in
+answer_is_unique problem (Some p) (Some q) a b =
+    let e = same_rank key (IsSolution problem) (a.0, p) (b.0, q) a.1 b.1 in
+    let m : (a.0, p) ≡ (b.0, q) = same_member problem (a.0, p) (b.0, q) a.1.member.planned b.1.member.planned e in
     ap (λ x. Some x.1) m
-  where
-    member : (found : Planned) → IsSolution inst bound found → IsMember inst bound found
-    member found s = record { inside = s.inside; plan = s.plan }
-answer_is_unique inst bound (Some p) None a b = absurd (b (a.0, p) a.1.member)
-answer_is_unique inst bound None (Some q) a b = absurd (a (b.0, q) b.1.member)
-answer_is_unique inst bound None None a b = refl
+answer_is_unique problem (Some p) None a b = absurd (b (a.0, p) a.1.member)
+answer_is_unique problem None (Some q) a b = absurd (a (b.0, q) b.1.member)
+answer_is_unique problem None None a b = refl

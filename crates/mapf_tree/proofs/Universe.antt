@@ -8,8 +8,8 @@ use Rattle.mapf_grid.proofs.Orders.{In}
 use Rattle.mapf_grid.proofs.Lists.{below, In-below, In-map, In-flat_map, In-append_left, In-append_right}
 use Rattle.mapf_low.specs.declared.constraint.Constraint.{Constraint}
 use Rattle.mapf_low.specs.declared.constraint.Constraint.TheVariants.{Vertex, Edge}
-use Rattle.mapf_tree.specs.Sides.{forbidden_time}
-use Rattle.mapf_tree.specs.Finite.{HoldsGrid}
+use Rattle.mapf_low.specs.Times.{time_of}
+use Rattle.mapf_tree.specs.Laws.{HoldsGrid}
 use Rattle.mapf_tree.proofs.Members.{Contains-In, In-Contains}
 
 -- every constraint on these cells and edges at times up to b
@@ -61,7 +61,7 @@ length-universe cells edges b =
     ∙ ap (λ k. k * (length cells + length edges)) (length-below (b + 1))
 
 -- what fits is at most at the bound
-pub fits_early : (g : Grid) (b : ℕ) (c : Constraint) → Fits g b c → forbidden_time c ≤ b
+pub fits_early : (g : Grid) (b : ℕ) (c : Constraint) → Fits g b c → time_of c ≤ b
 fits_early g b (Vertex c t) h = h.1
 fits_early g b (Edge u v t) h = h.2
 
@@ -69,7 +69,7 @@ fits_early g b (Edge u v t) h = h.2
 pub cells_of : Grid → List ℕ
 cells_of g = below (length g.free)
 
--- all pairs of cells
+-- all nodes of cells
 pub edges_of : Grid → List (ℕ × ℕ)
 edges_of g = flat_map (λ u. map (λ v. (u, v)) (below (length g.free))) (below (length g.free))
 

@@ -1,7 +1,20 @@
--- What a search solves: an instance and a bound.
-use Rattle.std.specs.Prelude.{ℕ}
+-- What a search solves: an instance, and a bound on the sum of costs.
+use Rattle.std.specs.Prelude.{◌≡◌, ℕ, ◌<◌, ◌≤◌, List, [], length, slice_index, slice_index_or, Option}
 use Rattle.mapf_grid.specs.Instance.{Instance}
+use Rattle.mapf_grid.specs.InstanceLaws.{IsSound}
+use Rattle.mapf_low.specs.Walk.{AreDistances}
 
 pub record Problem : Type 0 where
   pub inst : Instance
   pub bound : ℕ
+
+-- one table for each agent, with the distances of the agent's goal
+pub record HasDistances (inst : Instance) (distances : List (List (Option ℕ))) : Type 0 where
+  pub each : length distances ≡ length inst.starts
+  pub shortest : (i : ℕ) → i < length inst.starts → AreDistances inst.grid (slice_index inst.goals i) (slice_index_or distances i [])
+
+-- what always holds of a problem and its tables
+pub record IsReady (problem : Problem) (distances : List (List (Option ℕ))) : Type 0 where
+  pub agents : IsSound problem.inst
+  pub small : problem.bound ≤ 1000000
+  pub tables : HasDistances problem.inst distances

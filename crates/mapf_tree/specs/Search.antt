@@ -1,45 +1,84 @@
--- A search: which pairs of the tree were taken, and which wait (the high level of Sharon et al. 2015, best first).
-use Rattle.std.specs.Prelude.{◌≡◌, ◌≢◌, ℕ, ◌⊎◌, ◌↔◌, List, Option, Some, None, Contains}
-use Rattle.mapf_grid.specs.Instance.{Instance}
+-- A search: which nodes of the tree it took, and which wait (the high level of Sharon et al. 2015, best first).
+use Rattle.std.specs.Prelude.{◌≡◌, ◌⊎◌, ◌↔◌, ℕ, List, [], ◌∷◌, length, Option, Some, None, IfSome, Result, Ok, Err, Contains}
+use Rattle.mapf_grid.specs.declared.fault.NoMemory.{NoMemory}
 use Rattle.mapf_grid.specs.Least.{Precedes}
 use Rattle.mapf_plan.specs.declared.conflict.Conflict.{Conflict}
-use Rattle.mapf_plan.specs.Plan.{IsFirstConflict, HasNoConflict}
+use Rattle.mapf_plan.specs.Plan.{plan_cost, IsFirstConflict, HasNoConflict}
+use Rattle.mapf_plan.specs.declared.answer.Answer.{Answer}
+use Rattle.mapf_plan.specs.declared.answer.Answer.TheVariants as answer
 use Rattle.mapf_tree.specs.declared.side.Side.{Side}
-use Rattle.mapf_tree.specs.Tree.{Pair, HasPlan, InTree, side_of, root_pair, key}
-
--- a pair with its plan
-abbrev pub Planned : Type 0
-Planned = Pair × List (List ℕ)
-
--- a pair of the tree, with its plan
-pub record IsMember (inst : Instance) (bound : ℕ) (m : Planned) : Type 0 where
-  pub inside : InTree inst bound m.0
-  pub plan : HasPlan inst bound m.0 m.1
+use Rattle.mapf_tree.specs.Problem.{Problem}
+use Rattle.mapf_tree.specs.Tree.{PlannedNode, IsMember, side_of, root_of, key}
+use Rattle.mapf_tree.specs.Answered.{IsAnswerOf}
+use Rattle.mapf_tree.specs.Nodes.{Node, AllStand, HasNodeFor}
 
 -- the key is at most the last taken one
-abbrev pub IsReached : Option (List ℕ) → Planned → Type 0
+abbrev pub IsReached : Option (List ℕ) → PlannedNode → Type 0
 IsReached None m = ⊥
 IsReached (Some last) m = ¬ Precedes last (key m)
 
 -- one of the two sides of the conflict that the parent's plan branches on
-pub record IsChild (parent child : Planned) : Type 0 where
+pub record IsChild (parent child : PlannedNode) : Type 0 where
   pub conflict : Conflict
   pub turn : Side
   pub first : IsFirstConflict parent.1 conflict
   pub is : child.0 ≡ side_of parent.0 conflict turn
 
 -- not reached, and the root or a side of one that is
-pub record IsWaiting (inst : Instance) (bound : ℕ) (last : Option (List ℕ)) (m : Planned) : Type 0 where
-  pub member : IsMember inst bound m
+pub record IsWaiting (problem : Problem) (last : Option (List ℕ)) (m : PlannedNode) : Type 0 where
+  pub member : IsMember problem m
   pub open_yet : ¬ IsReached last m
-  pub from : (m.0 ≡ root_pair inst) ⊎ ((p : Planned) × IsMember inst bound p × IsReached last p × IsChild p m)
+  pub from : (m.0 ≡ root_of problem) ⊎ ((p : PlannedNode) × IsMember problem p × IsReached last p × IsChild p m)
 
--- no solution was reached, and the list holds just those that wait
-pub record IsSearchAt (inst : Instance) (bound : ℕ) (last : Option (List ℕ)) (waiting : List Planned) : Type 0 where
-  pub waits : (m : Planned) → Contains waiting m ↔ IsWaiting inst bound last m
-  pub none_yet : (m : Planned) → IsMember inst bound m → IsReached last m → ¬ HasNoConflict m.1
+-- no node with a key up to the last one is a solution
+abbrev pub NoneSolves : Problem → Option (List ℕ) → Type 0
+NoneSolves problem last = (m : PlannedNode) → IsMember problem m → IsReached last m → ¬ HasNoConflict m.1
 
--- the next list: without x, and with the sides of x that are in the tree
-abbrev pub IsTurn : Instance → ℕ → List Planned → Planned → List Planned → Type 0
-IsTurn inst bound waiting x next =
-    (m : Planned) → Contains next m ↔ ((Contains waiting m × (m ≢ x)) ⊎ (IsMember inst bound m × IsChild x m))
+-- the nodes with keys up to the last one are taken: that is the key of one of them, and none but that one is a solution.
+-- The list has the nodes that are not taken and are the root or a side of one that is
+pub record IsTakenTo (problem : Problem) (last : Option (List ℕ)) (nodes : List Node) : Type 0 where
+  pub greatest : IfSome last (λ k. (m : PlannedNode) × IsMember problem m × (key m ≡ k))
+  pub none_before : (m : PlannedNode) → IsMember problem m → IsReached last m → HasNoConflict m.1 → last ≡ Some (key m)
+  pub stand : AllStand problem nodes
+  pub waits : (m : PlannedNode) → HasNodeFor problem nodes m ↔ IsWaiting problem last m
+
+-- the last node that was taken is a solution, and its plan is the answer
+abbrev pub IsSolvedBy : Problem → Option (List ℕ) → Answer → Type 0
+IsSolvedBy problem last given =
+    (x : PlannedNode) × IsMember problem x × HasNoConflict x.1 × (last ≡ Some (key x)) × (given ≡ answer.Plan x.1 (plan_cost x.1))
+
+-- a search has its answer from the last node that it took, or because nothing waits
+abbrev pub IsEnded : Problem → List Node → Option (List ℕ) → Answer → Type 0
+IsEnded problem nodes last given = ((nodes ≡ []) × (given ≡ answer.None problem.bound)) ⊎ IsSolvedBy problem last given
+
+-- while there is no answer yet, no taken node is a solution; an answer is the right one, and nothing was taken after it; after want of memory nothing is said
+abbrev pub IsLawful : Problem → List Node → Option (List ℕ) → Result (Option Answer) NoMemory → Type 0
+IsLawful problem nodes last (Ok None) = IsTakenTo problem last nodes × NoneSolves problem last
+IsLawful problem nodes last (Ok (Some given)) = IsTakenTo problem last nodes × IsAnswerOf problem given × IsEnded problem nodes last given
+IsLawful problem nodes last (Err _) = Unit {0}
+
+-- the problem, the nodes that wait, the key of the last taken node, and what came of it: an answer, none yet, or want of memory
+pub record Searched : Type 0 where
+  pub problem : Problem
+  pub waiting : List Node
+  pub last : Option (List ℕ)
+  pub outcome : Result (Option Answer) NoMemory
+
+abbrev pub IsSearch : Searched → Type 0
+IsSearch s = IsLawful s.problem s.waiting s.last s.outcome
+
+-- each once
+abbrev pub EachOnce : List PlannedNode → Type 0
+EachOnce [] = Unit {0}
+EachOnce (m ∷ ms) = (¬ Contains ms m) × EachOnce ms
+
+-- exactly n nodes of the tree have keys above the one and up to the other
+abbrev pub TakesBetween : Problem → Option (List ℕ) → Option (List ℕ) → ℕ → Type 0
+TakesBetween problem from to n =
+    (taken : List PlannedNode) × EachOnce taken × (length taken ≡ n)
+    × ((m : PlannedNode) → Contains taken m ↔ (IsMember problem m × IsReached to m × ¬ IsReached from m))
+
+-- the answer, where there is one
+abbrev pub answer_of : Result (Option Answer) NoMemory → Option Answer
+answer_of (Ok given) = given
+answer_of (Err _) = None

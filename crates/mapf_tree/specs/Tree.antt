@@ -1,30 +1,38 @@
 -- The constraint tree, its solutions and the answer (Sharon et al. 2015).
 use Rattle.std.specs.Prelude.{◌≡◌, ℕ, ◌<◌, ◌≤◌, List, [], ◌∷◌, ◌++◌, length, map, replicate, slice_index, slice_index_or, slice_set, Option, Some, None}
-use Rattle.mapf_grid.specs.Instance.{Instance}
 use Rattle.mapf_grid.specs.Least.{IsLeast}
 use Rattle.mapf_plan.specs.declared.conflict.Conflict.{Conflict}
 use Rattle.mapf_plan.specs.declared.conflict.Conflict.TheVariants as conflict
 use Rattle.mapf_plan.specs.Plan.{path_of, plan_cost, IsFirstConflict, HasNoConflict}
 use Rattle.mapf_low.specs.declared.constraint.Constraint.{Constraint}
 use Rattle.mapf_low.specs.declared.constraint.Constraint.TheVariants as constraint
-use Rattle.mapf_low.specs.Constraints.{IsOwnPath}
+use Rattle.mapf_low.specs.Constraints.{IsAllowed, IsOwnPath}
 use Rattle.mapf_tree.specs.declared.side.Side.{Side}
 use Rattle.mapf_tree.specs.declared.side.Side.TheVariants.{Left, Right}
+use Rattle.mapf_tree.specs.declared.key.Key.{Key}
+use Rattle.mapf_tree.specs.Problem.{Problem}
 
--- a name, and the constraints of each agent
-pub record Pair : Type 0 where
+-- a node of the tree: a name, and the constraints of each agent
+pub record TreeNode : Type 0 where
   pub name : List Side
   pub constraints : List (List Constraint)
 
-abbrev pub constraints_of : Pair → ℕ → List Constraint
-constraints_of pair i = slice_index_or pair.constraints i []
+abbrev pub constraints_of : TreeNode → ℕ → List Constraint
+constraints_of node i = slice_index_or node.constraints i []
 
--- the plan of a pair: each agent's own path, at a sum of costs within the bound
-pub record HasPlan (inst : Instance) (bound : ℕ) (pair : Pair) (plan : List (List ℕ)) : Type 0 where
-  pub agents : length plan ≡ length inst.starts
-  pub own : (i : ℕ) → i < length inst.starts →
-      IsOwnPath inst.grid (slice_index inst.starts i) (slice_index inst.goals i) bound (constraints_of pair i) (path_of plan i)
-  pub within : plan_cost plan ≤ bound
+-- a path that agent i may take under these constraints
+abbrev pub IsAllowedFor : Problem → ℕ → List Constraint → List ℕ → Type 0
+IsAllowedFor problem i = IsAllowed problem.inst.grid (slice_index problem.inst.starts i) (slice_index problem.inst.goals i) problem.bound
+
+-- agent i's own path under these constraints
+abbrev pub IsOwnPathOf : Problem → ℕ → List Constraint → List ℕ → Type 0
+IsOwnPathOf problem i = IsOwnPath problem.inst.grid (slice_index problem.inst.starts i) (slice_index problem.inst.goals i) problem.bound
+
+-- the plan of a node: each agent's own path, at a sum of costs within the bound
+pub record HasPlan (problem : Problem) (node : TreeNode) (plan : List (List ℕ)) : Type 0 where
+  pub agents : length plan ≡ length problem.inst.starts
+  pub own : (i : ℕ) → i < length problem.inst.starts → IsOwnPathOf problem i (constraints_of node i) (path_of plan i)
+  pub within : plan_cost plan ≤ problem.bound
 
 abbrev pub agent_on : Conflict → Side → ℕ
 agent_on (conflict.Vertex i j v t) Left = i
@@ -38,40 +46,56 @@ constraint_on (conflict.Swapping i j u v t) Left = constraint.Edge u v t
 constraint_on (conflict.Swapping i j u v t) Right = constraint.Edge v u t
 
 -- one turn more in the name, and one constraint more for the agent on that side
-abbrev pub side_of : Pair → Conflict → Side → Pair
-side_of pair c side = record {
-  name = pair.name ++ side ∷ [];
-  constraints = slice_set pair.constraints (agent_on c side) (constraint_on c side ∷ constraints_of pair (agent_on c side));
+abbrev pub side_of : TreeNode → Conflict → Side → TreeNode
+side_of node c side = record {
+  name = node.name ++ side ∷ [];
+  constraints = slice_set node.constraints (agent_on c side) (constraint_on c side ∷ constraints_of node (agent_on c side));
 }
 
-abbrev pub root_pair : Instance → Pair
-root_pair inst = record { name = []; constraints = replicate (length inst.starts) [] }
+-- no turn, and no constraint for any agent
+abbrev pub root_of : Problem → TreeNode
+root_of problem = record { name = []; constraints = replicate (length problem.inst.starts) [] }
 
--- the least set that holds the root, if it has a plan, and with a pair whose plan has a first conflict each side that has one
-pub data InTree (inst : Instance) (bound : ℕ) : Pair → Type 0 where
-  root : {plan : List (List ℕ)} → HasPlan inst bound (root_pair inst) plan → InTree inst bound (root_pair inst)
-  side : {pair : Pair} {plan plan' : List (List ℕ)} {c : Conflict} (s : Side) →
-      InTree inst bound pair → HasPlan inst bound pair plan → IsFirstConflict plan c →
-      HasPlan inst bound (side_of pair c s) plan' → InTree inst bound (side_of pair c s)
+-- the least set that holds the root, if it has a plan, and with a node whose plan has a first conflict each side that has one
+pub data InTree (problem : Problem) : TreeNode → Type 0 where
+  root : {plan : List (List ℕ)} → HasPlan problem (root_of problem) plan → InTree problem (root_of problem)
+  side : {node : TreeNode} {plan plan' : List (List ℕ)} {c : Conflict} (s : Side) →
+      InTree problem node → HasPlan problem node plan → IsFirstConflict plan c →
+      HasPlan problem (side_of node c s) plan' → InTree problem (side_of node c s)
 
--- a pair of the tree with its plan, which has no conflict
-pub record IsSolution (inst : Instance) (bound : ℕ) (found : Pair × List (List ℕ)) : Type 0 where
-  pub inside : InTree inst bound found.0
-  pub plan : HasPlan inst bound found.0 found.1
-  pub apart : HasNoConflict found.1
+-- a node with its plan
+abbrev pub PlannedNode : Type 0
+PlannedNode = TreeNode × List (List ℕ)
+
+-- a node of the tree, with its plan
+pub record IsMember (problem : Problem) (m : PlannedNode) : Type 0 where
+  pub inside : InTree problem m.0
+  pub plan : HasPlan problem m.0 m.1
+
+-- a node of the tree with its plan, which has no conflict
+pub record IsSolution (problem : Problem) (m : PlannedNode) : Type 0 where
+  pub planned : IsMember problem m
+  pub apart : HasNoConflict m.1
 
 abbrev pub turn : Side → ℕ
 turn Left = 0
 turn Right = 1
 
--- by cost, depth and name
-abbrev pub key : Pair × List (List ℕ) → List ℕ
-key found = plan_cost found.1 ∷ length found.0.name ∷ map turn found.0.name
+-- nodes are taken by cost, then by depth, then by name with left before right: best first, and this project's order of
+-- equal costs
+abbrev pub rank : ℕ → ℕ → List Side → List ℕ
+rank cost depth name = cost ∷ depth ∷ map turn name
 
-abbrev pub IsFirstSolution : Instance → ℕ → Pair × List (List ℕ) → Type 0
-IsFirstSolution inst bound found = IsLeast key (IsSolution inst bound) found
+abbrev pub key : PlannedNode → List ℕ
+key m = rank (plan_cost m.1) (length m.0.name) m.0.name
+
+abbrev pub key_rank : Key → List ℕ
+key_rank k = rank k.cost k.depth k.name.items
+
+abbrev pub IsFirstSolution : Problem → PlannedNode → Type 0
+IsFirstSolution problem = IsLeast key (IsSolution problem)
 
 -- the plan of the first solution, or none where the tree has no solution
-abbrev pub IsAnswer : Instance → ℕ → Option (List (List ℕ)) → Type 0
-IsAnswer inst bound (Some plan) = (pair : Pair) × IsFirstSolution inst bound (pair, plan)
-IsAnswer inst bound None = (found : Pair × List (List ℕ)) → ¬ IsSolution inst bound found
+abbrev pub IsAnswer : Problem → Option (List (List ℕ)) → Type 0
+IsAnswer problem (Some plan) = (node : TreeNode) × IsFirstSolution problem (node, plan)
+IsAnswer problem None = (m : PlannedNode) → ¬ IsSolution problem m

@@ -1,41 +1,77 @@
--- What a search does turn by turn (the high level of Sharon et al. 2015, best first): it takes the pairs of the tree in
--- the order of their keys, and ends with the answer.
+-- What a search does turn by turn: it takes the nodes of the tree in the order of their keys, and ends with the answer.
 use Rattle.std.specs.List.{AllByRecursion}
-use Rattle.std.specs.Prelude.{◌≡◌, ◌≤◌, length, [], ◌∷◌, ℕ, ◌⊎◌, ◌↔◌, List, Option, Some, None, Contains}
-use Rattle.mapf_grid.specs.Instance.{Instance}
+use Rattle.std.specs.Prelude.{◌≡◌, ◌≢◌, ◌≤◌, length, [], ℕ, ◌⊎◌, ◌↔◌, List, Option, Some, None, Result, Ok, Err, IsErr, Contains}
+use Rattle.mapf_grid.specs.declared.fault.NoMemory.{NoMemory}
 use Rattle.mapf_grid.specs.Least.{IsLeast}
-use Rattle.mapf_plan.specs.Plan.{HasNoConflict}
-use Rattle.mapf_tree.specs.Tree.{root_pair, key, IsFirstSolution, IsAnswer}
-use Rattle.mapf_tree.specs.Search.{Planned, IsMember, IsReached, IsSearchAt, IsTurn}
+use Rattle.mapf_plan.specs.Plan.{plan_cost, HasNoConflict}
+use Rattle.mapf_plan.specs.declared.answer.Answer.{Answer}
+use Rattle.mapf_tree.specs.declared.progress.Progress.{Progress}
+use Rattle.mapf_tree.specs.declared.progress.Progress.TheVariants.{Working, Finished}
+use Rattle.mapf_tree.specs.declared.turn.Turn.{Turn}
+use Rattle.mapf_tree.specs.declared.turn.Turn.TheVariants as turn
+use Rattle.mapf_tree.specs.Problem.{Problem}
+use Rattle.mapf_tree.specs.Tree.{PlannedNode, IsMember, root_of, key, key_rank, IsFirstSolution, IsAnswer}
+use Rattle.mapf_tree.specs.Nodes.{Node, AllStand, HasNodeFor}
+use Rattle.mapf_tree.specs.Search.{Searched, IsReached, IsChild, IsWaiting, NoneSolves, EachOnce}
 
--- with no pair taken, the root waits if it is in the tree
+-- no solution was reached, and just those wait that are to wait
+pub record IsSearchAt (problem : Problem) (last : Option (List ℕ)) (Waits : PlannedNode → Type 0) : Type 0 where
+  pub waits : (m : PlannedNode) → Waits m ↔ IsWaiting problem last m
+  pub none_yet : NoneSolves problem last
+
+-- after a turn that takes x those wait that waited, but for x, and the sides of x that are in the tree
+abbrev pub IsTurn : Problem → (PlannedNode → Type 0) → PlannedNode → (PlannedNode → Type 0) → Type 0
+IsTurn problem Waits x Next =
+    (m : PlannedNode) → Next m ↔ ((Waits m × (m ≢ x)) ⊎ (IsMember problem m × IsChild x m))
+
+-- with no node taken, the root waits if it is in the tree
 abbrev pub SearchStarts : Type 0
 SearchStarts =
-    (inst : Instance) (bound : ℕ) (waiting : List Planned) →
-    ((m : Planned) → Contains waiting m ↔ (IsMember inst bound m × (m.0 ≡ root_pair inst))) → IsSearchAt inst bound None waiting
+    (problem : Problem) (waiting : List PlannedNode) →
+    ((m : PlannedNode) → Contains waiting m ↔ (IsMember problem m × (m.0 ≡ root_of problem))) → IsSearchAt problem None (Contains waiting)
 
--- a turn takes the next pair of the tree in key order
+-- a turn takes the next node of the tree in key order
 abbrev pub TurnTakesNext : Type 0
 TurnTakesNext =
-    (inst : Instance) (bound : ℕ) (last : Option (List ℕ)) (waiting next : List Planned) (x : Planned) →
-    IsSearchAt inst bound last waiting → IsLeast key (Contains waiting) x → ¬ HasNoConflict x.1 → IsTurn inst bound waiting x next →
-    IsSearchAt inst bound (Some (key x)) next
-    × ((m : Planned) → IsMember inst bound m → IsReached (Some (key x)) m ↔ (IsReached last m ⊎ (m ≡ x)))
+    (problem : Problem) (last : Option (List ℕ)) (waiting next : List PlannedNode) (x : PlannedNode) →
+    IsSearchAt problem last (Contains waiting) → IsLeast key (Contains waiting) x → ¬ HasNoConflict x.1 → IsTurn problem (Contains waiting) x (Contains next) →
+    IsSearchAt problem (Some (key x)) (Contains next)
+    × ((m : PlannedNode) → IsMember problem m → IsReached (Some (key x)) m ↔ (IsReached last m ⊎ (m ≡ x)))
 
 -- the least of those that wait is the first solution, if its plan has no conflict; and if none waits, there is no solution
 abbrev pub EndsAtAnswer : Type 0
 EndsAtAnswer =
-    (inst : Instance) (bound : ℕ) (last : Option (List ℕ)) (waiting : List Planned) → IsSearchAt inst bound last waiting →
-    ((x : Planned) → IsLeast key (Contains waiting) x → HasNoConflict x.1 → IsFirstSolution inst bound x)
-    × (((x : Planned) → ¬ Contains waiting x) → IsAnswer inst bound None)
+    (problem : Problem) (last : Option (List ℕ)) (waiting : List PlannedNode) → IsSearchAt problem last (Contains waiting) →
+    ((x : PlannedNode) → IsLeast key (Contains waiting) x → HasNoConflict x.1 → IsFirstSolution problem x)
+    × (((x : PlannedNode) → ¬ Contains waiting x) → IsAnswer problem None)
 
--- each once
-abbrev pub EachOnce : List Planned → Type 0
-EachOnce [] = Unit {0}
-EachOnce (m ∷ ms) = (¬ Contains ms m) × EachOnce ms
-
--- a number that the taken pairs of the tree never exceed
+-- a number that the taken nodes of the tree never exceed
 abbrev pub TakenAreBounded : Type 0
 TakenAreBounded =
-    (inst : Instance) (bound : ℕ) →
-    (size : ℕ) × ((taken : List Planned) → EachOnce taken → AllByRecursion (IsMember inst bound) taken → length taken ≤ size)
+    (problem : Problem) → (size : ℕ) × ((taken : List PlannedNode) → EachOnce taken → AllByRecursion (IsMember problem) taken → length taken ≤ size)
+
+-- the least waiting node x is taken, and its sides in the tree wait
+pub record IsTurnOf (problem : Problem) (old new : List Node) (x : PlannedNode) : Type 0 where
+  pub least : IsLeast key (HasNodeFor problem old) x
+  pub stand : AllStand problem new
+  pub next : IsTurn problem (HasNodeFor problem old) x (HasNodeFor problem new)
+
+-- nothing waits; or the plan of the taken node has no conflict; or it has one, and the sides wait
+abbrev pub IsTurned : Problem → List Node → List Node → Turn → Type 0
+IsTurned problem old new turn.Empty = (old ≡ []) × (new ≡ [])
+IsTurned problem old new (turn.Solved k plan) =
+    (x : PlannedNode) × IsTurnOf problem old new x × HasNoConflict x.1 × (key_rank k ≡ key x) × (plan ≡ x.1) × (k.cost ≡ plan_cost plan)
+IsTurned problem old new (turn.Branched k) = (x : PlannedNode) × IsTurnOf problem old new x × (¬ HasNoConflict x.1) × (key_rank k ≡ key x)
+
+-- one node more of the tree is reached
+abbrev pub TakesOne : Problem → Option (List ℕ) → Option (List ℕ) → Type 0
+TakesOne problem from to =
+    (x : PlannedNode) × IsMember problem x × (¬ IsReached from x)
+    × ((m : PlannedNode) → IsMember problem m → IsReached to m ↔ (IsReached from m ⊎ (m ≡ x)))
+
+-- one node is taken; or there is an answer, from one node more or because nothing waits; or memory was wanting
+abbrev pub IsStep : Searched → Searched → Result Progress NoMemory → Type 0
+IsStep old new (Ok Working) = (new.outcome ≡ Ok None) × TakesOne old.problem old.last new.last
+IsStep old new (Ok Finished) =
+    ((given : Answer) × (new.outcome ≡ Ok (Some given))) × ((new.last ≡ old.last) ⊎ TakesOne old.problem old.last new.last)
+IsStep old new (Err _) = IsErr new.outcome

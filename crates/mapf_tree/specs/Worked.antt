@@ -1,18 +1,17 @@
 -- The roots of two worked trees (the constraint tree is of Sharon et al. 2015; the grids are this project's).
 use Rattle.std.specs.Prelude.{true, false, [], ◌∷◌, ◌≡◌, ℕ, List}
-use Rattle.mapf_grid.specs.Instance.{Instance}
 use Rattle.mapf_plan.specs.declared.conflict.Conflict.TheVariants.{Vertex, Swapping}
 use Rattle.mapf_plan.specs.Plan.{IsFirstConflict}
 use Rattle.mapf_low.specs.declared.constraint.Constraint.TheVariants as constraint
 use Rattle.mapf_tree.specs.declared.side.Side.TheVariants.{Left, Right}
-use Rattle.mapf_tree.specs.Tree.{HasPlan, root_pair, side_of}
+use Rattle.mapf_tree.specs.Problem.{Problem}
+use Rattle.mapf_tree.specs.Tree.{HasPlan, root_of, side_of}
 
 -- two agents are to change places on a free grid of two rows and two columns
-abbrev pub two_by_two : Instance
+abbrev pub two_by_two : Problem
 two_by_two = record {
-  grid = record { width = 2; height = 2; free = true ∷ true ∷ true ∷ true ∷ [] };
-  starts = 0 ∷ 1 ∷ [];
-  goals = 1 ∷ 0 ∷ [];
+  inst = record { grid = record { width = 2; height = 2; free = true ∷ true ∷ true ∷ true ∷ [] }; starts = 0 ∷ 1 ∷ []; goals = 1 ∷ 0 ∷ [] };
+  bound = 4;
 }
 
 -- each goes straight to its goal
@@ -20,11 +19,10 @@ abbrev pub two_by_two_plan : List (List ℕ)
 two_by_two_plan = (0 ∷ 1 ∷ []) ∷ (1 ∷ 0 ∷ []) ∷ []
 
 -- one agent is on its goal, in the middle of a corridor of three cells with a bay below it; the other is to pass
-abbrev pub corridor_with_bay : Instance
+abbrev pub corridor_with_bay : Problem
 corridor_with_bay = record {
-  grid = record { width = 3; height = 2; free = true ∷ true ∷ true ∷ false ∷ true ∷ false ∷ [] };
-  starts = 1 ∷ 0 ∷ [];
-  goals = 1 ∷ 2 ∷ [];
+  inst = record { grid = record { width = 3; height = 2; free = true ∷ true ∷ true ∷ false ∷ true ∷ false ∷ [] }; starts = 1 ∷ 0 ∷ []; goals = 1 ∷ 2 ∷ [] };
+  bound = 4;
 }
 
 -- one agent stays, and the other goes through it
@@ -33,11 +31,11 @@ corridor_plan = (1 ∷ []) ∷ (0 ∷ 1 ∷ 2 ∷ []) ∷ []
 
 -- the plans of both roots, the conflicts that they branch on, and what the sides forbid
 pub record WorkedRoot : Type 0 where
-  pub swap_plan : HasPlan two_by_two 4 (root_pair two_by_two) two_by_two_plan
+  pub swap_plan : HasPlan two_by_two (root_of two_by_two) two_by_two_plan
   pub swap_conflict : IsFirstConflict two_by_two_plan (Swapping 0 1 0 1 1)
-  pub swap_left : (side_of (root_pair two_by_two) (Swapping 0 1 0 1 1) Left).constraints ≡ (constraint.Edge 0 1 1 ∷ []) ∷ [] ∷ []
-  pub swap_right : (side_of (root_pair two_by_two) (Swapping 0 1 0 1 1) Right).constraints ≡ [] ∷ (constraint.Edge 1 0 1 ∷ []) ∷ []
-  pub bay_plan : HasPlan corridor_with_bay 4 (root_pair corridor_with_bay) corridor_plan
+  pub swap_left : (side_of (root_of two_by_two) (Swapping 0 1 0 1 1) Left).constraints ≡ (constraint.Edge 0 1 1 ∷ []) ∷ [] ∷ []
+  pub swap_right : (side_of (root_of two_by_two) (Swapping 0 1 0 1 1) Right).constraints ≡ [] ∷ (constraint.Edge 1 0 1 ∷ []) ∷ []
+  pub bay_plan : HasPlan corridor_with_bay (root_of corridor_with_bay) corridor_plan
   pub bay_conflict : IsFirstConflict corridor_plan (Vertex 0 1 1 1)
-  pub bay_left : (side_of (root_pair corridor_with_bay) (Vertex 0 1 1 1) Left).constraints ≡ (constraint.Vertex 1 1 ∷ []) ∷ [] ∷ []
-  pub bay_right : (side_of (root_pair corridor_with_bay) (Vertex 0 1 1 1) Right).constraints ≡ [] ∷ (constraint.Vertex 1 1 ∷ []) ∷ []
+  pub bay_left : (side_of (root_of corridor_with_bay) (Vertex 0 1 1 1) Left).constraints ≡ (constraint.Vertex 1 1 ∷ []) ∷ [] ∷ []
+  pub bay_right : (side_of (root_of corridor_with_bay) (Vertex 0 1 1 1) Right).constraints ≡ [] ∷ (constraint.Vertex 1 1 ∷ []) ∷ []

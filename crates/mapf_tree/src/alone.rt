@@ -8,8 +8,8 @@ use std::alloc::Global;
 
 /// Solves a problem on one thread.
 pub fn solve_alone(alloc: Global, problem: &Problem) -> Result<Answer, NoMemory>
-    ensures answer { IfOk result (IsAnswerOf problem.now.inst problem.now.bound) }
-    ensures best { IfOk result (IsBestAnswer problem.now.inst problem.now.bound) }
+    ensures answer { IfOk result (IsAnswerOf problem.now) }
+    ensures best { IfOk result (IsBestAnswer problem.now) }
 {
     let mut children = ByChild::new(alloc);
     let search = Search::new(alloc, problem)?;

@@ -3,7 +3,7 @@ ghost use Rattle.std.specs.Cmp.Lexicographic.{slice_cmp, lists_total};
 ghost use Rattle.std.specs.Ordering.{eq_by_cmp, as_partial_cmp, nat_cmp, on};
 ghost use Rattle.std.proofs.Common.{rules};
 ghost use Rattle.std.specs.Cmp.Rules.{comparing};
-ghost use Rattle.mapf_tree.specs.Nodes.{shown_key};
+ghost use Rattle.mapf_tree.specs.Nodes.{node_key};
 
 use crate::Node;
 use std::cmp::Ordering;
@@ -16,17 +16,17 @@ pub(crate) struct ByKey {
 }
 
 impl Model for ByKey {
-    ghost use Rattle.mapf_tree.specs.Nodes.{Shown};
+    ghost use Rattle.mapf_tree.specs.Nodes.{Node};
 
-    ghost Value = { Shown };
+    ghost Value = { Node };
 
     ghost view = { λ w. w.node };
 }
 
 impl PartialEq for ByKey {
-    ghost eq = { eq_by_cmp (on shown_key (slice_cmp nat_cmp)) };
+    ghost eq = { eq_by_cmp (on node_key (slice_cmp nat_cmp)) };
 
-    ghost laws = { partial_equiv_from_equiv (eq_by_cmp_equiv (on_total shown_key (lists_total nat_cmp_total))) };
+    ghost laws = { partial_equiv_from_equiv (eq_by_cmp_equiv (on_total node_key (lists_total nat_cmp_total))) };
 
     fn eq(&self, other: &ByKey) -> bool {
         self.cmp(other).is_eq()
@@ -34,13 +34,13 @@ impl PartialEq for ByKey {
 }
 
 impl Eq for ByKey {
-    ghost laws = { eq_by_cmp_equiv (on_total shown_key (lists_total nat_cmp_total)) };
+    ghost laws = { eq_by_cmp_equiv (on_total node_key (lists_total nat_cmp_total)) };
 }
 
 impl PartialOrd for ByKey {
-    ghost partial_cmp = { as_partial_cmp (on shown_key (slice_cmp nat_cmp)) };
+    ghost partial_cmp = { as_partial_cmp (on node_key (slice_cmp nat_cmp)) };
 
-    ghost laws = { partial_order_from_total (on_total shown_key (lists_total nat_cmp_total)) };
+    ghost laws = { partial_order_from_total (on_total node_key (lists_total nat_cmp_total)) };
 
     fn partial_cmp(&self, other: &ByKey) -> Option<Ordering> {
         Some(self.cmp(other))
@@ -48,9 +48,9 @@ impl PartialOrd for ByKey {
 }
 
 impl Ord for ByKey {
-    ghost cmp = { on shown_key (slice_cmp nat_cmp) };
+    ghost cmp = { on node_key (slice_cmp nat_cmp) };
 
-    ghost total = { on_total shown_key (lists_total nat_cmp_total) };
+    ghost total = { on_total node_key (lists_total nat_cmp_total) };
 
     ghost matches_partial_cmp = { Prim.search (comparing, rules) };
 

@@ -4,7 +4,7 @@ ghost use Rattle.std.specs.Prelude.{◌≡◌, ◌≢◌, ◌↔◌, ◌<◌, �
 ghost use Rattle.std.specs.Arc.{arc_value};
 ghost use Rattle.mapf_plan.specs.Plan.{path_of};
 ghost use Rattle.mapf_low.specs.declared.constraint.Constraint.{Constraint};
-ghost use Rattle.mapf_tree.specs.Changes.{changed_plan, changed_sets};
+ghost use Rattle.mapf_tree.specs.Nodes.{changed_plan, changed_sets};
 
 use crate::change::Change;
 use crate::current_paths::CurrentPaths;

@@ -12,7 +12,7 @@ pub(crate) struct Change {
 
 impl Model for Change {
     ghost use Rattle.mapf_low.specs.Kept.{HasTwoEnds};
-    ghost use Rattle.mapf_tree.specs.Changes.{Changed};
+    ghost use Rattle.mapf_tree.specs.Nodes.{Changed};
 
     ghost Value = { Changed };
 

@@ -1,10 +1,7 @@
-ghost use Rattle.std.specs.Prelude.{◌≡◌, IfOk, IsSome, Some};
-ghost use Rattle.mapf_plan.specs.declared.conflict.Conflict.{Conflict};
+ghost use Rattle.std.specs.Prelude.{IfOk};
 ghost use Rattle.mapf_tree.specs.Problem.{Problem};
-ghost use Rattle.mapf_tree.specs.Search.{Planned};
-ghost use Rattle.mapf_tree.specs.Nodes.{Shows};
-ghost use Rattle.mapf_tree.specs.Waiting.{AllShow};
-ghost use Rattle.mapf_tree.specs.Family.{IsSide};
+ghost use Rattle.mapf_tree.specs.Nodes.{AllStand};
+ghost use Rattle.mapf_tree.specs.Family.{IsBranching, IsChildOf};
 
 use crate::{Node, OpenList, Problem, Side, child};
 use mapf_grid::NoMemory;
@@ -21,18 +18,15 @@ pub trait Children {
         node: &Node,
     ) -> Result<(Option<Node>, Option<Node>), NoMemory>
         requires serves { serves self.old problem.now }
-        requires node { (m : Planned) × Shows problem.now.inst problem.now.bound node.now m }
-        requires conflict { IsSome node.now.conflict }
+        requires branching { IsBranching problem.now node.now }
         ensures serves { serves self.new problem.now }
-        ensures left { (m : Planned) (c : Conflict) → Shows problem.now.inst problem.now.bound node.now m → node.now.conflict ≡ Some c
-            → IfOk result (λ sides. IsSide problem.now m c Side.Left sides.0) }
-        ensures right { (m : Planned) (c : Conflict) → Shows problem.now.inst problem.now.bound node.now m → node.now.conflict ≡ Some c
-            → IfOk result (λ sides. IsSide problem.now m c Side.Right sides.1) };
+        ensures left { IfOk result (λ sides. IsChildOf problem.now node.now Side.Left sides.0) }
+        ensures right { IfOk result (λ sides. IsChildOf problem.now node.now Side.Right sides.1) };
 
     /// Is told which nodes wait, before one of them is taken; it may work ahead.
     fn ahead(&mut self, problem: &Problem, waiting: &OpenList)
         requires serves { serves self.old problem.now }
-        requires nodes { AllShow problem.now waiting.now }
+        requires nodes { AllStand problem.now waiting.now }
         ensures serves { serves self.new problem.now };
 }
 

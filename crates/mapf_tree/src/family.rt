@@ -1,11 +1,8 @@
 //! The members of the constraint tree: its root, and the children of a node.
 
-ghost use Rattle.std.specs.Prelude.{◌≡◌, ◌<◌, ◌≤◌, [], length, IfOk, IsSome, Some, None, MatchOption};
-ghost use Rattle.mapf_plan.specs.declared.conflict.Conflict.{Conflict};
+ghost use Rattle.std.specs.Prelude.{◌≡◌, ◌<◌, ◌≤◌, [], length, IfOk, None, MatchOption};
 ghost use Rattle.mapf_plan.specs.Plan.{plan_cost};
-ghost use Rattle.mapf_tree.specs.Search.{Planned};
-ghost use Rattle.mapf_tree.specs.Nodes.{Shows};
-ghost use Rattle.mapf_tree.specs.Family.{AreRootPaths, IsOwn, IsOwnWithin, IsRoot, IsSide, Leaves};
+ghost use Rattle.mapf_tree.specs.Family.{AreRootPaths, IsBranching, IsChildOf, IsOwn, IsOwnWithin, IsRoot, Leaves};
 
 use crate::change::Change;
 use crate::sides::{agent_of, constraint_of};
@@ -50,10 +47,8 @@ pub fn child(
     node: &Node,
     side: Side,
 ) -> Result<Option<Node>, NoMemory>
-    requires node { (m : Planned) × Shows problem.now.inst problem.now.bound node.now m }
-    requires conflict { IsSome node.now.conflict }
-    ensures { (m : Planned) (c : Conflict) → Shows problem.now.inst problem.now.bound node.now m → node.now.conflict ≡ Some c
-        → IfOk result (IsSide problem.now m c side) }
+    requires { IsBranching problem.now node.now }
+    ensures { IfOk result (IsChildOf problem.now node.now side) }
 {
     let conflict = node.conflict().unwrap();
     let agent = agent_of(&conflict, side);

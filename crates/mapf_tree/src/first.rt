@@ -1,6 +1,6 @@
 ghost use Rattle.std.specs.Prelude.{length};
 ghost use Rattle.std.specs.Iterator.{at_most};
-ghost use Rattle.mapf_tree.specs.Firsts.{GivesFirst};
+ghost use Rattle.mapf_tree.specs.OpenList.{GivesFirst};
 
 use crate::Node;
 use crate::by_key::ByKey;
@@ -16,9 +16,9 @@ pub struct First<'a> {
 
 impl<'a> Model for First<'a> {
     ghost use Rattle.std.specs.Prelude.{List, take};
-    ghost use Rattle.mapf_tree.specs.Nodes.{Shown};
+    ghost use Rattle.mapf_tree.specs.Nodes.{Node};
 
-    ghost Value = { List Shown };
+    ghost Value = { List Node };
 
     ghost view = { λ f. take f.left f.nodes };
 }

@@ -1,6 +1,6 @@
 ghost use Rattle.std.specs.Prelude.{◌↔◌, IsTrue};
 ghost use Rattle.mapf_grid.specs.Least.{Precedes};
-ghost use Rattle.mapf_tree.specs.Keys.{key_rank};
+ghost use Rattle.mapf_tree.specs.Tree.{key_rank};
 
 use crate::Side;
 

@@ -1,11 +1,7 @@
 //! What holds of the constraint tree, its answer and a search in it: functions that do nothing,
 //! each with one law as its contract.
 
-ghost use Rattle.mapf_tree.specs.OneAgent.{OneAgentsAnswer};
-ghost use Rattle.mapf_tree.specs.Sides.{ObeysOneSide, ConstraintIsNew, ConstraintIsEarly, ObeyedIsInCost};
-ghost use Rattle.mapf_tree.specs.Family.{NoneIsDearer};
-ghost use Rattle.mapf_tree.specs.Finite.{DepthIsBounded, TreeIsFinite, AnswerExists};
-ghost use Rattle.mapf_tree.specs.Optimal.{AnswerIsUnique, AnswerIsOptimum, NoneIsNone};
+ghost use Rattle.mapf_tree.specs.Laws.{OneAgentsAnswer, ObeysOneSide, ConstraintIsNew, ConstraintIsEarly, ObeyedIsInCost, NoneIsDearer, DepthIsBounded, TreeIsFinite, AnswerExists, AnswerIsUnique, AnswerIsOptimum, NoneIsNone};
 ghost use Rattle.mapf_tree.specs.Turns.{SearchStarts, TurnTakesNext, EndsAtAnswer, TakenAreBounded};
 ghost use Rattle.mapf_tree.specs.Worked.{WorkedRoot};
 
@@ -14,12 +10,12 @@ pub fn one_agents_answer()
     ensures { OneAgentsAnswer }
 {}
 
-/// A valid plan that obeys a pair of the tree obeys one of the sides of the conflict of the pair's plan.
+/// A valid plan that obeys a node of the tree obeys one of the sides of the conflict of the node's plan.
 pub fn obeys_one_side()
     ensures { ObeysOneSide }
 {}
 
-/// What a side forbids its agent, the pair doesn't forbid it yet.
+/// What a side forbids its agent, the node doesn't forbid it yet.
 pub fn constraint_is_new()
     ensures { ConstraintIsNew }
 {}
@@ -29,12 +25,12 @@ pub fn constraint_is_early()
     ensures { ConstraintIsEarly }
 {}
 
-/// If a valid plan within the bound obeys a pair, the pair has a plan, which costs no more.
+/// If a valid plan within the bound obeys a node, the node has a plan, which costs no more.
 pub fn obeyed_is_in_cost()
     ensures { ObeyedIsInCost }
 {}
 
-/// An agent's path in the plan of a pair costs at most what the other agents' paths leave of the bound.
+/// An agent's path in the plan of a node costs at most what the other agents' paths leave of the bound.
 pub fn none_is_dearer()
     ensures { NoneIsDearer }
 {}
@@ -44,7 +40,7 @@ pub fn depth_is_bounded()
     ensures { DepthIsBounded }
 {}
 
-/// The tree is finite: a list holds exactly its pairs.
+/// The tree is finite: a list holds exactly its nodes.
 pub fn tree_is_finite()
     ensures { TreeIsFinite }
 {}
@@ -74,7 +70,7 @@ pub fn search_starts()
     ensures { SearchStarts }
 {}
 
-/// A turn takes the next pair of the tree, by cost, depth and name.
+/// A turn takes the next node of the tree, by cost, depth and name.
 pub fn turn_takes_next()
     ensures { TurnTakesNext }
 {}
@@ -84,7 +80,7 @@ pub fn ends_at_answer()
     ensures { EndsAtAnswer }
 {}
 
-/// A search takes no more pairs than a number that the instance and the bound give.
+/// A search takes no more nodes than a number that the instance and the bound give.
 pub fn taken_are_bounded()
     ensures { TakenAreBounded }
 {}

@@ -2,7 +2,6 @@
 #![tactic(auto)]
 
 mod alone;
-mod apart;
 mod by_key;
 mod chain;
 mod change;
@@ -19,6 +18,7 @@ mod progress;
 mod search;
 mod side;
 mod sides;
+mod taken;
 mod turn;
 
 pub use alone::solve_alone;

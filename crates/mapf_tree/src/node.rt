@@ -1,7 +1,7 @@
 ghost use Rattle.std.specs.Prelude.{◌≡◌, ◌↔◌, ◌+◌, ◌<◌, ◌≤◌, [], ◌∷◌, ◌++◌, length, replicate, slice_get, slice_set, slice_index_or, map, Some, IfOk, IsSome, MatchOption, Contains};
 ghost use Rattle.std.specs.Arc.{arc_value};
 ghost use Rattle.mapf_plan.specs.Plan.{path_of, plan_cost};
-ghost use Rattle.mapf_tree.specs.Changes.{Changed};
+ghost use Rattle.mapf_tree.specs.Nodes.{Changed};
 
 use crate::chain::{constraints_after, path_after, paths_after, shared};
 use crate::change::Change;
@@ -28,19 +28,18 @@ pub struct Node {
 impl Model for Node {
     ghost use Rattle.std.specs.Prelude.{map};
     ghost use Rattle.std.specs.Arc.{arc_value};
-    ghost use Rattle.mapf_tree.specs.Nodes.{Shown, shown_of};
-    ghost use Rattle.mapf_tree.specs.NodeFacts.{AgreesWith};
+    ghost use Rattle.mapf_tree.specs.Nodes.{Node, node_of, AgreesWith};
 
-    ghost Value = { Shown };
+    ghost Value = { Node };
 
-    ghost view = { λ n. shown_of n.key.name.items n.root.value (map arc_value n.changes.items) n.conflict };
+    ghost view = { λ n. node_of n.key.name.items n.root.value (map arc_value n.changes.items) n.conflict };
 
-    ghost invariant = { λ n. AgreesWith n.key.cost n.key.depth (shown_of n.key.name.items n.root.value (map arc_value n.changes.items) n.conflict) };
+    ghost invariant = { λ n. AgreesWith n.key.cost n.key.depth (node_of n.key.name.items n.root.value (map arc_value n.changes.items) n.conflict) };
 }
 
 impl Node {
-    ghost use Rattle.mapf_tree.specs.Keys.{key_rank};
-    ghost use Rattle.mapf_tree.specs.Nodes.{shown_key, IsConflictOf};
+    ghost use Rattle.mapf_tree.specs.Tree.{key_rank};
+    ghost use Rattle.mapf_tree.specs.Nodes.{node_key, IsConflictOf};
 
     /// The node of no turn: no agent has a constraint, and this is the plan.
     pub(crate) fn root(alloc: Global, plan: Plan) -> Result<Node, NoMemory>
@@ -135,7 +134,7 @@ impl Node {
 
     /// Where the node stands in the order of a search.
     pub fn key(&self) -> &Key
-        ensures rank { key_rank result.now ≡ shown_key self.now }
+        ensures rank { key_rank result.now ≡ node_key self.now }
         ensures name { result.now.name.items ≡ self.now.name }
     {
         &self.key

@@ -14,9 +14,9 @@ pub struct OpenList {
 
 impl Model for OpenList {
     ghost use Rattle.std.specs.Prelude.{List};
-    ghost use Rattle.mapf_tree.specs.Nodes.{Shown};
+    ghost use Rattle.mapf_tree.specs.Nodes.{Node};
 
-    ghost Value = { List Shown };
+    ghost Value = { List Node };
 
     ghost use Rattle.mapf_tree.specs.OpenList.{IsRising};
 

@@ -1,6 +1,6 @@
 ghost use Rattle.std.specs.Prelude.{◌≡◌, ◌<◌, ◌≤◌, IfOk, IfErr, length, slice_index};
 ghost use Rattle.mapf_low.specs.Walk.{AreDistances};
-ghost use Rattle.mapf_tree.specs.Ready.{HasDistances};
+ghost use Rattle.mapf_tree.specs.Problem.{HasDistances};
 
 use mapf_grid::{Instance, NoMemory};
 use mapf_low::Distances;
@@ -16,14 +16,13 @@ pub struct Problem {
 }
 
 impl Model for Problem {
-    ghost use Rattle.mapf_tree.specs.Problem.{Problem};
-    ghost use Rattle.mapf_tree.specs.Ready.{IsReady};
+    ghost use Rattle.mapf_tree.specs.Problem.{Problem, IsReady};
 
     ghost Value = { Problem };
 
     ghost view = { λ p. record { inst = p.instance; bound = p.bound } };
 
-    ghost invariant = { λ p. IsReady p.instance p.bound p.distances.items };
+    ghost invariant = { λ p. IsReady (record { inst = p.instance; bound = p.bound }) p.distances.items };
 }
 
 impl Problem {

@@ -1,7 +1,7 @@
 ghost use Rattle.std.specs.Prelude.{◌≡◌, ◌≤◌, ℕ, Ok, Err, Some, None, IfOk, OnErr, IsErr, IsSome};
 ghost use Rattle.std.specs.Option.{option_copied, option_map};
 ghost use Rattle.mapf_plan.specs.declared.answer.Answer.{Answer};
-ghost use Rattle.mapf_tree.specs.Keys.{key_rank};
+ghost use Rattle.mapf_tree.specs.Tree.{key_rank};
 
 use crate::turn::{Turn, put_if_some, take_turn};
 use crate::{Children, Key, Node, OpenList, Problem, Progress, root};
@@ -10,7 +10,7 @@ use mapf_plan::Answer;
 use std::alloc::Global;
 use std::marker::Model;
 
-/// A search of the constraint tree, best first: it takes the pairs of the tree by cost, depth and name.
+/// A search of the constraint tree, best first: it takes the nodes of the tree by cost, depth and name.
 #[derive(Drop)]
 pub struct Search<'p> {
     problem: &'p Problem,
@@ -21,8 +21,8 @@ pub struct Search<'p> {
 
 impl<'p> Model for Search<'p> {
     ghost use Rattle.std.specs.Option.{option_map};
-    ghost use Rattle.mapf_tree.specs.Keys.{key_rank};
-    ghost use Rattle.mapf_tree.specs.Searched.{Searched, IsLawful};
+    ghost use Rattle.mapf_tree.specs.Tree.{key_rank};
+    ghost use Rattle.mapf_tree.specs.Search.{Searched, IsLawful};
 
     ghost Value = { Searched };
 
@@ -35,10 +35,10 @@ impl<'p> Search<'p> {
     ghost use Rattle.mapf_tree.specs.Problem.{Problem};
     ghost use Rattle.mapf_tree.specs.Family.{IsRoot};
     ghost use Rattle.mapf_tree.specs.Answered.{IsAnswerOf, IsBestAnswer};
-    ghost use Rattle.mapf_tree.specs.Searched.{IsSearch, IsEnded, TakesBetween, answer_of};
-    ghost use Rattle.mapf_tree.specs.Stepped.{IsStep};
+    ghost use Rattle.mapf_tree.specs.Search.{IsSearch, IsEnded, TakesBetween, answer_of};
+    ghost use Rattle.mapf_tree.specs.Turns.{IsStep};
 
-    /// A search that has taken no pair yet.
+    /// A search that has taken no node yet.
     pub fn new(alloc: Global, problem: &'p Problem) -> Result<Search<'p>, NoMemory>
         ensures problem { IfOk result (λ s. s.problem ≡ problem.now) }
         ensures search { IfOk result IsSearch }
@@ -77,10 +77,10 @@ impl<'p> Search<'p> {
         ensures problem { self.new.problem ≡ self.old.problem }
         ensures serves { C.serves children.new self.new.problem }
 
-        // What is taken and what waits; exactly so many pairs were taken, or there is the answer.
+        // What is taken and what waits; exactly so many nodes were taken, or there is the answer.
         ensures search { IsSearch self.new }
         ensures working { result ≡ Ok Progress.Working → (self.new.outcome ≡ Ok None) × TakesBetween self.new.problem self.old.last self.new.last turns }
-        ensures finished { result ≡ Ok Progress.Finished → (given : Answer) × (self.new.outcome ≡ Ok (Some given)) × IsAnswerOf self.new.problem.inst self.new.problem.bound given }
+        ensures finished { result ≡ Ok Progress.Finished → (given : Answer) × (self.new.outcome ≡ Ok (Some given)) × IsAnswerOf self.new.problem given }
         ensures no_memory { OnErr result (IsErr self.new.outcome) }
 
         // With the answer no more were taken than it needs: the last one is the solution, or nothing waits.
@@ -106,8 +106,8 @@ impl<'p> Search<'p> {
     /// Goes on until there is the answer. It returns, since the tree is finite.
     pub fn finish<C: Children>(self, children: &mut C) -> Result<Answer, NoMemory>
         requires { C.serves children.old self.problem }
-        ensures answer { IfOk result (IsAnswerOf self.entry.problem.inst self.entry.problem.bound) }
-        ensures best { IfOk result (IsBestAnswer self.entry.problem.inst self.entry.problem.bound) }
+        ensures answer { IfOk result (IsAnswerOf self.entry.problem) }
+        ensures best { IfOk result (IsBestAnswer self.entry.problem) }
     {
         let mut search = self;
         while let Progress::Working = search.go(children, 1)? {}

@@ -1,9 +1,9 @@
 ghost use Rattle.std.specs.Prelude.{◌≡◌, IfOk, OnOk};
 ghost use Rattle.mapf_tree.specs.OpenList.{IsPutIfSome};
-ghost use Rattle.mapf_tree.specs.Turned.{IsTurned};
-ghost use Rattle.mapf_tree.specs.Waiting.{AllShow};
+ghost use Rattle.mapf_tree.specs.Turns.{IsTurned};
+ghost use Rattle.mapf_tree.specs.Nodes.{AllStand};
 
-use crate::apart::{key_and_plan, key_of};
+use crate::taken::{key_and_plan, key_of};
 use crate::{Children, Key, Node, OpenList, Problem};
 use mapf_grid::NoMemory;
 use mapf_plan::Plan;
@@ -26,7 +26,7 @@ pub(crate) fn take_turn<C: Children>(
     children: &mut C,
 ) -> Result<Turn, NoMemory>
     requires serves { C.serves children.old problem.now }
-    requires nodes { AllShow problem.now waiting.old }
+    requires nodes { AllStand problem.now waiting.old }
     ensures serves { C.serves children.new problem.now }
     ensures turned { IfOk result (IsTurned problem.now waiting.old waiting.new) }
 {

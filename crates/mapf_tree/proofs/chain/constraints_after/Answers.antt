@@ -1,7 +1,7 @@
 use Rattle.std.proofs.Common.{◌↔◌, ◌<◌, [], take, map, replicate, get_or, Contains, subst, sym, arith}
 use Rattle.std.specs.Arc.{arc_value}
 use Rattle.std.proofs.lemmas.List.{length-replicate}
-use Rattle.mapf_tree.specs.Changes.{changed_sets}
+use Rattle.mapf_tree.specs.Nodes.{changed_sets}
 use Rattle.mapf_tree.proofs.Chains.{chain_more, chain_whole, sets_more}
 use Rattle.mapf_tree.proofs.chain.constraints_after.Goals as goal
 

@@ -2,7 +2,7 @@ use Rattle.std.proofs.Common.{ℕ, ◌<◌, ◌↔◌, [], take, map, replicate,
 use Rattle.std.specs.Prelude.{slice_index_or}
 use Rattle.std.specs.Arc.{arc_value}
 use Rattle.mapf_low.specs.declared.constraint.Constraint.{Constraint}
-use Rattle.mapf_tree.specs.Changes.{changed_sets}
+use Rattle.mapf_tree.specs.Nodes.{changed_sets}
 use Rattle.mapf_tree.proofs.chain.constraints_after.Given as goal
 
 abbrev pub invariant-loop-change : goal.invariant-loop-change

@@ -1,6 +1,6 @@
 use Rattle.std.proofs.Common.{◌≡◌, ◌⊎◌, ◌↔◌, Contains, IfOk, subst}
 use Rattle.mapf_low.specs.declared.constraint.Constraint.{Constraint}
-use Rattle.mapf_tree.specs.Changes.{Changed}
+use Rattle.mapf_tree.specs.Nodes.{Changed}
 use Rattle.mapf_tree.proofs.chain.constraints_with.Goals as goal
 
 pub returns-then-change-agent-clause-own : goal.returns-then-change-agent-clause-own

@@ -1,7 +1,7 @@
 use Rattle.std.proofs.Common.{◌≡◌, take, map, subst, sym, arith}
 use Rattle.std.specs.Arc.{arc_value}
 use Rattle.mapf_plan.specs.Plan.{path_of}
-use Rattle.mapf_tree.specs.Changes.{changed_plan}
+use Rattle.mapf_tree.specs.Nodes.{changed_plan}
 use Rattle.mapf_tree.proofs.Chains.{chain_more, path_more}
 use Rattle.mapf_tree.proofs.chain.path_after.Goals as goal
 

@@ -1,6 +1,6 @@
 use Rattle.std.proofs.Common.{◌≡◌, ◌<◌, take, map, set, subst, sym, ap, ◌∙◌, length, arith}
 use Rattle.std.specs.Arc.{arc_value}
-use Rattle.mapf_tree.specs.Changes.{changed_plan}
+use Rattle.mapf_tree.specs.Nodes.{changed_plan}
 use Rattle.mapf_tree.proofs.Chains.{chain_all, chain_more, changed_plan-push, length-changed_plan}
 use Rattle.mapf_tree.proofs.chain.paths_after.Goals as goal
 

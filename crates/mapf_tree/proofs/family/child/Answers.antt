@@ -2,7 +2,7 @@ use Rattle.std.proofs.Common.{◌≡◌, [], ◌<◌, length, get_or, set, Some,
 use Rattle.mapf_tree.specs.Tree.{agent_on, constraint_on}
 use Rattle.mapf_tree.specs.Nodes.{IsConflictOf}
 use Rattle.mapf_tree.specs.Family.{IsOwnWithin}
-use Rattle.mapf_tree.proofs.SideNodes.{with_same, within_bound, no_side, side_shown}
+use Rattle.mapf_tree.proofs.SideNodes.{with_same, within_bound, no_side, side_stands}
 use Rattle.mapf_tree.proofs.Branch.{agent_below}
 use Rattle.mapf_tree.proofs.family.child.Goals as goal
 
@@ -29,7 +29,7 @@ changed-requires-clause-small c =
 pub returns : goal.returns
 returns c m on shows is =
     let same : c.unwrap-conflict.result ≡ on = cc in
-    side_shown c.args.problem.now c.args.node.now m on c.args.side shows is c.agent_of-agent.result c.left_for-limit.result c.constraint_of-constraint.result c.in_ok-constraints-2.constraints
+    side_stands c.args.problem.now c.args.node.now m on c.args.side shows is c.agent_of-agent.result c.left_for-limit.result c.constraint_of-constraint.result c.in_ok-constraints-2.constraints
     c.in-Some.path (set c.args.node.now.plan c.agent_of-agent.result c.in-Some.path)
     (record {
       agent = c.agent_of-agent.ensures ∙ ap (λ x. agent_on x c.args.side) same;

@@ -1,7 +1,7 @@
 use Rattle.std.proofs.Common.{[], ap, ◌∙◌, subst, length, replicate, arith}
 use Rattle.mapf_plan.specs.Plan.{plan_cost}
 use Rattle.mapf_tree.specs.Nodes.{IsConflictOf}
-use Rattle.mapf_tree.proofs.RootNodes.{no_root, root_shown}
+use Rattle.mapf_tree.proofs.RootNodes.{no_root, root_stands}
 use Rattle.mapf_tree.proofs.family.root_with.Goals as goal
 
 pub returns-then-cost-from : goal.returns-then-cost-from
@@ -11,7 +11,7 @@ returns-then-cost-from c =
 
 pub returns : goal.returns
 returns c =
-    root_shown c.args.problem.now c.in_ok-root.field-0 c.args.paths.items c.requires
+    root_stands c.args.problem.now c.in_ok-root.field-0 c.args.paths.items c.requires
     (omega (arith, c.cost.ensures.cost, ap plan_cost c.of-plan.ensures))
     c.in_ok-root.ensures.name
     c.in_ok-root.ensures.changes

@@ -1,4 +1,4 @@
-use Rattle.mapf_tree.proofs.Taken.{taken_are_bounded}
+use Rattle.mapf_tree.proofs.TakenNodes.{taken_are_bounded}
 use Rattle.mapf_tree.proofs.laws.taken_are_bounded.Goals as goal
 
 pub returns : goal.returns

@@ -1,4 +1,4 @@
-use Rattle.mapf_tree.proofs.TurnLemmas.{solved_case, branched_case, conflict_there, conflict_absent}
+use Rattle.mapf_tree.proofs.TurnLemmas.{solved_case, branches, branched_case, conflict_there, conflict_absent}
 use Rattle.mapf_tree.proofs.turn.take_turn.Goals as goal
 
 pub returns-then-is_none-clause-turned : goal.returns-then-is_none-clause-turned
@@ -11,3 +11,8 @@ returns-clause-turned g c =
     branched_case c.args.problem.now c.args.waiting.now c.take_least.new.self c.put_if_some.new.waiting c.put_if_some-2.new.waiting c.in-Some.node c.key_of.result c.in_ok-left.left c.in_ok-left.right
     c.in-Some.ensures.taken c.in-Some.ensures.rising c.requires.nodes (conflict_there _ _ _ c.is_none.ensures c.conflict.ensures.conflict c.if-is_none.false)
     c.in_ok-left.ensures.left c.in_ok-left.ensures.right c.in_ok-put_if_some.ensures c.in_ok-put_if_some-2.ensures c.key_of.ensures.rank
+
+pub both-requires-clause-branching : goal.both-requires-clause-branching
+both-requires-clause-branching g c =
+    branches c.args.problem.now c.args.waiting.now c.take_least.new.self c.in-Some.node c.in-Some.ensures.taken c.requires.nodes
+    (conflict_there _ _ _ c.is_none.ensures c.conflict.ensures.conflict c.if-is_none.false)

@@ -2,8 +2,7 @@ use Rattle.std.proofs.Common.{◌≡◌, [], ◌∷◌, ◌++◌, map, set, subs
 use Rattle.std.proofs.lemmas.List.{map-append}
 use Rattle.std.specs.Arc.{arc_value}
 use Rattle.mapf_plan.specs.Plan.{plan_cost}
-use Rattle.mapf_tree.specs.Changes.{Changed}
-use Rattle.mapf_tree.specs.Nodes.{IsConflictOf}
+use Rattle.mapf_tree.specs.Nodes.{Changed, IsConflictOf}
 use Rattle.mapf_tree.proofs.Chains.{plan_turned, sets_turned, agrees_turned}
 use Rattle.mapf_tree.proofs.node.Node.changed.Goals as goal
 

@@ -1,8 +1,8 @@
 use Rattle.std.proofs.Common.{◌≡◌, Ok, Some, None, inl, inr, refl, subst, ap, ◌∙◌}
 use Rattle.std.specs.Option.{option_map}
-use Rattle.mapf_tree.specs.Keys.{key_rank}
-use Rattle.mapf_tree.specs.Searched.{Searched, TakesOne}
-use Rattle.mapf_tree.specs.Turned.{IsTurned}
+use Rattle.mapf_tree.specs.Tree.{key_rank}
+use Rattle.mapf_tree.specs.Search.{Searched}
+use Rattle.mapf_tree.specs.Turns.{TakesOne, IsTurned}
 use Rattle.mapf_tree.proofs.TurnLemmas.{branched_lawful, solved_lawful, empty_lawful}
 use Rattle.mapf_tree.proofs.search.Search.step.Goals as goal
 

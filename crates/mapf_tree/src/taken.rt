@@ -1,7 +1,7 @@
 ghost use Rattle.std.specs.Prelude.{◌≡◌, IfOk};
 ghost use Rattle.mapf_plan.specs.Plan.{plan_cost};
-ghost use Rattle.mapf_tree.specs.Keys.{key_rank};
-ghost use Rattle.mapf_tree.specs.Nodes.{shown_key};
+ghost use Rattle.mapf_tree.specs.Tree.{key_rank};
+ghost use Rattle.mapf_tree.specs.Nodes.{node_key};
 
 use crate::{Key, Node};
 use mapf_grid::NoMemory;
@@ -9,7 +9,7 @@ use mapf_plan::Plan;
 
 /// The key and the plan of a node that is taken.
 pub(crate) fn key_and_plan(node: Node) -> Result<(Key, Plan), NoMemory>
-    ensures rank { IfOk result (λ both. key_rank both.0 ≡ shown_key node) }
+    ensures rank { IfOk result (λ both. key_rank both.0 ≡ node_key node) }
     ensures plan { IfOk result (λ both. both.1 ≡ node.plan) }
     ensures cost { IfOk result (λ both. both.0.cost ≡ plan_cost node.plan) }
 {
@@ -19,7 +19,7 @@ pub(crate) fn key_and_plan(node: Node) -> Result<(Key, Plan), NoMemory>
 
 /// The key of a node that is taken.
 pub(crate) fn key_of(node: Node) -> Key
-    ensures rank { key_rank result ≡ shown_key node }
+    ensures rank { key_rank result ≡ node_key node }
     ensures cost { result.cost ≡ plan_cost node.plan }
 {
     let Node { key, .. } = node;
