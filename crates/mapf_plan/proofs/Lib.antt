@@ -13,4 +13,3 @@ pub mod TextFaults
 pub mod Written
 pub mod OneText
 pub mod OneReading
-pub mod Edits

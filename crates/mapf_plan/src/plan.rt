@@ -2,8 +2,6 @@ ghost use Rattle.std.specs.Prelude.{◌≡◌, ◌<◌, ◌≤◌, length, Match
 ghost use Rattle.mapf_grid.specs.Instance.{most_agents};
 ghost use Rattle.mapf_plan.specs.Plan.{most_stated, place, plan_cost, IsFirstConflict, HasNoConflict};
 
-mod copy;
-
 use crate::first_conflict::first_conflict_of_changed;
 use crate::{AgentPaths, Conflict, Path};
 use mapf_grid::Cell;

@@ -8,14 +8,12 @@ fn path(alloc: Global, start: u32, end: u32) -> Result<Path, Fail> {
 }
 
 #[test]
-fn copies_with_another_path_for_one_agent(rt: HostRuntime) -> Result<(), Fail> {
+fn a_copy_has_the_same_cells(rt: HostRuntime) -> Result<(), Fail> {
     let alloc = rt.alloc();
-    let plan = Plan::of(vec![in alloc; path(alloc, 0, 1)?, path(alloc, 2, 3)?]?);
-    let copy = plan.copy(alloc)?;
-    assert_eq!(rt; copy.at(1, 1), Cell::of(3));
-    let other = copy.with(alloc, 1, path(alloc, 4, 5)?)?;
-    assert_eq!(rt; other.at(0, 1), Cell::of(1));
-    assert_eq!(rt; other.at(1, 1), Cell::of(5));
+    let copy = path(alloc, 2, 3)?.copy(alloc)?;
+    assert_eq!(rt; copy.cost(), 1);
+    assert_eq!(rt; copy.at(0), Cell::of(2));
+    assert_eq!(rt; copy.at(1), Cell::of(3));
     Ok(())
 }
 
