@@ -1,20 +1,18 @@
 -- A child that was worked ahead is the child of the node that has the same name.
-use Rattle.std.proofs.Common.{◌≡◌, Bool, true, false, ◌&&◌, List, [], ◌∷◌, ℕ, Option, Some, None, IsSome, Result, Ok, Err, IfOk, refl, ap, sym, ◌∙◌, subst}
+use Rattle.std.proofs.Common.{◌≡◌, Bool, true, false, ◌&&◌, List, [], ◌∷◌, ℕ, Option, Some, None, IsSome, refl, ap, sym, ◌∙◌, subst}
 use lib.Pointwise.{pointwise}
-use Rattle.mapf_grid.specs.declared.fault.NoMemory.{NoMemory}
 use Rattle.mapf_plan.specs.declared.conflict.Conflict.{Conflict}
 use Rattle.mapf_plan.specs.Plan.{IsFirstConflict}
 use Rattle.mapf_plan.proofs.Conflicts.{same_first}
 use Rattle.mapf_tree.specs.declared.side.Side.{Side}
 use Rattle.mapf_tree.specs.declared.side.Side.TheVariants.{Left, Right}
 use Rattle.mapf_tree.specs.Problem.{Problem}
-use Rattle.mapf_tree.specs.Tree.{HasPlan}
-use Rattle.mapf_tree.specs.Search.{Planned}
-use Rattle.mapf_tree.specs.Family.{IsSide}
-use Rattle.mapf_tree.specs.Nodes.{Shown, Shows, IsConflictOf}
+use Rattle.mapf_tree.specs.Tree.{HasPlan, PlannedNode}
+use Rattle.mapf_tree.specs.Nodes.{Node, StandsFor, IsConflictOf}
 use Rattle.mapf_tree.proofs.Plans.{same_plan}
-use Rattle.mapf_tree.proofs.Unique.{same_pair}
-use Rattle.mapf_solve.specs.Rounds.{SideAsked, FitsSide, IsBranching, IsChildOf}
+use Rattle.mapf_tree.proofs.Unique.{same_node}
+use Rattle.mapf_tree.specs.Family.{IsBranching, IsChildOf}
+use Rattle.mapf_solve.specs.Rounds.{SideAsked, FitsSide}
 
 -- the second of two facts
 second : (a b : Bool) → (a && b) ≡ true → b ≡ true
@@ -31,12 +29,12 @@ same_names E (Left ∷ xs) (Right ∷ ys) lr rl h = cc
 same_names E (Right ∷ xs) (Left ∷ ys) lr rl h = cc
 same_names E (Right ∷ xs) (Right ∷ ys) lr rl h = ap (λ l. Right ∷ l) (same_names E xs ys lr rl (second (E Right Right) (pointwise E xs ys) h))
 
--- two nodes of the tree with one name stand for one pair
-same_shown : (p : Problem) (a b : Shown) (m n : Planned) → Shows p.inst p.bound a m → Shows p.inst p.bound b n → a.name ≡ b.name → m ≡ n
-same_shown p a b m n s t e =
-    let pairs = same_pair p.inst p.bound m.0 n.0 s.member.inside t.member.inside (sym s.name ∙ e ∙ t.name) in
-    let plans = same_plan p.inst p.bound n.0 m.1 n.1 (subst (λ x. HasPlan p.inst p.bound x m.1) pairs s.member.plan) t.member.plan in
-    λ i. (pairs i, plans i)
+-- two nodes of the tree with one name stand for one
+same_planned : (p : Problem) (a b : Node) (m n : PlannedNode) → StandsFor p a m → StandsFor p b n → a.name ≡ b.name → m ≡ n
+same_planned p a b m n s t e =
+    let nodes = same_node p m.0 n.0 s.member.inside t.member.inside (sym s.name ∙ e ∙ t.name) in
+    let plans = same_plan p n.0 m.1 n.1 (subst (λ x. HasPlan p x m.1) nodes s.member.plan) t.member.plan in
+    λ i. (nodes i, plans i)
 
 -- and branch on one conflict
 same_conflict : (plan : List (List ℕ)) (found : Option Conflict) (c : Conflict) → IsSome found → IsConflictOf plan found → IsFirstConflict plan c → found ≡ Some c
@@ -44,16 +42,16 @@ same_conflict plan (Some d) c some is first = ap (λ x. Some x) (same_first plan
 same_conflict plan None c some is first = cc
 
 -- so a child of the one is the child of the other
-child_of_same_name : (p : Problem) (a b : Shown) (side : Side) (found : Option Shown) → IsBranching p a → a.name ≡ b.name → IsChildOf p a side found → IsChildOf p b side found
+child_of_same_name : (p : Problem) (a b : Node) (side : Side) (found : Option Node) → IsBranching p a → a.name ≡ b.name → IsChildOf p a side found → IsChildOf p b side found
 child_of_same_name p a b side found branching e is n c shows on =
-    let m = same_shown p a b branching.of n branching.shows shows e in
-    let here : Shows p.inst p.bound a n = subst (λ x. Shows p.inst p.bound a x) m branching.shows in
+    let m = same_planned p a b branching.of n branching.stands shows e in
+    let here : StandsFor p a n = subst (λ x. StandsFor p a x) m branching.stands in
     let mine : IsConflictOf n.1 a.conflict = subst (λ q. IsConflictOf q a.conflict) here.plan here.conflict in
     let yours : IsConflictOf n.1 (Some c) = subst (λ q. IsConflictOf n.1 q) on (subst (λ q. IsConflictOf q b.conflict) shows.plan shows.conflict) in
     is n c here (same_conflict n.1 a.conflict c branching.conflict mine yours)
 
 -- and so is what fits a job for the one
-pub used_child : (p : Problem) (node : Shown) (side : Side) (job asked : SideAsked) (found : Option Shown) →
+pub used_child : (p : Problem) (node : Node) (side : Side) (job asked : SideAsked) (found : Option Node) →
     IsBranching job.problem job.node → FitsSide job found → job ≡ asked → asked.problem ≡ p → asked.node.name ≡ node.name → asked.side ≡ side →
     IsChildOf p node side found
 used_child p node side job asked found branching fits is of named turn =
@@ -62,10 +60,3 @@ used_child p node side job asked found branching fits is of named turn =
     let b' : IsBranching p asked.node = subst (λ q. IsBranching q asked.node) of b in
     let f' : IsChildOf p asked.node asked.side found = subst (λ q. IsChildOf q asked.node asked.side found) of f in
     subst (λ t. IsChildOf p node t found) turn (child_of_same_name p asked.node node asked.side found b' named f')
-
--- a child that is worked out alone is the child, too
-pub child_alone : (p q : Problem) (node : Shown) (side : Side) (r : Result (Option Shown) NoMemory) → q ≡ p →
-    ((m : Planned) (c : Conflict) → Shows q.inst q.bound node m → node.conflict ≡ Some c → IfOk r (IsSide q m c side)) →
-    IfOk r (IsChildOf p node side)
-child_alone p q node side (Ok found) same is = subst (λ x. IsChildOf x node side found) same (λ m c shows on. is m c shows on)
-child_alone p q node side (Err e) same is = tt

@@ -1,11 +1,9 @@
 -- What is worked ahead: a job names what it is for, and an answer fits it or not. Nothing here speaks of threads.
 use Rattle.std.specs.Prelude.{◌≡◌, ℕ, ◌<◌, List, [], length, slice_get, Option, Some, IsSome}
-use Rattle.mapf_plan.specs.declared.conflict.Conflict.{Conflict}
 use Rattle.mapf_tree.specs.declared.side.Side.{Side}
 use Rattle.mapf_tree.specs.Problem.{Problem}
-use Rattle.mapf_tree.specs.Search.{Planned}
-use Rattle.mapf_tree.specs.Nodes.{Shown, Shows}
-use Rattle.mapf_tree.specs.Family.{IsOwn, IsSide}
+use Rattle.mapf_tree.specs.Nodes.{Node}
+use Rattle.mapf_tree.specs.Family.{IsOwn, IsChildOf}
 
 -- an agent's own path without constraints is wanted
 pub record PathAsked : Type 0 where
@@ -16,7 +14,7 @@ pub record PathAsked : Type 0 where
 -- a child of a node is wanted, on one side of its conflict
 pub record SideAsked : Type 0 where
   pub problem : Problem
-  pub node : Shown
+  pub node : Node
   pub side : Side
   pub number : ℕ
 
@@ -34,17 +32,6 @@ pub record AreOwn (p : Problem) (places : List (Option (Option (List ℕ)))) : T
   pub each : length places ≡ length p.inst.starts
   pub own : (i : ℕ) (found : Option (List ℕ)) → slice_get places i ≡ Some (Some found) → IsOwn p i [] found
 
--- the child on that side, or none exactly where that side isn't in the tree
-abbrev pub IsChildOf : Problem → Shown → Side → Option Shown → Type 0
-IsChildOf p node side found =
-    (m : Planned) (c : Conflict) → Shows p.inst p.bound node m → node.conflict ≡ Some c → IsSide p m c side found
-
 -- the child is the one that was asked for
-abbrev pub FitsSide : SideAsked → Option Shown → Type 0
+abbrev pub FitsSide : SideAsked → Option Node → Type 0
 FitsSide j found = IsChildOf j.problem j.node j.side found
-
--- the node is one of the tree, and its plan has a conflict
-pub record IsBranching (p : Problem) (node : Shown) : Type 0 where
-  pub of : Planned
-  pub shows : Shows p.inst p.bound node of
-  pub conflict : IsSome node.conflict

@@ -71,7 +71,7 @@ fn text_or_fault<R: Threads + Sync, G: Gate>(
 /// The text of a problem's answer.
 fn spell(alloc: Global, problem: &Problem, answer: &Answer) -> Result<Vec<u8>, NoMemory>
     requires bound { problem.now.bound ≤ 1000000 }
-    requires answer { IsAnswerOf problem.now.inst problem.now.bound answer.now }
+    requires answer { IsAnswerOf problem.now answer.now }
     ensures { IfOk result (λ bytes. bytes.items ≡ text problem.now.inst.grid answer.now) }
 {
     write(alloc, answer, problem.instance().map())

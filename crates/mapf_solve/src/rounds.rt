@@ -1,8 +1,8 @@
 //! Children that are worked ahead in rounds, by workers in threads.
 
 ghost use Rattle.std.specs.Prelude.{◌≡◌, ◌<◌, ◌≤◌, All, IfOk, OnOk, length};
-ghost use Rattle.mapf_tree.specs.Waiting.{AllShow};
-ghost use Rattle.mapf_solve.specs.Rounds.{IsBranching, IsChildOf};
+ghost use Rattle.mapf_tree.specs.Nodes.{AllStand};
+ghost use Rattle.mapf_tree.specs.Family.{IsBranching, IsChildOf};
 
 mod kept;
 mod path_job;

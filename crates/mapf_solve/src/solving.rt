@@ -28,8 +28,8 @@ pub fn solve<R: Threads + Sync, G: Gate>(
 ) -> Result<Answer, NoMemory>
     requires some { 0 < workers }
     requires few { workers ≤ MOST_WORKERS }
-    ensures answer { IfOk result (IsAnswerOf problem.now.inst problem.now.bound) }
-    ensures best { IfOk result (IsBestAnswer problem.now.inst problem.now.bound) }
+    ensures answer { IfOk result (IsAnswerOf problem.now) }
+    ensures best { IfOk result (IsBestAnswer problem.now) }
 {
     let first = root(rt, alloc, problem, workers, gate)?;
     let next = problem.instance().agents() as u64;

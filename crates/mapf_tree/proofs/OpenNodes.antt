@@ -132,7 +132,7 @@ put_node_adds p old new pair (Some node) all is put = record { stand = put_all p
     back m (inr h) = inr (λ i. (h.1 i, same_plan p (pair) m.1 is.0 (subst (λ q. HasPlan p q m.1) h.1 h.0.plan) is.1.member.plan i))
 
 -- all but the first still show
-tail_stands : (p : Problem) (first : Node) (rest : List Node) → AllStand p (first ∷ rest) → AllStand p rest
+pub tail_stands : (p : Problem) (first : Node) (rest : List Node) → AllStand p (first ∷ rest) → AllStand p rest
 tail_stands p first rest all n c = all n (later_in first rest n c)
 
 -- the conflict that a node has is that of its node's plan

@@ -101,16 +101,20 @@ pub conflict_there : (o q : Option Conflict) (b : Bool) → is_some o ≡ not b 
 conflict_there o None b e s f = let k : false ≡ true = sym (ap is_some s) ∙ e ∙ ap not f in cc
 conflict_there o (Some c) b e s f = (c, refl)
 
+-- so there is one
+pub some_there : (o q : Option Conflict) (b : Bool) → is_some o ≡ not b → o ≡ q → b ≡ false → IsSome q
+some_there o q b e s f = let c = conflict_there o q b e s f in subst (λ (x : Option Conflict). IsSome x) (sym c.1) refl
+
 -- and one that it didn't find
 pub conflict_absent : (o q : Option Conflict) (b : Bool) → is_some o ≡ not b → o ≡ q → b ≡ true → q ≡ None
 conflict_absent o None b e s t = refl
 conflict_absent o (Some c) b e s t = let k : true ≡ false = sym (ap is_some s) ∙ e ∙ ap not t in cc
 
 -- the taken node branches, if it has a conflict
-pub branches : (p : Problem) (old rest : List Node) (first : Node) → old ≡ first ∷ rest → AllStand p old → ((c : Conflict) × (first.conflict ≡ Some c)) → IsBranching p first
-branches p old rest first e all c =
+pub branches : (p : Problem) (old rest : List Node) (first : Node) → old ≡ first ∷ rest → AllStand p old → IsSome first.conflict → IsBranching p first
+branches p old rest first e all some =
     let x = all first (subst (λ ns. Contains ns first) (sym e) (Contains-In (first ∷ rest) first (inl refl))) in
-    record { of = x.0; stands = x.1; conflict = subst (λ (o : Option Conflict). IsSome o) (sym c.1) refl }
+    record { of = x.0; stands = x.1; conflict = some }
 
 -- a turn that takes a node whose plan has a conflict
 pub branched_case : (p : Problem) (old rest mid new : List Node) (first : Node) (k : Key) (l r : Option Node) → old ≡ first ∷ rest → IsRising old → AllStand p old → ((c : Conflict) × (first.conflict ≡ Some c)) → IsChildOf p first Left l → IsChildOf p first Right r → IsPutIfSome rest l mid → IsPutIfSome mid r new → key_rank k ≡ node_key first → IsTurned p old new (variant.Branched k)

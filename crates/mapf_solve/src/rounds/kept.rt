@@ -2,7 +2,7 @@
 
 ghost use Rattle.std.specs.Prelude.{◌≡◌, All, IfSome, IsTrue, Some, slice_get};
 ghost use Rattle.mapf_tree.specs.declared.side.Side.{Side as Turn};
-ghost use Rattle.mapf_tree.specs.Nodes.{Shown};
+ghost use Rattle.mapf_tree.specs.Nodes.{Node};
 
 use crate::rounds::side_job::{SideJob, SideWork};
 use mapf_board::Pair;
@@ -29,7 +29,7 @@ impl<'p> Model for Kept<'p> {
 }
 
 impl<'p> Kept<'p> {
-    ghost use Rattle.mapf_solve.specs.Rounds.{IsBranching, IsChildOf};
+    ghost use Rattle.mapf_tree.specs.Family.{IsBranching, IsChildOf};
 
     /// No child is worked out yet.
     pub(crate) fn new(alloc: Global, problem: &'p Problem) -> Kept<'p>

@@ -1,7 +1,8 @@
 //! The jobs of the later rounds: children of nodes that wait.
 
 ghost use Rattle.std.specs.Prelude.{◌≡◌};
-ghost use Rattle.mapf_solve.specs.Rounds.{FitsSide, IsBranching};
+ghost use Rattle.mapf_tree.specs.Family.{IsBranching};
+ghost use Rattle.mapf_solve.specs.Rounds.{FitsSide};
 
 use mapf_board::{Pair, Task, Work};
 use mapf_tree::{Node, Problem, Side, child};
@@ -18,7 +19,8 @@ pub(crate) struct SideJob<'p> {
 }
 
 impl<'p> Model for SideJob<'p> {
-    ghost use Rattle.mapf_solve.specs.Rounds.{SideAsked, IsBranching};
+    ghost use Rattle.mapf_tree.specs.Family.{IsBranching};
+    ghost use Rattle.mapf_solve.specs.Rounds.{SideAsked};
 
     ghost Value = { SideAsked };
 

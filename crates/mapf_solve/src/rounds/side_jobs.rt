@@ -1,8 +1,8 @@
 //! The orders of a round of sides, and how workers do their jobs.
 
 ghost use Rattle.std.specs.Prelude.{◌≡◌, ◌<◌, ◌≤◌, All, Contains, IfOk, OnOk, length};
-ghost use Rattle.mapf_tree.specs.Waiting.{AllShow};
-ghost use Rattle.mapf_solve.specs.Rounds.{IsBranching};
+ghost use Rattle.mapf_tree.specs.Nodes.{AllStand};
+ghost use Rattle.mapf_tree.specs.Family.{IsBranching};
 ghost use Rattle.mapf_board.specs.declared.limits.TheConstants.{MOST_WORKERS};
 ghost use Rattle.mapf_solve.specs.declared.rounds.side_jobs.TheConstants.{MOST_SIDES};
 
@@ -27,7 +27,7 @@ pub(crate) fn side_orders<'n, 'p>(
     nodes: usize,
     first: u64,
 ) -> Result<Vec<SideOrder<'n, 'p>>, NoMemory>
-    requires { AllShow kept.now waiting.now }
+    requires { AllStand kept.now waiting.now }
     ensures count { IfOk result (λ orders. length orders.items ≤ MOST_SIDES) }
     ensures problem { IfOk result (λ orders. All (λ o. o.problem ≡ kept.now) orders.items) }
 {

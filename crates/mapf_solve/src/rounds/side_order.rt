@@ -1,7 +1,7 @@
 //! What the job of a side is made from: a node that waits, and a side.
 
 ghost use Rattle.std.specs.Prelude.{◌≡◌};
-ghost use Rattle.mapf_solve.specs.Rounds.{IsBranching};
+ghost use Rattle.mapf_tree.specs.Family.{IsBranching};
 
 use crate::rounds::side_job::{SideJob, SideWork};
 use mapf_board::{NoMemory, Order};
@@ -19,7 +19,8 @@ pub(crate) struct SideOrder<'n, 'p> {
 }
 
 impl<'n, 'p> Model for SideOrder<'n, 'p> {
-    ghost use Rattle.mapf_solve.specs.Rounds.{SideAsked, IsBranching};
+    ghost use Rattle.mapf_tree.specs.Family.{IsBranching};
+    ghost use Rattle.mapf_solve.specs.Rounds.{SideAsked};
 
     ghost Value = { SideAsked };
 

@@ -1,8 +1,8 @@
 //! The trees of two small problems, node by node: names, costs, paths and conflicts.
 
 ghost use Rattle.std.specs.Prelude.{IfOk, IfSome};
-ghost use Rattle.mapf_tree.specs.Search.{Planned};
-ghost use Rattle.mapf_tree.specs.Nodes.{Shows};
+ghost use Rattle.mapf_tree.specs.Tree.{PlannedNode};
+ghost use Rattle.mapf_tree.specs.Nodes.{StandsFor};
 
 use super::problem_of;
 use super::texts::{letters, push_change, push_conflict, push_paths};
@@ -60,8 +60,8 @@ fn child_of(
     parent: &Node,
     side: Side,
 ) -> Result<Option<Node>, NoMemory>
-    requires { (m : Planned) × Shows problem.now.inst problem.now.bound parent.now m }
-    ensures { IfOk result (λ found. IfSome found (λ node. (m : Planned) × Shows problem.now.inst problem.now.bound node m)) }
+    requires { (m : PlannedNode) × StandsFor problem.now parent.now m }
+    ensures { IfOk result (λ found. IfSome found (λ node. (m : PlannedNode) × StandsFor problem.now node m)) }
 {
     if parent.conflict().is_none() {
         return Ok(None);
@@ -78,7 +78,7 @@ fn write_nodes(
     levels: u8,
     text: &mut String,
 ) -> Result<(), Fail>
-    requires { (m : Planned) × Shows problem.now.inst problem.now.bound node.now m }
+    requires { (m : PlannedNode) × StandsFor problem.now node.now m }
 {
     assert!(rt; levels > 0);
     write_node(rt, alloc, node, text)?;
@@ -130,7 +130,7 @@ agent 0 not from 2 to 1 at 2: 1 4 1;
 
 // The node so many left turns below the root.
 fn left_node(alloc: Global, problem: &Problem, turns: u8) -> Result<Node, Fail>
-    ensures { IfOk result (λ node. (m : Planned) × Shows problem.now.inst problem.now.bound node m) }
+    ensures { IfOk result (λ node. (m : PlannedNode) × StandsFor problem.now node m) }
 {
     let mut node = root(alloc, problem)?.ok_or("no root")?;
     for _ in 0..turns {

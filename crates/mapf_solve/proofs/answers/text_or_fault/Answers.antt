@@ -10,5 +10,5 @@ returns-clause-best g c =
     let made = c.in-Ok.ensures.made in
     answer_is_best c.args.map.now c.args.scen.now c.args.ask c.in_ok-instance.instance c.in_ok-answer.answer c.in_ok-spell.field-0.items
     c.in_ok-instance.ensures.asked
-    (subst (λ (p : Problem). IsAnswerOf p.inst p.bound c.in_ok-answer.answer) made c.in_ok-answer.ensures.answer)
+    (subst (λ (p : Problem). IsAnswerOf p c.in_ok-answer.answer) made c.in_ok-answer.ensures.answer)
     (c.in_ok-spell.ensures ∙ ap (λ (p : Problem). text p.inst.grid c.in_ok-answer.answer) made)

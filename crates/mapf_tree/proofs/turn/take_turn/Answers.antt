@@ -1,4 +1,4 @@
-use Rattle.mapf_tree.proofs.TurnLemmas.{solved_case, branches, branched_case, conflict_there, conflict_absent}
+use Rattle.mapf_tree.proofs.TurnLemmas.{solved_case, branches, branched_case, conflict_there, some_there, conflict_absent}
 use Rattle.mapf_tree.proofs.turn.take_turn.Goals as goal
 
 pub returns-then-is_none-clause-turned : goal.returns-then-is_none-clause-turned
@@ -15,4 +15,4 @@ returns-clause-turned g c =
 pub both-requires-clause-branching : goal.both-requires-clause-branching
 both-requires-clause-branching g c =
     branches c.args.problem.now c.args.waiting.now c.take_least.new.self c.in-Some.node c.in-Some.ensures.taken c.requires.nodes
-    (conflict_there _ _ _ c.is_none.ensures c.conflict.ensures.conflict c.if-is_none.false)
+    (some_there _ _ _ c.is_none.ensures c.conflict.ensures.conflict c.if-is_none.false)

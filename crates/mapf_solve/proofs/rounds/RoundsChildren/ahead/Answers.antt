@@ -1,11 +1,11 @@
 use Rattle.std.proofs.Common.{◌≡◌, sym, subst, All, Contains}
-use Rattle.mapf_tree.specs.Waiting.{AllShow}
+use Rattle.mapf_tree.specs.Nodes.{AllStand}
 use Rattle.mapf_solve.specs.Rounds.{SideAsked}
 use Rattle.mapf_board.proofs.RoundLists.{All_of_jobs}
 use Rattle.mapf_solve.proofs.rounds.RoundsChildren.ahead.Goals as goal
 
 pub side_orders-requires : goal.side_orders-requires
-side_orders-requires g c = subst (λ p. AllShow p c.args.waiting.now) (sym c.requires.serves.0) c.requires.nodes
+side_orders-requires g c = subst (λ p. AllStand p c.args.waiting.now) (sym c.requires.serves.0) c.requires.nodes
 
 pub keep-requires : goal.keep-requires
 keep-requires g c =

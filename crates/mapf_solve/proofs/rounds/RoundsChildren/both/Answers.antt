@@ -1,6 +1,6 @@
 use Rattle.std.proofs.Common.{◌∙◌, subst}
 use Rattle.mapf_tree.specs.declared.side.Side.TheVariants.{Left, Right}
-use Rattle.mapf_solve.specs.Rounds.{IsChildOf}
+use Rattle.mapf_tree.specs.Family.{IsChildOf}
 use Rattle.mapf_solve.proofs.rounds.RoundsChildren.both.Goals as goal
 
 pub returns-clause-left : goal.returns-clause-left

@@ -1,7 +1,8 @@
 use Rattle.std.proofs.Common.{◌≡◌, sym, ap, ◌∙◌, subst, Some}
 use Rattle.std.specs.Prelude.{slice_get}
 use Rattle.std.proofs.lemmas.Option.{get_or_from_slice_get, slice_get_within}
-use Rattle.mapf_solve.specs.Rounds.{SideAsked, IsBranching}
+use Rattle.mapf_tree.specs.Family.{IsBranching}
+use Rattle.mapf_solve.specs.Rounds.{SideAsked}
 use Rattle.mapf_solve.proofs.WorkedAhead.{used_child}
 use Rattle.mapf_solve.proofs.rounds.kept.Kept.take.Goals as goal
 
