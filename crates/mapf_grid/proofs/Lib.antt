@@ -5,7 +5,6 @@ pub mod Decide
 pub mod Steps
 pub mod Lists
 mod LineCuts
-mod DigitSteps
 mod Parting
 mod RowCuts
 mod RowFaults
@@ -23,3 +22,4 @@ mod MapFaultRanks
 mod ScenFaultRanks
 mod InstanceFaultRanks
 pub mod Unique
+pub mod DigitWords

@@ -3,6 +3,7 @@
 
 mod bytes;
 mod cell;
+mod digits;
 mod fault;
 mod instance;
 pub mod laws;
@@ -13,6 +14,7 @@ mod words;
 
 pub use bytes::Bytes;
 pub use cell::Cell;
+pub use digits::decimal_value;
 pub use fault::{InstanceFault, MapFault, NoMemory, ScenFault};
 pub use instance::{Instance, MOST_AGENTS};
 pub use map::Map;

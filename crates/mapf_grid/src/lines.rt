@@ -1,7 +1,9 @@
 //! Files as lines: the bytes are cut at LF, and one CR at a line's end is dropped.
 
 ghost use Rattle.std.specs.Prelude.{◌≡◌, ◌==◌, ◌∷◌, [], ◌<◌, length, position, MatchOption};
-ghost use Rattle.mapf_grid.specs.Lines.{lines_of, is_blank_line, number_of, without_cr};
+ghost use Rattle.mapf_grid.specs.Lines.{lines_of, is_blank, is_blank_line, number_of, without_cr};
+
+use crate::digits::decimal_value;
 
 /// The greatest number of digits that a number has.
 const MOST_DIGITS: usize = 9;
@@ -37,26 +39,24 @@ fn trim_cr(line: &[u8]) -> &[u8]
     }
 }
 
+/// Whether a byte is a blank: a space or a tab.
+pub(crate) fn is_blank(byte: u8) -> bool
+    ensures { result ≡ is_blank byte }
+{
+    byte == b' ' || byte == b'\t'
+}
+
 /// Whether a line has no other bytes than blanks.
 pub(crate) fn is_blank_line(line: &[u8]) -> bool
     ensures { result ≡ is_blank_line line.now }
 {
-    line.iter().all(|byte| *byte == b' ' || *byte == b'\t')
+    line.iter().all(|byte| is_blank(*byte))
 }
 
 /// The number that a word spells, in 1 to 9 digits; none where it spells none.
 pub(crate) fn number(word: &[u8]) -> Option<u32>
     ensures { result ≡ number_of word.now }
 {
-    if word.is_empty() || word.len() > MOST_DIGITS {
-        return None;
-    }
-    let mut value = 0;
-    for byte in word {
-        if !byte.is_ascii_digit() {
-            return None;
-        }
-        value = 10 * value + u32::from(*byte - b'0');
-    }
-    Some(value)
+    let value = decimal_value(word, MOST_DIGITS)?;
+    Some(value as u32)
 }

@@ -4,11 +4,7 @@ ghost use Rattle.std.specs.Prelude.{◌≡◌, ℕ, ◌∷◌, ◌++◌, [], ◌
 ghost use Rattle.mapf_grid.specs.Lines.{words, is_blank};
 ghost use Rattle.mapf_grid.specs.Cuts.{IsBehindBlanks, IsBeforeBlanks, IsPartedFront, IsPartedBack, IsTrimmed};
 
-fn is_blank(byte: u8) -> bool
-    ensures { result ≡ is_blank byte }
-{
-    byte == b' ' || byte == b'\t'
-}
+use crate::lines::is_blank;
 
 fn trim_start(mut line: &[u8]) -> &[u8]
     ensures cut { IsBehindBlanks line.now result.now }

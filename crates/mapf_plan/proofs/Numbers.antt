@@ -1,21 +1,10 @@
 -- Words of digits and the numbers that they stand for.
-use Rattle.std.proofs.Common.{◌≡◌, ℕ, zero, suc, ◌+◌, ◌*◌, ◌-◌, ◌<◌, ◌≤◌, List, length, take, get_or, sym, ap, subst, arith, length-take-le}
+use Rattle.std.proofs.Common.{◌≡◌, ℕ, zero, suc, ◌<◌, ◌≤◌, List, length, get_or, sym, ap, subst, arith}
 use Rattle.std.specs.Prelude.{decimal}
 use Rattle.std.specs.Str.Parse.{AllDigits, digits_value}
-use Rattle.std.proofs.lemmas.Str.Parse.{IsNumeralModel, numerals_by_value, tells_digits, digits_value_short}
-use Rattle.std.proofs.lemmas.Int.Digits.{digits_value_more}
-use Rattle.std.proofs.lemmas.Str.{digit_value_digit}
+use Rattle.std.proofs.lemmas.Str.Parse.{digits_value_short}
+use Rattle.mapf_grid.proofs.DigitWords.{own}
 use Rattle.std.proofs.lemmas.Fmt.{decimal_digit, digits_decimal, digits_value-decimal, decimal-digits_value, first_decimal, length-decimal-le, decimal_nonempty}
-
--- std's own words for digits and their value
-abbrev own : IsNumeralModel (AllDigits 10) (digits_value 10)
-own = numerals_by_value (AllDigits 10) tells_digits
-
--- nine digits stand for less than 10 ^ 9
-pub short_value : (word : List ℕ) (i : ℕ) → i < length word → length word ≤ 10 → AllDigits 10 (take i word) → digits_value 10 (take i word) < 1000000000
-short_value word i within short digits =
-    let few : length (take i word) ≤ 9 = omega (arith, length-take-le i word (omega arith)) in
-    digits_value_short own (take i word) 9 digits few
 
 -- a word of digits without a leading zero is the text of its value
 pub word_of_value : (word : List ℕ) → 0 < length word → length word ≤ 10 → AllDigits 10 word
@@ -51,10 +40,3 @@ decimal_spells n small = record {
 -- a number whose text the word is has the word's value
 pub value_of_text : (word : List ℕ) (n : ℕ) → n ≤ 1000000000 → word ≡ decimal n → Spells word n
 value_of_text word n small is = let P : List ℕ → Type 0 = λ w. Spells w n in subst P (sym is) (decimal_spells n small)
-
--- one more digit
-pub value_more : (word : List ℕ) (i value digit : ℕ) → i < length word → value ≡ digits_value 10 (take i word)
-    → 48 ≤ get_or word i 0 → get_or word i 0 ≤ 57 → digit ≡ get_or word i 0 - 48
-    → value * 10 + digit ≡ digits_value 10 (take (i + 1) word)
-value_more word i value digit within is low high digit_is =
-    omega (arith, digits_value_more 10 word i within, digit_value_digit (get_or word i 0) (low, high))

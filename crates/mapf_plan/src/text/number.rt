@@ -1,6 +1,7 @@
-ghost use Rattle.std.specs.Prelude.{◌≡◌, ◌≢◌, ℕ, ◌<◌, ◌≤◌, ◌↔◌, IsTrue, slice_index, length, MatchOption, SomeIff, decimal};
+ghost use Rattle.std.specs.Prelude.{◌≡◌, ◌≢◌, ℕ, ◌<◌, ◌≤◌, ◌↔◌, IsTrue, slice_index, length, MatchOption, decimal};
 ghost use Rattle.mapf_plan.specs.Plan.{most_stated};
-ghost use Rattle.std.specs.Str.Parse.{AllDigits, digits_value};
+
+use mapf_grid::decimal_value;
 
 // The digits of 1,000,000,000, the greatest number that a text has.
 const MOST_DIGITS: usize = 10;
@@ -11,7 +12,7 @@ pub(super) fn number(word: &[u8], most: u64) -> Option<u64>
     ensures { MatchOption result ((n : ℕ) → n ≤ most → word.now ≢ decimal n)
         (λ n. (n ≤ most) × (word.now ≡ decimal n)) }
 {
-    let value = value_of(word)?;
+    let value = decimal_value(word, MOST_DIGITS)?;
     if has_leading_zero(word) {
         return None;
     }
@@ -26,22 +27,4 @@ fn has_leading_zero(word: &[u8]) -> bool
     ensures { IsTrue result ↔ ((slice_index word.now 0 ≡ 48) × (1 < length word.now)) }
 {
     word.len() > 1 && word[0] == b'0'
-}
-
-// The number that 1 to 10 digits stand for; none for other bytes.
-fn value_of(word: &[u8]) -> Option<u64>
-    ensures some { SomeIff result
-        ((0 < length word.now) × (length word.now ≤ 10) × AllDigits 10 word.now) (digits_value 10 word.now) }
-{
-    if word.is_empty() || word.len() > MOST_DIGITS {
-        return None;
-    }
-    let mut value = 0;
-    for byte in word {
-        if !byte.is_ascii_digit() {
-            return None;
-        }
-        value = value * 10 + u64::from(*byte - b'0');
-    }
-    Some(value)
 }

@@ -1,8 +1,8 @@
 use Rattle.std.proofs.Common.{arith}
 use Rattle.std.proofs.lemmas.Int.Digits.{digits_more}
 use Rattle.std.proofs.lemmas.Str.Parse.{digit_at}
-use Rattle.mapf_plan.proofs.Numbers.{short_value, value_more}
-use Rattle.mapf_plan.proofs.text.number.value_of.Goals as goal
+use Rattle.mapf_grid.proofs.DigitWords.{short_value, value_more}
+use Rattle.mapf_grid.proofs.digits.decimal_value.Goals as goal
 
 pub returns-then-not-is_ascii_digit : goal.returns-then-not-is_ascii_digit
 returns-then-not-is_ascii_digit c = record {
