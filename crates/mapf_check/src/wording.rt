@@ -1,13 +1,10 @@
-ghost use Rattle.std.specs.Prelude.{◌≡◌, ◌<◌, ◌++◌, string_bytes, IfOk, OnOk};
-ghost use Rattle.mapf_grid.specs.Grid.{cells};
-ghost use Rattle.mapf_plan.specs.Text.{position};
+ghost use Rattle.std.specs.Prelude.{◌≡◌, ◌++◌, string_bytes, IfOk, OnOk};
 ghost use Rattle.mapf_check.specs.Positions.{AreCells, HasPositions};
 ghost use Rattle.mapf_check.specs.Wording.{conflict_words, verdict_words, verdict_line};
 
 use crate::Verdict;
-use itoa::{Buffer, Integer};
-use mapf_grid::{Cell, Map, NoMemory};
-use mapf_plan::Conflict;
+use mapf_grid::{Map, NoMemory};
+use mapf_plan::{Conflict, push_number, push_position};
 use std::alloc::Global;
 
 /// The line that says a verdict, with its LF: a fault by its number, places and positions. A position is
@@ -78,24 +75,5 @@ fn push_conflict(text: &mut String, conflict: Conflict, map: &Map) -> Result<(),
             push_number(text, " time ", time)?;
         }
     }
-    Ok(())
-}
-
-// These words, and a cell as its column and its row.
-fn push_position(text: &mut String, front: &str, cell: Cell, map: &Map) -> Result<(), NoMemory>
-    requires { cell < cells map.now }
-    ensures { OnOk result (string_bytes text.new ≡ string_bytes text.old ++ (front.now ++ position map.now cell)) }
-{
-    let (x, y) = map.xy(cell);
-    push_number(text, front, x)?;
-    push_number(text, ",", y)
-}
-
-// These words, and a number in decimal.
-fn push_number<I: Integer>(text: &mut String, front: &str, number: I) -> Result<(), NoMemory>
-    ensures { OnOk result (string_bytes text.new ≡ string_bytes text.old ++ (front.now ++ I.text number)) }
-{
-    text.push_str(front)?;
-    text.push_str(Buffer::new().format(number))?;
     Ok(())
 }

@@ -18,4 +18,4 @@ pub use device::{Counted, ReadFault, Sink, Source, WriteFailed, read_whole, writ
 pub use first_conflict::first_conflict_of_changed;
 pub use path::Path;
 pub use plan::Plan;
-pub use text::{TextFault, read_answer, write};
+pub use text::{TextFault, push_number, push_position, read_answer, write};

@@ -3,9 +3,11 @@
 mod cut;
 mod fault;
 mod number;
+mod pieces;
 mod reader;
 mod writer;
 
 pub use fault::TextFault;
+pub use pieces::{push_number, push_position};
 pub use reader::read_answer;
 pub use writer::write;

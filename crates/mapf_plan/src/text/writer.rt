@@ -1,10 +1,10 @@
-ghost use Rattle.std.specs.Prelude.{◌≡◌, ◌<◌, ◌++◌, codes, decimal, IfOk, OnOk, map as mapped};
+ghost use Rattle.std.specs.Prelude.{◌≡◌, ◌<◌, ◌++◌, codes, decimal, string_bytes, IfOk, OnOk, map as mapped};
 ghost use Rattle.std.specs.List.{flat_map, join_with_byte, AllByRecursion};
 ghost use Rattle.mapf_grid.specs.Grid.{cells};
 ghost use Rattle.mapf_plan.specs.Text.{position, line, text, CanWrite};
 
+use super::pieces::{push_number, push_position};
 use crate::{Answer, Path};
-use itoa::{Buffer, Integer};
 use mapf_grid::{Cell, Map, NoMemory};
 use std::alloc::Global;
 
@@ -15,104 +15,80 @@ pub fn write(alloc: Global, answer: &Answer, map: &Map) -> Result<Vec<u8>, NoMem
     requires { CanWrite map.now answer.now }
     ensures { IfOk result (λ bytes. bytes.items ≡ text map.now answer.now) }
 {
-    let mut bytes = Vec::new(alloc);
+    let mut text = String::new(alloc);
     match answer {
         Answer::Plan { plan, stated } => {
-            push_head(&mut bytes, plan.paths().len(), *stated)?;
-            push_lines(&mut bytes, plan.paths(), map)?;
+            push_head(&mut text, plan.paths().len(), *stated)?;
+            push_lines(&mut text, plan.paths(), map)?;
         }
-        Answer::None { bound } => push_none(&mut bytes, *bound)?,
+        Answer::None { bound } => push_none(&mut text, *bound)?,
     }
-    Ok(bytes)
+    Ok(text.into_bytes())
 }
 
 // The first line of a plan: the number of agents and the cost.
-fn push_head(bytes: &mut Vec<u8>, agents: usize, cost: u64) -> Result<(), NoMemory>
-    ensures { OnOk result (bytes.new.items ≡ bytes.old.items
+fn push_head(text: &mut String, agents: usize, cost: u64) -> Result<(), NoMemory>
+    ensures { OnOk result (string_bytes text.new ≡ string_bytes text.old
         ++ (codes "plan " ++ (decimal agents ++ (codes " " ++ (decimal cost ++ codes "\n"))))) }
 {
-    bytes.extend_from_slice(b"plan ")?;
-    push_number(bytes, agents)?;
-    bytes.extend_from_slice(b" ")?;
-    push_number(bytes, cost)?;
-    bytes.extend_from_slice(b"\n")?;
+    push_number(text, "plan ", agents)?;
+    push_number(text, " ", cost)?;
+    text.push_str("\n")?;
     Ok(())
 }
 
 // The whole text where there is no plan.
-fn push_none(bytes: &mut Vec<u8>, bound: u32) -> Result<(), NoMemory>
-    ensures { OnOk result (bytes.new.items ≡ bytes.old.items
+fn push_none(text: &mut String, bound: u32) -> Result<(), NoMemory>
+    ensures { OnOk result (string_bytes text.new ≡ string_bytes text.old
         ++ (codes "none " ++ (decimal bound ++ codes "\n"))) }
 {
-    bytes.extend_from_slice(b"none ")?;
-    push_number(bytes, bound)?;
-    bytes.extend_from_slice(b"\n")?;
+    push_number(text, "none ", bound)?;
+    text.push_str("\n")?;
     Ok(())
 }
 
-fn push_lines(bytes: &mut Vec<u8>, paths: &[Path], map: &Map) -> Result<(), NoMemory>
+fn push_lines(text: &mut String, paths: &[Path], map: &Map) -> Result<(), NoMemory>
     requires { AllByRecursion (AllByRecursion (λ c. c < cells map.now)) paths.now }
-    ensures { OnOk result (bytes.new.items ≡ bytes.old.items ++ flat_map (line map.now) paths.now) }
+    ensures { OnOk result (string_bytes text.new ≡ string_bytes text.old ++ flat_map (line map.now) paths.now) }
 {
     for path in paths {
-        push_line(bytes, path.cells(), map)?;
+        push_line(text, path.cells(), map)?;
     }
     Ok(())
 }
 
 // The positions of one agent and the line's end.
-fn push_line(bytes: &mut Vec<u8>, path: &[Cell], map: &Map) -> Result<(), NoMemory>
+fn push_line(text: &mut String, path: &[Cell], map: &Map) -> Result<(), NoMemory>
     requires { AllByRecursion (λ c. c < cells map.now) path.now }
-    ensures { OnOk result (bytes.new.items ≡ bytes.old.items ++ line map.now path.now) }
+    ensures { OnOk result (string_bytes text.new ≡ string_bytes text.old ++ line map.now path.now) }
 {
-    push_positions(bytes, path, map)?;
-    bytes.extend_from_slice(b"\n")?;
+    push_positions(text, path, map)?;
+    text.push_str("\n")?;
     Ok(())
 }
 
 // The positions of one agent, parted by spaces.
-fn push_positions(bytes: &mut Vec<u8>, path: &[Cell], map: &Map) -> Result<(), NoMemory>
+fn push_positions(text: &mut String, path: &[Cell], map: &Map) -> Result<(), NoMemory>
     requires { AllByRecursion (λ c. c < cells map.now) path.now }
-    ensures { OnOk result (bytes.new.items
-        ≡ bytes.old.items ++ join_with_byte 32 (mapped (position map.now) path.now)) }
+    ensures { OnOk result (string_bytes text.new
+        ≡ string_bytes text.old ++ join_with_byte 32 (mapped (position map.now) path.now)) }
 {
     if let [first, rest @ ..] = path {
-        push_position(bytes, *first, map)?;
-        push_further(bytes, rest, map)
+        push_position(text, "", *first, map)?;
+        push_further(text, rest, map)
     } else {
         Ok(())
     }
 }
 
 // The positions behind the first one, each after a space.
-fn push_further(bytes: &mut Vec<u8>, path: &[Cell], map: &Map) -> Result<(), NoMemory>
+fn push_further(text: &mut String, path: &[Cell], map: &Map) -> Result<(), NoMemory>
     requires { AllByRecursion (λ c. c < cells map.now) path.now }
-    ensures { OnOk result (bytes.new.items
-        ≡ bytes.old.items ++ flat_map (λ c. codes " " ++ position map.now c) path.now) }
+    ensures { OnOk result (string_bytes text.new
+        ≡ string_bytes text.old ++ flat_map (λ c. codes " " ++ position map.now c) path.now) }
 {
     for cell in path {
-        bytes.extend_from_slice(b" ")?;
-        push_position(bytes, *cell, map)?;
+        push_position(text, " ", *cell, map)?;
     }
-    Ok(())
-}
-
-// A cell as its column and its row.
-fn push_position(bytes: &mut Vec<u8>, cell: Cell, map: &Map) -> Result<(), NoMemory>
-    requires { cell < cells map.now }
-    ensures { OnOk result (bytes.new.items ≡ bytes.old.items ++ position map.now cell) }
-{
-    let (x, y) = map.xy(cell);
-    push_number(bytes, x)?;
-    bytes.extend_from_slice(b",")?;
-    push_number(bytes, y)?;
-    Ok(())
-}
-
-// A number in decimal, with no zero in front.
-fn push_number<I: Integer>(bytes: &mut Vec<u8>, number: I) -> Result<(), NoMemory>
-    ensures { OnOk result (bytes.new.items ≡ bytes.old.items ++ I.text number) }
-{
-    bytes.extend_from_slice(Buffer::new().format(number).as_bytes())?;
     Ok(())
 }
