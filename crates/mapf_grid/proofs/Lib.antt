@@ -23,3 +23,4 @@ mod ScenFaultRanks
 mod InstanceFaultRanks
 pub mod Unique
 pub mod DigitWords
+pub mod Asked

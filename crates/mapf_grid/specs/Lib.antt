@@ -11,3 +11,4 @@ pub mod Instance
 pub mod NewAgent
 pub mod InstanceLaws
 pub mod Unique
+pub mod Asked
