@@ -6,3 +6,4 @@ pub mod Plan
 pub mod ReadText
 pub mod Text
 pub mod TextLaws
+pub mod Files

@@ -14,7 +14,10 @@ mod text;
 pub use agent_paths::AgentPaths;
 pub use answer::{Answer, MOST_BOUND, MOST_STATED};
 pub use conflict::Conflict;
-pub use device::{Counted, ReadFault, Sink, Source, WriteFailed, read_whole, write_whole};
+pub use device::{
+    Counted, DeviceFault, FileName, ReadFault, Sink, Source, WriteFailed, read_file, read_whole,
+    write_text, write_whole,
+};
 pub use first_conflict::first_conflict_of_changed;
 pub use path::Path;
 pub use plan::Plan;
