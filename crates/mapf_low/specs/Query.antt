@@ -8,6 +8,7 @@ use Rattle.mapf_low.specs.Constraints.{IsAllowed, IsOwnPath}
 use Rattle.mapf_low.specs.Kept.{HasTwoEnds}
 use Rattle.mapf_low.specs.Times.{AreMarked}
 use Rattle.mapf_low.specs.Walk.{AreDistances}
+use Rattle.mapf_plan.specs.Plan.{most_bound}
 
 -- one agent's own path on a map from its start to its goal, under constraints, at a cost of at most the limit
 pub record Query : Type 0 where
@@ -25,7 +26,7 @@ pub record IsPosed (query : Query) : Type 0 where
   pub goal : IsFree query.grid query.goal
   pub distances : AreDistances query.grid query.goal query.table
   pub ends : All HasTwoEnds query.constraints
-  pub limit : query.limit ≤ 1000000
+  pub limit : query.limit ≤ most_bound
 
 -- from this time on nothing forbids the goal
 abbrev pub MayEnd : Query → ℕ → Type 0

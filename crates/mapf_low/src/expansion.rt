@@ -3,6 +3,7 @@ ghost use Rattle.mapf_grid.specs.Grid.{cells, IsFree};
 ghost use Rattle.mapf_low.specs.Walk.{distance_at};
 ghost use Rattle.mapf_low.specs.Query.{IsPosed};
 ghost use Rattle.mapf_low.specs.Classes.{Grows, IsWithin, Admits, Leads, SomeLeads, Closes, ArePlaced};
+ghost use Rattle.mapf_plan.specs.Plan.{most_bound};
 
 use crate::class::Class;
 use crate::query::Query;
@@ -114,7 +115,7 @@ fn generate_later(
     after: &mut Class,
 ) -> Result<(), NoMemory>
     requires time { time ≤ query.now.limit + 1 }
-    requires small { near ≤ 1000000 }
+    requires small { near ≤ most_bound }
     ensures next { OnOk result (Grows (λ v. (to ≡ v) × Admits query.now time near from v) next.old next.new) }
     ensures after { OnOk result (Grows (λ v. (to ≡ v) × Admits query.now time (near + 1) from v) after.old after.new) }
 {
@@ -135,7 +136,7 @@ fn generate_all_later(
     after: &mut Class,
 ) -> Result<(), NoMemory>
     requires time { time ≤ query.now.limit + 1 }
-    requires small { near ≤ 1000000 }
+    requires small { near ≤ most_bound }
     ensures next { OnOk result (Grows (λ v. ((from ≡ v) ⊎ Contains sides.now v) × Admits query.now time near from v) next.old next.new) }
     ensures after { OnOk result (Grows (λ v. ((from ≡ v) ⊎ Contains sides.now v) × Admits query.now time (near + 1) from v) after.old after.new) }
 {
@@ -159,7 +160,7 @@ fn expand_beyond(
     requires inside { from < cells query.now.grid }
     requires near { IsWithin query.now sum from }
     requires sum { sum ≤ query.now.limit }
-    requires small { sum ≤ 1000000 }
+    requires small { sum ≤ most_bound }
     ensures next { OnOk result (Grows (Leads query.now sum 1 from) next.old next.new) }
     ensures after { OnOk result (Grows (Leads query.now sum 2 from) after.old after.new) }
 {
@@ -187,7 +188,7 @@ pub fn fill_later_classes(
 ) -> Result<(), NoMemory>
     requires placed { ArePlaced query.now sum class.now }
     requires sum { sum ≤ query.now.limit }
-    requires small { sum ≤ 1000000 }
+    requires small { sum ≤ most_bound }
     ensures next { OnOk result (Grows (SomeLeads query.now sum 1 class.now) next.old next.new) }
     ensures after { OnOk result (Grows (SomeLeads query.now sum 2 class.now) after.old after.new) }
 {

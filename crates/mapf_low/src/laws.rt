@@ -7,6 +7,7 @@ ghost use Rattle.mapf_low.specs.Walk.{AreDistances};
 ghost use Rattle.mapf_low.specs.Taken.{AreTaken};
 ghost use Rattle.mapf_low.specs.Constraints.{IsAllowed, IsOwnPath, OrderIsByLast};
 ghost use Rattle.mapf_low.specs.OwnPath.{OwnPathExists};
+ghost use Rattle.mapf_plan.specs.Plan.{most_bound};
 
 use crate::by_layers::by_layers;
 use crate::query::Query;
@@ -40,7 +41,7 @@ pub fn cheapest_by_layers(
     requires start { IsFree map.now start }
     requires goal { IsFree map.now goal }
     requires distances { AreDistances map.now goal distances.now }
-    requires bound { bound ≤ 1000000 }
+    requires bound { bound ≤ most_bound }
     ensures { IfOk result (λ found. MatchOption found
         ((p : List ℕ) → ¬ IsAllowed map.now start goal bound constraints.now p)
         (IsOwnPath map.now start goal bound constraints.now)) }
@@ -75,7 +76,7 @@ pub fn taken(
     requires start { IsFree map.now start }
     requires goal { IsFree map.now goal }
     requires distances { AreDistances map.now goal distances.now }
-    requires bound { bound ≤ 1000000 }
+    requires bound { bound ≤ most_bound }
     ensures { IfOk result (λ states. AreTaken map.now distances.now start goal bound constraints.now states.items) }
 {
     let query = Query::new(alloc, map, distances, start, goal, constraints, bound)?;

@@ -6,6 +6,7 @@ ghost use Rattle.mapf_plan.specs.Path.{cost};
 ghost use Rattle.mapf_low.specs.Query.{IsFound};
 ghost use Rattle.mapf_low.specs.Classes.{IsSearched};
 ghost use Rattle.mapf_low.specs.Constraints.{IsAllowed, IsOwnPath};
+ghost use Rattle.mapf_plan.specs.Plan.{most_bound};
 
 use crate::reconstruction::reconstruct_path;
 use crate::query::Query;
@@ -63,7 +64,7 @@ pub fn cheapest(
     requires start { IsFree map.now start }
     requires goal { IsFree map.now goal }
     requires distances { AreDistances map.now goal distances.now }
-    requires bound { bound ≤ 1000000 }
+    requires bound { bound ≤ most_bound }
     ensures { IfOk result (λ found. MatchOption found
         ((p : List ℕ) → ¬ IsAllowed map.now start goal bound constraints.now p)
         (IsOwnPath map.now start goal bound constraints.now)) }

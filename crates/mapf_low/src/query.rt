@@ -3,6 +3,7 @@ ghost use Rattle.mapf_grid.specs.Grid.{cells, IsFree, IsBeside};
 ghost use Rattle.mapf_low.specs.declared.constraint.Constraint.{Constraint};
 ghost use Rattle.mapf_low.specs.Constraints.{IsAllowed};
 ghost use Rattle.mapf_low.specs.Walk.{AreDistances, distance_at};
+ghost use Rattle.mapf_plan.specs.Plan.{most_bound};
 
 use crate::busy::{busy_times, is_busy};
 use crate::time::is_past;
@@ -22,9 +23,9 @@ pub struct Query<'a> {
     start: Cell,
     goal: Cell,
     limit: u32,
-    // Of which time steps, up to the one after the limit, there is a constraint.
+    /// Of which time steps, up to the one after the limit, there is a constraint.
     busy_times: Vec<bool>,
-    // The last time step at which the goal is forbidden.
+    /// The last time step at which the goal is forbidden.
     last: Option<u32>,
 }
 
@@ -56,7 +57,7 @@ impl<'a> Query<'a> {
         requires start { IsFree map.now start }
         requires goal { IsFree map.now goal }
         requires distances { AreDistances map.now goal distances.now }
-        requires limit { limit ≤ 1000000 }
+        requires limit { limit ≤ most_bound }
         ensures asks { IfOk result (λ q. q ≡ record { grid = map.now; table = distances.now; constraints = constraints.now; start = start; goal = goal; limit = limit }) }
         ensures posed { IfOk result IsPosed }
     {

@@ -2,6 +2,7 @@ ghost use Rattle.std.specs.Prelude.{◌≡◌, ◌↔◌, ℕ, ◌+◌, ◌<◌,
 ghost use Rattle.mapf_grid.specs.Grid.{cells, IsFree, Next};
 ghost use Rattle.mapf_low.specs.Best.{smaller_of};
 ghost use Rattle.mapf_low.specs.Reached.{ComesFrom, AreLinked, IsSmallestBefore, IsReconstructed};
+ghost use Rattle.mapf_plan.specs.Plan.{most_bound};
 
 use crate::query::Query;
 use crate::reached::Reached;
@@ -42,7 +43,7 @@ fn smallest_before<R: Reached>(
 ) -> Result<Cell, NoMemory>
     requires free { IsFree query.now.grid cell }
     requires inside { cell < cells query.now.grid }
-    requires early { time < 1000000 }
+    requires early { time < most_bound }
     requires some { (u : ℕ) × ComesFrom query.now (time + 1) (R.has reached.now time) cell u }
     ensures { IfOk result (IsSmallestBefore query.now (time + 1) (R.has reached.now time) cell) }
 {
@@ -64,7 +65,7 @@ pub fn reconstruct_path<R: Reached>(
 ) -> Result<Path, NoMemory>
     requires linked { AreLinked query.now (R.has reached.now) end }
     requires arrived { R.has reached.now end query.now.goal }
-    requires short { end ≤ 1000000 }
+    requires short { end ≤ most_bound }
     ensures { IfOk result (λ path. IsReconstructed query.now (R.has reached.now) path 0 end) }
 {
     let mut cells = vec![in alloc; query.goal(); end as usize + 1]?;

@@ -13,5 +13,4 @@ pub mod TextFaults
 pub mod Written
 pub mod OneText
 pub mod OneReading
-pub mod Edits
 pub mod WhatIsLeft

@@ -41,7 +41,7 @@ impl Conflict {
         self.rank() < other.rank()
     }
 
-    // What conflicts are ordered by.
+    /// What conflicts are ordered by.
     fn rank(&self) -> [u64; 4]
         ensures { result ≡ conflict_rank self.now }
     {

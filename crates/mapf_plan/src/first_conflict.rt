@@ -28,7 +28,7 @@ pub fn first_conflict_of_changed<P: AgentPaths>(
     known
 }
 
-// The first conflict that this agent has with another.
+/// The first conflict that this agent has with another.
 fn first_with<P: AgentPaths>(plan: &P, agent: usize) -> Option<Conflict>
     requires { agent < length (P.paths plan.now) }
     ensures conflict { MatchOption result ⊤ (λ c. IsConflict (P.paths plan.now) c) }
@@ -44,7 +44,7 @@ fn first_with<P: AgentPaths>(plan: &P, agent: usize) -> Option<Conflict>
     known
 }
 
-// The conflict that is known, or an earlier one of this agent with one of a larger number, neither of them the one that changed.
+/// The conflict that is known, or an earlier one of this agent with one of a larger number, neither of them the one that changed.
 fn earlier_without<P: AgentPaths>(
     plan: &P,
     changed: usize,
@@ -71,7 +71,7 @@ fn earlier_without<P: AgentPaths>(
     earliest
 }
 
-// The conflict that is known, or the first one of these two agents, where that is earlier; they have none before the time step.
+/// The conflict that is known, or the first one of these two agents, where that is earlier; they have none before the time step.
 fn earlier<P: AgentPaths>(
     plan: &P,
     first: usize,
@@ -97,8 +97,8 @@ fn earlier<P: AgentPaths>(
     }
 }
 
-// The last time step at which these two agents can have their first conflict so that it comes before the one that is known:
-// from the end of the longer path on they stay where they are.
+/// The last time step at which these two agents can have their first conflict so that it comes before the one that is known:
+/// from the end of the longer path on they stay where they are.
 fn last_worth<P: AgentPaths>(plan: &P, first: usize, second: usize, known: Option<Conflict>) -> u32
     requires agents { first < second }
     requires plan { second < length (P.paths plan.now) }
@@ -113,7 +113,7 @@ fn last_worth<P: AgentPaths>(plan: &P, first: usize, second: usize, known: Optio
     }
 }
 
-// The first conflict of these two agents, if there is one up to the last of these time steps; they have none before the first.
+/// The first conflict of these two agents, if there is one up to the last of these time steps; they have none before the first.
 fn first_of_pair<P: AgentPaths>(
     plan: &P,
     first: usize,
@@ -136,7 +136,7 @@ fn first_of_pair<P: AgentPaths>(
     None
 }
 
-// The conflict of these two agents at a time step, where they have none before it.
+/// The conflict of these two agents at a time step, where they have none before it.
 fn pair_at<P: AgentPaths>(plan: &P, first: usize, second: usize, time: u32) -> Option<Conflict>
     requires agents { first < second }
     requires plan { second < length (P.paths plan.now) }
@@ -165,7 +165,7 @@ fn pair_at<P: AgentPaths>(plan: &P, first: usize, second: usize, time: u32) -> O
     })
 }
 
-// The conflict that comes before the other.
+/// The conflict that comes before the other.
 fn earlier_of(one: Conflict, other: Conflict) -> Conflict
     ensures either { (result ≡ one) ⊎ (result ≡ other) }
     ensures one { ¬ Precedes (conflict_rank one) (conflict_rank result) }

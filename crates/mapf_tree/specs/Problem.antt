@@ -3,6 +3,7 @@ use Rattle.std.specs.Prelude.{◌≡◌, ℕ, ◌<◌, ◌≤◌, List, [], leng
 use Rattle.mapf_grid.specs.Instance.{Instance}
 use Rattle.mapf_grid.specs.InstanceLaws.{IsSound}
 use Rattle.mapf_low.specs.Walk.{AreDistances}
+use Rattle.mapf_plan.specs.Plan.{most_bound}
 
 pub record Problem : Type 0 where
   pub inst : Instance
@@ -16,5 +17,5 @@ pub record HasDistances (inst : Instance) (distances : List (List (Option ℕ)))
 -- what always holds of a problem and its tables
 pub record IsReady (problem : Problem) (distances : List (List (Option ℕ))) : Type 0 where
   pub agents : IsSound problem.inst
-  pub small : problem.bound ≤ 1000000
+  pub small : problem.bound ≤ most_bound
   pub tables : HasDistances problem.inst distances

@@ -26,7 +26,7 @@ pub(crate) fn path_after<'a>(root: &'a Plan, changes: &'a [Arc<Change>], agent: 
     path
 }
 
-// An agent's path after one change more.
+/// An agent's path after one change more.
 fn path_with<'a>(path: &'a Path, change: &'a Change, agent: usize) -> &'a Path
     ensures own { change.now.agent ≡ agent → result.now ≡ change.now.path }
     ensures other { change.now.agent ≢ agent → result.now ≡ path.now }
@@ -70,7 +70,7 @@ pub(crate) fn constraints_after(
     Ok(constraints)
 }
 
-// What an agent is forbidden after one change more.
+/// What an agent is forbidden after one change more.
 fn constraints_with(
     constraints: Constraints,
     change: &Change,

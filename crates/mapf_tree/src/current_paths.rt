@@ -14,12 +14,13 @@ pub(crate) struct CurrentPaths<'a> {
 
 impl<'a> Model for CurrentPaths<'a> {
     ghost use Rattle.std.specs.Prelude.{ℕ, List, ◌<◌, ◌≤◌, length, map};
+    ghost use Rattle.mapf_grid.specs.Instance.{most_agents};
 
     ghost Value = { List (List ℕ) };
 
     ghost view = { λ p. map (λ path. path.now) p.paths.items };
 
-    ghost invariant = { λ p. (0 < length p.paths.items) × (length p.paths.items ≤ 1000) };
+    ghost invariant = { λ p. (0 < length p.paths.items) × (length p.paths.items ≤ most_agents) };
 }
 
 impl<'a> CurrentPaths<'a> {

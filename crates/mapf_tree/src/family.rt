@@ -1,7 +1,7 @@
 //! The members of the constraint tree: its root, and the children of a node.
 
 ghost use Rattle.std.specs.Prelude.{◌≡◌, ◌<◌, ◌≤◌, [], length, IfOk, None, MatchOption};
-ghost use Rattle.mapf_plan.specs.Plan.{plan_cost};
+ghost use Rattle.mapf_plan.specs.Plan.{plan_cost, most_bound};
 ghost use Rattle.mapf_tree.specs.Family.{AreRootPaths, IsBranching, IsChildOf, IsOwn, IsOwnWithin, IsRoot, Leaves};
 
 use crate::change::Change;
@@ -75,7 +75,7 @@ pub fn root_path(alloc: Global, problem: &Problem, agent: usize) -> Result<Optio
     own_path(alloc, problem, agent, &free, problem.bound())
 }
 
-// Each agent's own path under no constraints, if every agent has one; otherwise the root isn't in the tree.
+/// Each agent's own path under no constraints, if every agent has one; otherwise the root isn't in the tree.
 fn root_paths(alloc: Global, problem: &Problem) -> Result<Option<Vec<Path>>, NoMemory>
     ensures { IfOk result (λ found. MatchOption found (IsRoot problem.now None) (λ paths. AreRootPaths problem.now paths.items)) }
 {
@@ -90,19 +90,19 @@ fn root_paths(alloc: Global, problem: &Problem) -> Result<Option<Vec<Path>>, NoM
     Ok(Some(paths))
 }
 
-// What the other agents' paths leave of the bound: with a dearer path of this agent no plan is in the tree.
+/// What the other agents' paths leave of the bound: with a dearer path of this agent no plan is in the tree.
 fn left_for(problem: &Problem, node: &Node, agent: usize) -> u32
     requires agent { agent < length node.now.plan }
     requires within { plan_cost node.now.plan ≤ problem.now.bound }
     ensures leaves { Leaves problem.now node.now.plan agent result }
-    ensures small { result ≤ 1000000 }
-    ensures bounded { problem.now.bound ≤ 1000000 }
+    ensures small { result ≤ most_bound }
+    ensures bounded { problem.now.bound ≤ most_bound }
 {
     let others = node.key().cost - u64::from(node.path(agent).cost());
     (u64::from(problem.bound()) - others) as u32
 }
 
-// An agent's own path under these constraints, at a cost of at most the limit.
+/// An agent's own path under these constraints, at a cost of at most the limit.
 fn own_path(
     alloc: Global,
     problem: &Problem,
@@ -111,7 +111,7 @@ fn own_path(
     limit: u32,
 ) -> Result<Option<Path>, NoMemory>
     requires agent { agent < length problem.now.inst.starts }
-    requires small { limit ≤ 1000000 }
+    requires small { limit ≤ most_bound }
     ensures { IfOk result (IsOwnWithin problem.now limit agent constraints.now) }
 {
     let instance = problem.instance();

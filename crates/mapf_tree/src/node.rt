@@ -1,6 +1,6 @@
 ghost use Rattle.std.specs.Prelude.{◌≡◌, ◌↔◌, ◌+◌, ◌<◌, ◌≤◌, [], ◌∷◌, ◌++◌, length, replicate, slice_get, slice_set, slice_index_or, map, Some, IfOk, IsSome, MatchOption, Contains};
 ghost use Rattle.std.specs.Arc.{arc_value};
-ghost use Rattle.mapf_plan.specs.Plan.{path_of, plan_cost};
+ghost use Rattle.mapf_plan.specs.Plan.{path_of, plan_cost, most_bound};
 ghost use Rattle.mapf_tree.specs.Nodes.{Changed};
 
 use crate::chain::{constraints_after, path_after, paths_after, shared};
@@ -72,7 +72,7 @@ impl Node {
     ) -> Result<Node, NoMemory>
         requires agent { change.agent < length self.now.plan }
         requires conflict { IsSome self.now.conflict }
-        requires small { plan_cost (slice_set self.now.plan change.agent change.path) ≤ 1000000 }
+        requires small { plan_cost (slice_set self.now.plan change.agent change.path) ≤ most_bound }
         ensures name { IfOk result (λ n. n.name ≡ self.now.name ++ side ∷ []) }
         ensures changes { IfOk result (λ n. n.changes ≡ self.now.changes ++ change ∷ []) }
         ensures constraints { IfOk result (λ n. n.constraints ≡ slice_set self.now.constraints change.agent (change.constraint ∷ slice_index_or self.now.constraints change.agent [])) }
@@ -91,7 +91,7 @@ impl Node {
         })
     }
 
-    // The key one turn further, where an agent's path is another.
+    /// The key one turn further, where an agent's path is another.
     fn key_with(
         &self,
         alloc: Global,
@@ -100,7 +100,7 @@ impl Node {
         path: &Path,
     ) -> Result<Key, NoMemory>
         requires agent { agent < length self.now.plan }
-        requires small { plan_cost (slice_set self.now.plan agent path.now) ≤ 1000000 }
+        requires small { plan_cost (slice_set self.now.plan agent path.now) ≤ most_bound }
         ensures cost { IfOk result (λ key. key.cost ≡ plan_cost (slice_set self.now.plan agent path.now)) }
         ensures depth { IfOk result (λ key. key.depth ≡ length self.now.name + 1) }
         ensures name { IfOk result (λ key. key.name.items ≡ self.now.name ++ side ∷ []) }
@@ -115,7 +115,7 @@ impl Node {
         })
     }
 
-    // The first conflict where an agent's path is another: the other agents have none before the time of this node's.
+    /// The first conflict where an agent's path is another: the other agents have none before the time of this node's.
     fn first_conflict_with<'a>(
         &'a self,
         alloc: Global,

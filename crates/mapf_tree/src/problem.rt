@@ -1,6 +1,7 @@
 ghost use Rattle.std.specs.Prelude.{◌≡◌, ◌<◌, ◌≤◌, IfOk, IfErr, length, slice_index};
 ghost use Rattle.mapf_low.specs.Walk.{AreDistances};
 ghost use Rattle.mapf_tree.specs.Problem.{HasDistances};
+ghost use Rattle.mapf_plan.specs.Plan.{most_bound};
 
 use mapf_grid::{Instance, NoMemory};
 use mapf_low::Distances;
@@ -34,7 +35,7 @@ impl Problem {
         instance: Instance,
         bound: u32,
     ) -> Result<Problem, (Instance, NoMemory)>
-        requires { bound ≤ 1000000 }
+        requires { bound ≤ most_bound }
         ensures made { IfOk result (λ p. p ≡ record { inst = instance; bound = bound }) }
         ensures err { IfErr result (λ e. e.0 ≡ instance) }
     {
@@ -50,7 +51,7 @@ impl Problem {
 
     /// The problem of this instance under this bound, with the distances to each agent's goal.
     pub fn with(instance: Instance, distances: Vec<Distances>, bound: u32) -> Problem
-        requires bound { bound ≤ 1000000 }
+        requires bound { bound ≤ most_bound }
         requires distances { HasDistances instance distances.items }
         ensures { result ≡ record { inst = instance; bound = bound } }
     {
@@ -81,13 +82,13 @@ impl Problem {
     /// What a plan may cost at most.
     pub fn bound(&self) -> u32
         ensures bound { result ≡ self.now.bound }
-        ensures small { result ≤ 1000000 }
+        ensures small { result ≤ most_bound }
     {
         self.bound
     }
 }
 
-// The distances to each agent's goal, agent 0 first.
+/// The distances to each agent's goal, agent 0 first.
 fn distances_to_goals(alloc: Global, instance: &Instance) -> Result<Vec<Distances>, NoMemory>
     ensures { IfOk result (λ distances. HasDistances instance.now distances.items) }
 {

@@ -8,7 +8,7 @@ ghost use Rattle.mapf_plan.specs.Files.{is_file_failure, IsReadFaultOf, IsWriteF
 use super::{DeviceFault, FileName, ReadFault, Sink, Source, read_whole, write_whole};
 use std::alloc::Global;
 
-// How many bytes of one file are read at most.
+/// How many bytes of one file are read at most.
 const LIMIT: usize = 67_108_864;
 
 /// Reads a file's bytes, all of them: 67,108,864 at most.

@@ -6,7 +6,7 @@ use super::{Sink, Source};
 use std::alloc::Global;
 use thiserror::Error;
 
-// How many bytes one call of `read` may give.
+/// How many bytes one call of `read` may give.
 const BLOCK: usize = 65_536;
 
 /// Why a source couldn't be read to its end.
@@ -59,7 +59,7 @@ pub fn read_whole<S: Source>(
     }
 }
 
-// One call of `read`, whose bytes are appended. Answers how many they are, none only at the end.
+/// One call of `read`, whose bytes are appended. Answers how many they are, none only at the end.
 fn read_more<S: Source>(
     source: &mut S,
     block: &mut [u8],

@@ -3,7 +3,7 @@ ghost use Rattle.mapf_plan.specs.Plan.{most_stated};
 
 use mapf_grid::decimal_value;
 
-// The digits of 1,000,000,000, the greatest number that a text has.
+/// The digits of 1,000,000,000, the greatest number that a text has.
 const MOST_DIGITS: usize = 10;
 
 /// The number up to `most` that a word spells without leading zeros; none where it spells none.
@@ -22,7 +22,7 @@ pub(super) fn number(word: &[u8], most: u64) -> Option<u64>
     Some(value)
 }
 
-// Whether the word is longer than the `0` that it begins with.
+/// Whether the word is longer than the `0` that it begins with.
 fn has_leading_zero(word: &[u8]) -> bool
     ensures { IsTrue result ↔ ((slice_index word.now 0 ≡ 48) × (1 < length word.now)) }
 {

@@ -15,10 +15,10 @@ use mapf_grid::{Cell, MOST_AGENTS, Map};
 use std::alloc::Global;
 
 const MOST_CELLS: usize = 1_000_001;
-// A column or a row has at most nine digits.
+/// A column or a row has at most nine digits.
 const MOST_COORDINATE: u64 = 999_999_999;
 
-// What the first line says.
+/// What the first line says.
 enum Head {
     Plan { agents: usize, cost: u64 },
     None { bound: u32 },
@@ -51,7 +51,7 @@ pub fn read_answer(alloc: Global, bytes: &[u8], map: &Map) -> Result<Answer, Tex
     }
 }
 
-// The first line, without its LF.
+/// The first line, without its LF.
 fn read_head(line: &[u8]) -> Option<Head>
     ensures { MatchOption result ((head : HeadValue) → ¬ IsHead line.now head) (IsHead line.now) }
 {
@@ -65,7 +65,7 @@ fn read_head(line: &[u8]) -> Option<Head>
     })
 }
 
-// What stands behind this front, where the line begins with it.
+/// What stands behind this front, where the line begins with it.
 fn behind<'a>(line: &'a [u8], front: &[u8]) -> Option<&'a [u8]>
     ensures { MatchOption result ((rest : List ℕ) → line.now ≢ front.now ++ rest) (λ rest. line.now ≡ front.now ++ rest.now) }
 {
@@ -76,7 +76,7 @@ fn behind<'a>(line: &'a [u8], front: &[u8]) -> Option<&'a [u8]>
     }
 }
 
-// The number of agents and the cost.
+/// The number of agents and the cost.
 fn read_plan_numbers(numbers: &[u8]) -> Option<(usize, u64)>
     ensures { MatchOption result ((pair : ℕ × ℕ) → ¬ ArePlanNumbers numbers.now pair) (ArePlanNumbers numbers.now) }
 {
@@ -89,7 +89,7 @@ fn read_plan_numbers(numbers: &[u8]) -> Option<(usize, u64)>
     Some((agents as usize, cost))
 }
 
-// The lines of the agents, from line 2 on, and nothing behind them.
+/// The lines of the agents, from line 2 on, and nothing behind them.
 fn read_plan(alloc: Global, bytes: &[u8], agents: usize, map: &Map) -> Result<Plan, TextFault>
     requires some { 0 < agents }
     requires few { agents ≤ most_agents }
@@ -108,7 +108,7 @@ fn read_plan(alloc: Global, bytes: &[u8], agents: usize, map: &Map) -> Result<Pl
     Ok(Plan::of(paths))
 }
 
-// Nothing stands at the line of this number.
+/// Nothing stands at the line of this number.
 fn expect_end(rest: &[u8], line: usize) -> Result<(), TextFault>
     ensures { MatchResult result (λ _. rest.now ≡ []) (λ fault. (rest.now ≢ []) × (fault ≡ TextFault.Line line)) }
 {
@@ -119,7 +119,7 @@ fn expect_end(rest: &[u8], line: usize) -> Result<(), TextFault>
     }
 }
 
-// One agent's path, and what stands behind its line.
+/// One agent's path, and what stands behind its line.
 fn read_line<'a>(
     alloc: Global,
     bytes: &'a [u8],
@@ -137,7 +137,7 @@ fn read_line<'a>(
     Ok((Path::of(cells), rest))
 }
 
-// The columns and rows that a line spells, parted by single spaces.
+/// The columns and rows that a line spells, parted by single spaces.
 fn read_places(alloc: Global, line: &[u8], number: usize) -> Result<Vec<(u32, u32)>, TextFault>
     ensures places { IfOk result (λ places. IsLine line.now places.items) }
     ensures fault { IfErr result (λ fault. (fault ≡ TextFault.NoMemory)
@@ -153,7 +153,7 @@ fn read_places(alloc: Global, line: &[u8], number: usize) -> Result<Vec<(u32, u3
     Ok(places)
 }
 
-// Appends the column and the row that a word spells.
+/// Appends the column and the row that a word spells.
 fn push_place(places: &mut Vec<(u32, u32)>, word: &[u8], number: usize) -> Result<(), TextFault>
     ensures pushed { IfOk result (λ _. (place : ℕ × ℕ) × IsPlace word.now place
         × (places.new.items ≡ places.old.items ++ place ∷ []) × (length places.old.items < most_cells)) }
@@ -168,7 +168,7 @@ fn push_place(places: &mut Vec<(u32, u32)>, word: &[u8], number: usize) -> Resul
     Ok(())
 }
 
-// The column and the row that a word spells.
+/// The column and the row that a word spells.
 fn read_place(word: &[u8]) -> Option<(u32, u32)>
     ensures { MatchOption result ((place : ℕ × ℕ) → ¬ IsPlace word.now place) (IsPlace word.now) }
 {
@@ -178,7 +178,7 @@ fn read_place(word: &[u8]) -> Option<(u32, u32)>
     Some((x as u32, y as u32))
 }
 
-// The cells at these columns and rows, all of them on the map.
+/// The cells at these columns and rows, all of them on the map.
 fn cells_of(
     alloc: Global,
     places: &[(u32, u32)],

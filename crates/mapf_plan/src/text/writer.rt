@@ -26,7 +26,7 @@ pub fn write(alloc: Global, answer: &Answer, map: &Map) -> Result<Vec<u8>, NoMem
     Ok(text.into_bytes())
 }
 
-// The first line of a plan: the number of agents and the cost.
+/// The first line of a plan: the number of agents and the cost.
 fn push_head(text: &mut String, agents: usize, cost: u64) -> Result<(), NoMemory>
     ensures { OnOk result (string_bytes text.new ≡ string_bytes text.old
         ++ (codes "plan " ++ (decimal agents ++ (codes " " ++ (decimal cost ++ codes "\n"))))) }
@@ -37,7 +37,7 @@ fn push_head(text: &mut String, agents: usize, cost: u64) -> Result<(), NoMemory
     Ok(())
 }
 
-// The whole text where there is no plan.
+/// The whole text where there is no plan.
 fn push_none(text: &mut String, bound: u32) -> Result<(), NoMemory>
     ensures { OnOk result (string_bytes text.new ≡ string_bytes text.old
         ++ (codes "none " ++ (decimal bound ++ codes "\n"))) }
@@ -57,7 +57,7 @@ fn push_lines(text: &mut String, paths: &[Path], map: &Map) -> Result<(), NoMemo
     Ok(())
 }
 
-// The positions of one agent and the line's end.
+/// The positions of one agent and the line's end.
 fn push_line(text: &mut String, path: &[Cell], map: &Map) -> Result<(), NoMemory>
     requires { AllByRecursion (λ c. c < cells map.now) path.now }
     ensures { OnOk result (string_bytes text.new ≡ string_bytes text.old ++ line map.now path.now) }
@@ -67,7 +67,7 @@ fn push_line(text: &mut String, path: &[Cell], map: &Map) -> Result<(), NoMemory
     Ok(())
 }
 
-// The positions of one agent, parted by spaces.
+/// The positions of one agent, parted by spaces.
 fn push_positions(text: &mut String, path: &[Cell], map: &Map) -> Result<(), NoMemory>
     requires { AllByRecursion (λ c. c < cells map.now) path.now }
     ensures { OnOk result (string_bytes text.new
@@ -81,7 +81,7 @@ fn push_positions(text: &mut String, path: &[Cell], map: &Map) -> Result<(), NoM
     }
 }
 
-// The positions behind the first one, each after a space.
+/// The positions behind the first one, each after a space.
 fn push_further(text: &mut String, path: &[Cell], map: &Map) -> Result<(), NoMemory>
     requires { AllByRecursion (λ c. c < cells map.now) path.now }
     ensures { OnOk result (string_bytes text.new
