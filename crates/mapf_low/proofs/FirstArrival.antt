@@ -8,7 +8,8 @@ use Rattle.mapf_plan.proofs.Paths.{at_inside, at_past, place_free}
 use Rattle.mapf_low.specs.Query.{Query, IsPosed, MayEnd}
 use Rattle.mapf_low.specs.declared.constraint.Constraint.{Constraint}
 use Rattle.mapf_low.specs.declared.constraint.Constraint.TheVariants.{Vertex, Edge}
-use Rattle.mapf_low.specs.Constraints.{Breaks, IsAllowed, IsOwnPath, path_rank, IsSmallerAtLast}
+use Rattle.mapf_low.specs.Constraints.{Breaks, IsAllowed}
+use Rattle.mapf_low.specs.OwnPath.{IsOwnPath, path_rank, IsSmallerAtLast}
 use Rattle.mapf_low.specs.Walk.{IsWalk, IsDistance}
 use Rattle.mapf_low.specs.Kept.{HasTwoEnds}
 use Rattle.mapf_low.specs.Reached.{IsUsable, MayStep, ComesFrom, AreReached, EndsAt, IsReconstructed}

@@ -3,7 +3,8 @@ use Rattle.std.proofs.Common.{◌≡◌, ◌⊎◌, ℕ, ◌+◌, ◌<◌, ◌�
 use Rattle.std.proofs.lemmas.Bool.{cases_lt}
 use Rattle.std.specs.Option.{unwrap_or}
 use Rattle.mapf_low.specs.Query.{Query, IsPosed}
-use Rattle.mapf_low.specs.Constraints.{IsAllowed, IsOwnPath}
+use Rattle.mapf_low.specs.Constraints.{IsAllowed}
+use Rattle.mapf_low.specs.OwnPath.{IsOwnPath}
 use Rattle.mapf_low.specs.Classes.{InClasses, IsSearched}
 use Rattle.mapf_low.specs.Reached.{EndsAt, AreLinked, IsReconstructed}
 use Rattle.mapf_low.proofs.FirstArrival.{Setting, own, none_by_limit}

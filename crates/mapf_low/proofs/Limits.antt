@@ -5,7 +5,8 @@ use Rattle.mapf_grid.specs.Grid.{Grid}
 use Rattle.mapf_grid.specs.Least.{Precedes}
 use Rattle.mapf_plan.specs.Path.{cost}
 use Rattle.mapf_low.specs.declared.constraint.Constraint.{Constraint}
-use Rattle.mapf_low.specs.Constraints.{IsAllowed, IsOwnPath, path_rank}
+use Rattle.mapf_low.specs.Constraints.{IsAllowed}
+use Rattle.mapf_low.specs.OwnPath.{IsOwnPath, path_rank}
 
 -- the own path by a limit is that by every higher bound
 pub own_by_bound : (g : Grid) (cs : List Constraint) (limit bound start goal : ℕ) (q : List ℕ) → limit ≤ bound → IsOwnPath g start goal limit cs q → IsOwnPath g start goal bound cs q

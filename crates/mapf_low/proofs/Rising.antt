@@ -74,8 +74,8 @@ first_closed fits layer cells start h e n v = ((λ i. absurd (none (subst (λ xs
     none i = omega (arith, i.1)
 
 -- a list with one more cell, which may be entered
-pub offered : (E : ℕ → Type 0) (old new : List ℕ) (to : ℕ) → new ≡ old ++ to ∷ [] → E to → (v : ℕ) → Contains new v ↔ (Contains old v ⊎ ((to ≡ v) × E v))
-offered E old new to e t v = (λ i. forth ((members_push old to v).0 (subst (λ xs. Contains xs v) e i)), λ p. subst (λ xs. Contains xs v) (sym e) ((members_push old to v).1 (back p)))
+pub pushed : (E : ℕ → Type 0) (old new : List ℕ) (to : ℕ) → new ≡ old ++ to ∷ [] → E to → (v : ℕ) → Contains new v ↔ (Contains old v ⊎ ((to ≡ v) × E v))
+pushed E old new to e t v = (λ i. forth ((members_push old to v).0 (subst (λ xs. Contains xs v) e i)), λ p. subst (λ xs. Contains xs v) (sym e) ((members_push old to v).1 (back p)))
   where
     forth : Contains old v ⊎ (to ≡ v) → Contains old v ⊎ ((to ≡ v) × E v)
     forth (inl i) = inl i
@@ -86,8 +86,8 @@ offered E old new to e t v = (λ i. forth ((members_push old to v).0 (subst (λ 
     back (inr s) = inr s.0
 
 -- the same list, where the cell may not be entered
-pub not_offered : (E : ℕ → Type 0) (old : List ℕ) (to : ℕ) → ¬ E to → (v : ℕ) → Contains old v ↔ (Contains old v ⊎ ((to ≡ v) × E v))
-not_offered E old to n v = (inl, back)
+pub not_pushed : (E : ℕ → Type 0) (old : List ℕ) (to : ℕ) → ¬ E to → (v : ℕ) → Contains old v ↔ (Contains old v ⊎ ((to ≡ v) × E v))
+not_pushed E old to n v = (inl, back)
   where
     back : Contains old v ⊎ ((to ≡ v) × E v) → Contains old v
     back (inl i) = i
@@ -116,10 +116,10 @@ met_before query time P cell items k o e steps_from h =
     ))
 
 -- what was added from a free cell and its sides
-pub spread_is : (query : Query) (time from : ℕ) (sides old mid new : List ℕ) → IsFree query.grid from → ((v : ℕ) → Contains sides v ↔ (IsFree query.grid v × IsBeside query.grid from v)) →
+pub expanded_is : (query : Query) (time from : ℕ) (sides old mid new : List ℕ) → IsFree query.grid from → ((v : ℕ) → Contains sides v ↔ (IsFree query.grid v × IsBeside query.grid from v)) →
     ((v : ℕ) → Contains mid v ↔ (Contains old v ⊎ ((from ≡ v) × MayEnter query time from v))) → Grown (λ v. MayEnter query time from v) sides mid new →
     (v : ℕ) → Contains new v ↔ (Contains old v ⊎ (IsUsable query query.limit time v × MayStep query time from v))
-spread_is query time from sides old mid new free beside waits h v = (λ i. to ((h v).0 i), λ p. (h v).1 (back p))
+expanded_is query time from sides old mid new free beside waits h v = (λ i. to ((h v).0 i), λ p. (h v).1 (back p))
   where
     stays : Contains old v ⊎ ((from ≡ v) × MayEnter query time from v) → Contains old v ⊎ (IsUsable query query.limit time v × MayStep query time from v)
     stays (inl i) = inl i

@@ -8,7 +8,8 @@ use Rattle.std.proofs.lemmas.List.Quantifiers.{all_pairs_push}
 use Rattle.std.proofs.lemmas.Map.Keys.{apart_from_distinct}
 use Rattle.mapf_plan.specs.Path.{cost, at}
 use Rattle.mapf_low.specs.Query.{Query, IsPosed, IsFound}
-use Rattle.mapf_low.specs.Constraints.{IsAllowed, IsOwnPath}
+use Rattle.mapf_low.specs.Constraints.{IsAllowed}
+use Rattle.mapf_low.specs.OwnPath.{IsOwnPath}
 use Rattle.mapf_low.specs.Walk.{distance_at}
 use Rattle.mapf_low.specs.Classes.{class_at, InClasses, IsSearched}
 use Rattle.mapf_low.specs.Taken.{HasSum, Lists, AreTakenBy}

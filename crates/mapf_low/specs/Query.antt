@@ -4,7 +4,8 @@ use Rattle.mapf_grid.specs.Grid.{Grid, IsFree, HasSizes}
 use Rattle.mapf_low.specs.declared.constraint.Constraint.{Constraint}
 use Rattle.mapf_low.specs.declared.constraint.Constraint.TheVariants.{Vertex}
 use Rattle.mapf_low.specs.Best.{IsGreatest}
-use Rattle.mapf_low.specs.Constraints.{IsAllowed, IsOwnPath}
+use Rattle.mapf_low.specs.Constraints.{IsAllowed}
+use Rattle.mapf_low.specs.OwnPath.{IsOwnPath}
 use Rattle.mapf_low.specs.Kept.{HasTwoEnds}
 use Rattle.mapf_low.specs.Times.{AreMarked}
 use Rattle.mapf_low.specs.Walk.{AreDistances}

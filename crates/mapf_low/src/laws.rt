@@ -5,8 +5,8 @@ ghost use Rattle.std.specs.Prelude.{ℕ, ◌≤◌, List, IfOk, MatchOption};
 ghost use Rattle.mapf_grid.specs.Grid.{IsFree};
 ghost use Rattle.mapf_low.specs.Walk.{AreDistances};
 ghost use Rattle.mapf_low.specs.Taken.{AreTaken};
-ghost use Rattle.mapf_low.specs.Constraints.{IsAllowed, IsOwnPath, OrderIsByLast};
-ghost use Rattle.mapf_low.specs.OwnPath.{OwnPathExists};
+ghost use Rattle.mapf_low.specs.Constraints.{IsAllowed};
+ghost use Rattle.mapf_low.specs.OwnPath.{IsOwnPath, OrderIsByLast, OwnPathExists};
 ghost use Rattle.mapf_plan.specs.Plan.{most_bound};
 
 use crate::by_layers::by_layers;

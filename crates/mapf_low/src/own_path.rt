@@ -5,7 +5,8 @@ ghost use Rattle.mapf_low.specs.Walk.{AreDistances};
 ghost use Rattle.mapf_plan.specs.Path.{cost};
 ghost use Rattle.mapf_low.specs.Query.{IsFound};
 ghost use Rattle.mapf_low.specs.Classes.{IsSearched};
-ghost use Rattle.mapf_low.specs.Constraints.{IsAllowed, IsOwnPath};
+ghost use Rattle.mapf_low.specs.Constraints.{IsAllowed};
+ghost use Rattle.mapf_low.specs.OwnPath.{IsOwnPath};
 ghost use Rattle.mapf_plan.specs.Plan.{most_bound};
 
 use crate::reconstruction::reconstruct_path;

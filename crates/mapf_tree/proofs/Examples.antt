@@ -7,7 +7,7 @@ use Rattle.mapf_plan.specs.Path.{at, IsPath}
 use Rattle.mapf_plan.specs.declared.conflict.Conflict.{Conflict}
 use Rattle.mapf_plan.specs.declared.conflict.Conflict.TheVariants.{Vertex, Swapping}
 use Rattle.mapf_plan.specs.Plan.{IsConflict, conflict_rank, path_of}
-use Rattle.mapf_low.specs.Constraints.{IsOwnPath, path_rank}
+use Rattle.mapf_low.specs.OwnPath.{IsOwnPath, path_rank}
 use Rattle.mapf_tree.specs.Tree.{root_of}
 use Rattle.mapf_tree.specs.Worked.{two_by_two, two_by_two_plan, corridor_with_bay, corridor_plan, WorkedRoot}
 

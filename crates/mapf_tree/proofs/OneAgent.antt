@@ -7,7 +7,8 @@ use Rattle.mapf_grid.proofs.Orders.{irreflexive}
 use Rattle.mapf_plan.specs.Path.{cost}
 use Rattle.mapf_plan.specs.declared.conflict.Conflict.TheVariants.{Vertex, Swapping}
 use Rattle.mapf_plan.specs.Plan.{HasNoConflict, path_of}
-use Rattle.mapf_low.specs.Constraints.{IsAllowed, IsOwnPath}
+use Rattle.mapf_low.specs.Constraints.{IsAllowed}
+use Rattle.mapf_low.specs.OwnPath.{IsOwnPath}
 use Rattle.mapf_tree.specs.Problem.{Problem}
 use Rattle.mapf_tree.specs.Tree.{IsAllowedFor, IsOwnPathOf, TreeNode, HasPlan, InTree, root, side, root_of, constraints_of, key, IsSolution, IsAnswer}
 use Rattle.mapf_tree.specs.Laws.{OneAgentsAnswer}

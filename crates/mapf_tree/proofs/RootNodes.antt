@@ -5,7 +5,7 @@ use borrow.Author.Count.{below_more}
 use Rattle.mapf_grid.specs.Instance.{Instance}
 use Rattle.mapf_plan.specs.Plan.{path_of, plan_cost}
 use Rattle.mapf_low.specs.declared.constraint.Constraint.{Constraint}
-use Rattle.mapf_low.specs.Constraints.{IsOwnPath}
+use Rattle.mapf_low.specs.OwnPath.{IsOwnPath}
 use Rattle.mapf_tree.specs.Problem.{Problem}
 use Rattle.mapf_tree.specs.Tree.{IsOwnPathOf, HasPlan, root, root_of, constraints_of}
 use Rattle.mapf_tree.specs.Nodes.{AreChanges, unchanged, Node, IsConflictOf}

@@ -1,6 +1,6 @@
 use Rattle.std.proofs.Common.{◌≡◌, ℕ, ◌<◌, [], IfSome, length, get_or}
 use Rattle.mapf_plan.specs.Plan.{path_of}
-use Rattle.mapf_low.specs.Constraints.{IsOwnPath}
+use Rattle.mapf_low.specs.OwnPath.{IsOwnPath}
 use Rattle.mapf_solve.proofs.rounds.root.root.Given as goal
 
 abbrev pub invariant-loop-agent : goal.invariant-loop-agent
