@@ -171,8 +171,6 @@ module _ {g : Grid} {rows : List Row} {r : ℕ} {starts goals : List ℕ} {row :
 
   -- the first fault of the next row is that of the instance
   pub agent_fault : (e : InstanceFault) → HasAgentFault g starts goals row r e → IsInstanceFault g rows n e
-  agent_fault AgentCount h = absurd h
-  agent_fault (TooFewRows t) h = absurd h
   agent_fault (WrongSize q) h =
       subst (λ i. IsInstanceFault g rows n (WrongSize i)) (sym h.0) (record { member = (row, in_n, here, h.1); least = before_size })
   agent_fault (StartNotFree q) h =
@@ -189,4 +187,4 @@ module _ {g : Grid} {rows : List Row} {r : ℕ} {starts goals : List ℕ} {row :
         member = (omega (arith, h.4.there, are.goal_count), (row, in_n, here, earlier_goal n f row are in_n there h.3 h.4));
         least = none_before-there instance_fault_rank Has (2 ∷ r ∷ 27 ∷ []) (f ∷ []) (before_shared_goal h.1 h.2 h.3) (first_goal f h.4);
       })
-  agent_fault NoMemory h = absurd h
+  agent_fault y h = absurd h

@@ -117,31 +117,28 @@ line_of version lines n l same =
 
 -- a fault of the file that ranks by this line is one of the line
 fault_at_line : (version : List ℕ) (lines : List (List ℕ)) (n : ℕ) (y : ScenFault) (u : List ℕ) → HasScenFault (version ∷ lines) y → scen_fault_rank y ≡ (n + 2) ∷ u → HasRowFault (get_or lines n []) (n + 2) y
-fault_at_line version lines n Version u h e = absurd (omega (arith, ap (λ r. get_or r 0 0) e))
 fault_at_line version lines n (FieldCount l) u h e =
     let on = ap (λ r. get_or r 0 0) e in (on, subst (λ t. length (words t) < 9) (line_of version lines n l on) h.2)
 fault_at_line version lines n (Number l f) u h e =
     let on = ap (λ r. get_or r 0 0) e in
     let line = line_of version lines n l on in
     (on, subst (λ t. 9 ≤ length (words t)) line h.2, h.3, subst (λ t. number_of (field t f) ≡ None) line h.4)
-fault_at_line version lines n NoMemory u h e = absurd h
+fault_at_line version lines n y u h e = absurd (omega (arith, ap (λ r. get_or r 0 0) e))
 
 -- and one of the line is one of the file, where that line stays
 fault_of_row : (version : List ℕ) (lines : List (List ℕ)) (n : ℕ) → n + 2 ≤ length (without_blank_end (version ∷ lines)) → (e : ScenFault) → HasRowFault (get_or lines n []) (n + 2) e → HasScenFault (version ∷ lines) e
-fault_of_row version lines n stays Version h = absurd h
 fault_of_row version lines n stays (FieldCount l) h =
     (omega (arith, h.0), omega (arith, h.0), subst (λ t. length (words t) < 9) (sym (line_of version lines n l h.0)) h.1)
 fault_of_row version lines n stays (Number l f) h =
     let line = sym (line_of version lines n l h.0) in
     (omega (arith, h.0), omega (arith, h.0), subst (λ t. 9 ≤ length (words t)) line h.1, h.2, subst (λ t. number_of (field t f) ≡ None) line h.3)
-fault_of_row version lines n stays NoMemory h = absurd h
+fault_of_row version lines n stays y h = absurd h
 
 -- the rank of a line's fault begins with the line's number
 rank_of_row_fault : (line : List ℕ) (k : ℕ) (e : ScenFault) → HasRowFault line k e → (rest : List ℕ) × (scen_fault_rank e ≡ k ∷ rest)
-rank_of_row_fault line k Version h = absurd h
 rank_of_row_fault line k (FieldCount l) h = ([], ap (λ i. i ∷ []) h.0)
 rank_of_row_fault line k (Number l f) h = (f ∷ [], ap (λ i. i ∷ f ∷ []) h.0)
-rank_of_row_fault line k NoMemory h = absurd h
+rank_of_row_fault line k y h = absurd h
 
 -- the first fault of the line behind the rows is that of the file
 pub IsScenFault-row : {lines : List (List ℕ)} {rows : List Row} (version : List ℕ) → IsVersion version → AreRows lines rows → length rows + 2 ≤ length (without_blank_end (version ∷ lines)) → (e : ScenFault) → IsRowFault (get_or lines (length rows) []) (length rows + 2) e → IsScenFault (version ∷ lines) e
@@ -241,7 +238,5 @@ IsScenFault-next {bytes} {rest} {line} {rows} {more} h e seen fault row version 
 
 -- where the lines are a scenario, want of memory alone is left
 pub only_no_memory : {lines : List (List ℕ)} {rows : List Row} → IsScenario lines rows → (e : ScenFault) → ((e ≡ NoMemory → ⊥) → IsScenFault lines e) → e ≡ NoMemory
-only_no_memory is Version fault = absurd (no_fault is Version (fault (λ same. cc)).member)
-only_no_memory is (FieldCount k) fault = absurd (no_fault is (FieldCount k) (fault (λ same. cc)).member)
-only_no_memory is (Number k f) fault = absurd (no_fault is (Number k f) (fault (λ same. cc)).member)
 only_no_memory is NoMemory fault = refl
+only_no_memory is e fault = absurd (no_fault is e (fault (λ same. cc)).member)

@@ -37,14 +37,8 @@ no_fault is NoMemory h = h
 
 -- where there is an instance, want of memory alone is left
 pub only_no_memory : {g : Grid} {rows : List Row} {n : ℕ} {inst : Instance} → IsInstance g rows n inst → (e : InstanceFault) → ((e ≡ NoMemory → ⊥) → IsInstanceFault g rows n e) → e ≡ NoMemory
-only_no_memory is AgentCount fault = absurd (no_fault is AgentCount (fault (λ same. cc)).member)
-only_no_memory is (TooFewRows t) fault = absurd (no_fault is (TooFewRows t) (fault (λ same. cc)).member)
-only_no_memory is (WrongSize q) fault = absurd (no_fault is (WrongSize q) (fault (λ same. cc)).member)
-only_no_memory is (StartNotFree q) fault = absurd (no_fault is (StartNotFree q) (fault (λ same. cc)).member)
-only_no_memory is (GoalNotFree q) fault = absurd (no_fault is (GoalNotFree q) (fault (λ same. cc)).member)
-only_no_memory is (SharedStart e q) fault = absurd (no_fault is (SharedStart e q) (fault (λ same. cc)).member)
-only_no_memory is (SharedGoal e q) fault = absurd (no_fault is (SharedGoal e q) (fault (λ same. cc)).member)
 only_no_memory is NoMemory fault = refl
+only_no_memory is e fault = absurd (no_fault is e (fault (λ same. cc)).member)
 
 -- two instances of the same rows have the same starts and goals
 pub one_instance : {g : Grid} {rows : List Row} {n : ℕ} {a b : Instance} → IsInstance g rows n a → IsInstance g rows n b → a ≡ b

@@ -1,5 +1,5 @@
 -- A file of the grammar has one grid and no fault.
-use Rattle.std.proofs.Common.{◌≡◌, ◌≢◌, ℕ, ◌+◌, ◌-◌, ◌*◌, ◌/◌, ◌%◌, ◌<◌, Bool, false, List, [], length, get_or, inl, inr, refl, sym, ap, subst, ◌∙◌, ◌⊎◌, arith, codes}
+use Rattle.std.proofs.Common.{◌≡◌, ◌≢◌, ℕ, ◌+◌, ◌-◌, ◌*◌, ◌/◌, ◌%◌, ◌<◌, Bool, false, List, [], length, get_or, inl, inr, refl, sym, ap, subst, ◌∙◌, arith, codes}
 use Rattle.std.proofs.lemmas.Nat.{row_below_turned}
 use Rattle.std.proofs.lemmas.Bool.{true≢false}
 use Rattle.std.proofs.lemmas.Option.{get_or_from_slice_get}
@@ -91,20 +91,7 @@ IsMap-one lines a b is_a is_b =
     let at_b = get_or_from_slice_get b.free _ _ false ((is_b.rows y (omega (arith, place.2, high))).free x (omega (arith, place.3, wide))) in
     ap (λ j. get_or a.free j false) place.4 ∙ (at_a ∙ (sym at_b ∙ sym (ap (λ j. get_or b.free j false) place_b)))))
 
--- a fault is want of memory, or another
-pub cases_NoMemory : (e : MapFault) → (e ≡ NoMemory) ⊎ (e ≢ NoMemory)
-cases_NoMemory TypeLine = inr (λ same. cc)
-cases_NoMemory Height = inr (λ same. cc)
-cases_NoMemory Width = inr (λ same. cc)
-cases_NoMemory MapLine = inr (λ same. cc)
-cases_NoMemory (MissingRow k) = inr (λ same. cc)
-cases_NoMemory (RowLength k) = inr (λ same. cc)
-cases_NoMemory (BadCell k column byte) = inr (λ same. cc)
-cases_NoMemory (TextAfterRows k) = inr (λ same. cc)
-cases_NoMemory (TooLarge k) = inr (λ same. cc)
-cases_NoMemory NoMemory = inl refl
-
 -- where a map file is not read, memory ran out
 pub IsMap-no_memory : (lines : List (List ℕ)) (g : Grid) (e : MapFault) → IsMap lines g → (e ≢ NoMemory → IsMapFault lines e) → e ≡ NoMemory
-IsMap-no_memory lines g e is_map found =
-    elim (cases_NoMemory e) [ inl memory ↦ memory | inr other ↦ absurd (IsMap-no_fault lines g is_map e (found other).member) ]
+IsMap-no_memory lines g NoMemory is_map found = refl
+IsMap-no_memory lines g e is_map found = absurd (IsMap-no_fault lines g is_map e (found (λ same. cc)).member)

@@ -2,21 +2,18 @@
 use Rattle.std.proofs.Common.{◌≡◌, ℕ, ◌+◌, ◌-◌, ◌<◌, ◌≤◌, suc, List, [], ◌∷◌, ◌++◌, length, Some, None, refl, sym, ap, ◌∙◌, subst, ⊎_elim, arith, inl, inr, get_or-append-add, length-append, slice_index_or}
 use Rattle.std.proofs.lemmas.Bool.{cases_lt}
 use Rattle.std.proofs.lemmas.Option.{none-some}
-use Rattle.mapf_grid.specs.Least.{Precedes}
+use Rattle.mapf_grid.proofs.Firsts.{before_place}
+use Rattle.mapf_grid.specs.Least.{NoneBefore}
 use Rattle.mapf_grid.specs.Lines.{words, number_of}
 use Rattle.mapf_grid.specs.ScenarioFile.{IsNumberField, field, scen_fault_rank}
 use Rattle.mapf_grid.specs.RowFields.{AreFields, HasRowFault, IsRowFault}
 use Rattle.mapf_grid.specs.declared.scenario.fields.Fields.{Fields}
-use Rattle.mapf_grid.specs.declared.fault.ScenFault.{ScenFault}
-use Rattle.mapf_grid.specs.declared.fault.ScenFault.TheVariants.{Version, FieldCount, Number, NoMemory}
+use Rattle.mapf_grid.specs.declared.fault.ScenFault.TheVariants.{FieldCount, Number}
 
-few_least : (line : List ℕ) (k : ℕ) → length (words line) < 9 → (y : ScenFault) → HasRowFault line k y → Precedes (scen_fault_rank y) (k ∷ []) → ⊥
-few_least line k few Version h p = h
-few_least line k few (FieldCount l) h p =
-    let same : l ≡ k = h.0 in
-    elim p [ inl before ↦ absurd (omega arith) | inr both ↦ both.1 ]
+few_least : (line : List ℕ) (k : ℕ) → length (words line) < 9 → NoneBefore scen_fault_rank (HasRowFault line k) (k ∷ [])
+few_least line k few (FieldCount l) h p = omega (arith, h.0, before_place l k [] p)
 few_least line k few (Number l f) h p = let nine = h.1 in absurd (omega arith)
-few_least line k few NoMemory h p = h
+few_least line k few y h p = h
 
 -- fewer than nine words are the line's first fault
 pub IsRowFault-few : (line : List ℕ) (k : ℕ) → length (words line) < 9 → IsRowFault line k (FieldCount k)
@@ -41,13 +38,12 @@ pub AreNumbersBefore-more : (line : List ℕ) (f n : ℕ) → AreNumbersBefore l
 AreNumbersBefore-more line f n before e g is_field below none =
     ⊎_elim (λ lower. before g is_field lower none) (λ above. some_number line f g n e (omega arith) none) (cases_lt g f)
 
-number_least : (line : List ℕ) (k f : ℕ) → 9 ≤ length (words line) → AreNumbersBefore line f → (y : ScenFault) → HasRowFault line k y → Precedes (scen_fault_rank y) (k ∷ f ∷ []) → ⊥
-number_least line k f nine before Version h p = h
+number_least : (line : List ℕ) (k f : ℕ) → 9 ≤ length (words line) → AreNumbersBefore line f → NoneBefore scen_fault_rank (HasRowFault line k) (k ∷ f ∷ [])
 number_least line k f nine before (FieldCount l) h p = let few = h.1 in absurd (omega arith)
 number_least line k f nine before (Number l g) h p =
     let same : l ≡ k = h.0 in
     elim p [ inl above ↦ absurd (omega arith) | inr both ↦ elim both.1 [ inl lower ↦ before g h.2 lower h.3 | inr none ↦ none.1 ] ]
-number_least line k f nine before NoMemory h p = h
+number_least line k f nine before y h p = h
 
 -- the first number field that is none is the line's first fault
 pub IsRowFault-number : (line : List ℕ) (k f : ℕ) → 9 ≤ length (words line) → AreNumbersBefore line f → IsNumberField f → number_of (field line f) ≡ None → IsRowFault line k (Number k f)
