@@ -6,6 +6,7 @@ use Rattle.mapf_plan.specs.ReadText.{ArePlanNumbers}
 use Rattle.mapf_plan.specs.Head.{IsHead}
 use Rattle.mapf_plan.specs.declared.text.reader.Head.{Head}
 use Rattle.mapf_plan.specs.declared.text.reader.Head.TheVariants as head
+use Rattle.mapf_plan.specs.Plan.{most_bound}
 
 -- behind `plan ` stand no numbers
 pub no_head_by_numbers : (line numbers : List ℕ) → line ≡ codes "plan " ++ numbers → ((pair : ℕ × ℕ) → ¬ ArePlanNumbers numbers pair)
@@ -18,7 +19,7 @@ no_head_by_numbers line numbers begins none (head.None bound) = λ is.
     absurd (omega arith)
 
 -- the line begins neither with `plan ` nor is `none` with a bound
-pub no_head_otherwise : (line : List ℕ) → ((numbers : List ℕ) → line ≢ codes "plan " ++ numbers) → ((bound : ℕ) → bound ≤ 1000000 → line ≢ codes "none " ++ decimal bound)
+pub no_head_otherwise : (line : List ℕ) → ((numbers : List ℕ) → line ≢ codes "plan " ++ numbers) → ((bound : ℕ) → bound ≤ most_bound → line ≢ codes "none " ++ decimal bound)
     → (first : Head) → ¬ IsHead line first
 no_head_otherwise line no_plan no_bound (head.Plan agents cost) = λ is. no_plan is.0 is.1
 no_head_otherwise line no_plan no_bound (head.None bound) = λ is. no_bound bound is.0 is.1
