@@ -22,7 +22,7 @@ use Rattle.mapf_plan.specs.declared.conflict.Conflict.{Conflict}
 use Rattle.mapf_plan.specs.declared.conflict.Conflict.TheVariants.{Vertex, Swapping}
 use Rattle.mapf_check.specs.declared.verdict.Verdict.{Verdict}
 use Rattle.mapf_check.specs.declared.verdict.Verdict.TheVariants as verdict
-use Rattle.mapf_check.specs.Positions.{AreCells, HasPositions}
+use Rattle.mapf_check.specs.Positions.{IsOnMap, HasPositions}
 use Rattle.mapf_check.specs.Verdict.{HasPath, HasFault, NoFaultBefore, IsPlanVerdict, HasOneVerdict, verdict_rank}
 
 -- whether a path's first cell is this one can be decided
@@ -95,7 +95,7 @@ module _ (inst : Instance) (plan : List (List ℕ)) where
   faultless_is_valid agents before none_apart = record {
     agents = count;
     paths = λ i l. path_lem agents none i (l, omega (arith, l, count));
-    apart = none_apart;
+    no_conflict = none_apart;
   }
     where
       none : NoFaultBefore inst plan (67 ∷ [])
@@ -112,7 +112,7 @@ module _ (inst : Instance) (plan : List (List ℕ)) where
 
   -- a conflict that is the first fault is on cells of the map
   conflict_cells : (stated : ℕ) (c : Conflict) → AllByRecursion (AllByRecursion (λ c. c < cells inst.grid)) plan →
-      IsLeast verdict_rank (HasFault inst plan stated) (verdict.Conflict c) → AreCells inst.grid c
+      IsLeast verdict_rank (HasFault inst plan stated) (verdict.Conflict c) → IsOnMap inst.grid c
   conflict_cells stated (Vertex i j v t) all first =
       let count = counted stated 66 (conflict_rank (Vertex i j v t)) (omega arith) first.least in
       let l : i < length plan = omega (arith, first.member.0, first.member.1) in
@@ -148,7 +148,7 @@ module _ (inst : Instance) (plan : List (List ℕ)) where
       h.3 (subst (λ u. Next inst.grid (place plan i (t - 1)) (place plan i u)) same step)
   valid_without_fault stated (verdict.WrongEnd i) valid e h = h.1 (valid.paths i h.0.0).ends
   valid_without_fault stated (verdict.EndsLate i) valid e h = (valid.paths i h.0.0).arrives (cost (path_of plan i) - 1) (omega (arith, h.1)) h.2
-  valid_without_fault stated (verdict.Conflict c) valid e h = valid.apart c h
+  valid_without_fault stated (verdict.Conflict c) valid e h = valid.no_conflict c h
   valid_without_fault stated (verdict.WrongCost s found) valid e h = h.2 (sym e)
 
   -- a valid plan of the stated cost has that verdict alone

@@ -7,9 +7,9 @@ use Rattle.mapf_check.specs.declared.verdict.Verdict.{Verdict}
 use Rattle.mapf_check.specs.declared.verdict.Verdict.TheVariants as verdict
 
 -- the cells of a conflict are cells of the map
-abbrev pub AreCells : Grid → Conflict → Type 0
-AreCells g (Vertex i j v t) = v < cells g
-AreCells g (Swapping i j u v t) = (u < cells g) × (v < cells g)
+abbrev pub IsOnMap : Grid → Conflict → Type 0
+IsOnMap g (Vertex i j v t) = v < cells g
+IsOnMap g (Swapping i j u v t) = (u < cells g) × (v < cells g)
 
 -- a verdict on a conflict names cells of the map
 abbrev pub HasPositions : Grid → Verdict → Type 0
@@ -20,5 +20,5 @@ HasPositions g (verdict.WrongStart i) = Unit {0}
 HasPositions g (verdict.BadStep i t) = Unit {0}
 HasPositions g (verdict.WrongEnd i) = Unit {0}
 HasPositions g (verdict.EndsLate i) = Unit {0}
-HasPositions g (verdict.Conflict c) = AreCells g c
+HasPositions g (verdict.Conflict c) = IsOnMap g c
 HasPositions g (verdict.WrongCost s found) = Unit {0}

@@ -1,5 +1,5 @@
 ghost use Rattle.std.specs.Prelude.{◌≡◌, ◌++◌, string_bytes, IfOk, OnOk};
-ghost use Rattle.mapf_check.specs.Positions.{AreCells, HasPositions};
+ghost use Rattle.mapf_check.specs.Positions.{IsOnMap, HasPositions};
 ghost use Rattle.mapf_check.specs.Wording.{conflict_words, verdict_words, verdict_line};
 
 use crate::Verdict;
@@ -46,7 +46,7 @@ fn push_verdict(text: &mut String, verdict: Verdict, map: &Map) -> Result<(), No
 
 // The words of a conflict.
 fn push_conflict(text: &mut String, conflict: Conflict, map: &Map) -> Result<(), NoMemory>
-    requires { AreCells map.now conflict }
+    requires { IsOnMap map.now conflict }
     ensures { OnOk result (string_bytes text.new ≡ string_bytes text.old ++ conflict_words map.now conflict) }
 {
     match conflict {

@@ -6,13 +6,13 @@ use Rattle.std.proofs.lemmas.Option.{none-some, same_Some}
 use Rattle.mapf_grid.specs.Least.{NoneBefore}
 use Rattle.mapf_grid.specs.Lines.{lines_of, line_at, words, is_blank_line, number_of}
 use Rattle.mapf_grid.specs.ScenarioFile.{IsVersion, IsRowOf, IsScenario, IsNumberField, HasScenFault, IsScenFault, scen_fault_rank, field, without_blank_end}
-use Rattle.mapf_grid.specs.RowFields.{HasRowFault, IsRowFault}
+use Rattle.mapf_grid.specs.RowFields.{HasRowFault, IsScenarioRowFault}
 use Rattle.mapf_grid.specs.declared.scenario.Row.{Row}
 use Rattle.mapf_grid.specs.declared.fault.ScenFault.{ScenFault}
 use Rattle.mapf_grid.specs.declared.fault.ScenFault.TheVariants.{Version, FieldCount, Number, NoMemory}
 use Rattle.mapf_grid.proofs.Firsts.{before_place, first_is_least}
 use Rattle.mapf_grid.proofs.Parting.{words-blanks}
-use Rattle.mapf_grid.proofs.RowFaults.{AreNumbersBefore-second, AreNumbersBefore-more, IsRowFault-few}
+use Rattle.mapf_grid.proofs.RowFaults.{AreNumbersBefore-second, AreNumbersBefore-more, IsScenarioRowFault-few}
 use Rattle.mapf_grid.proofs.BlankEnds.{without_blank_end-reaches, without_blank_end-within, seen_line}
 
 -- the first of the lines behind the version line spell the rows
@@ -141,7 +141,7 @@ rank_of_row_fault line k (Number l f) h = (f ∷ [], ap (λ i. i ∷ f ∷ []) h
 rank_of_row_fault line k y h = absurd h
 
 -- the first fault of the line behind the rows is that of the file
-pub IsScenFault-row : {lines : List (List ℕ)} {rows : List Row} (version : List ℕ) → IsVersion version → AreRows lines rows → length rows + 2 ≤ length (without_blank_end (version ∷ lines)) → (e : ScenFault) → IsRowFault (get_or lines (length rows) []) (length rows + 2) e → IsScenFault (version ∷ lines) e
+pub IsScenFault-row : {lines : List (List ℕ)} {rows : List Row} (version : List ℕ) → IsVersion version → AreRows lines rows → length rows + 2 ≤ length (without_blank_end (version ∷ lines)) → (e : ScenFault) → IsScenarioRowFault (get_or lines (length rows) []) (length rows + 2) e → IsScenFault (version ∷ lines) e
 IsScenFault-row {lines} {rows} version is are stays e row =
     let n = length rows in
     let rank = rank_of_row_fault (get_or lines n []) (n + 2) e row.member in
@@ -226,15 +226,15 @@ IsScenFault-blank {bytes} {rest} {line} {rows} {more} h e blank some version is 
     let stays = stays_up_to h e version (suc seen.0) (omega (arith, seen.1)) seen.2 in
     let here : get_or (lines_of bytes) (length rows) [] ≡ line = ap (λ i. get_or (lines_of bytes) i []) (sym (add-zero (length rows))) ∙ next_line h e 0 in
     let few : length (words (get_or (lines_of bytes) (length rows) [])) < 9 = omega (arith, ap length (ap words here ∙ words-blanks line blank)) in
-    IsScenFault-row version is h.are (omega arith) (FieldCount (length rows + 2)) (IsRowFault-few (get_or (lines_of bytes) (length rows) []) (length rows + 2) few)
+    IsScenFault-row version is h.are (omega arith) (FieldCount (length rows + 2)) (IsScenarioRowFault-few (get_or (lines_of bytes) (length rows) []) (length rows + 2) few)
 
 -- the fault of a line that isn't blank is that of the file
-pub IsScenFault-next : {bytes rest line : List ℕ} {rows : List Row} {more : List (List ℕ)} → HaveRead bytes rest rows → lines_of rest ≡ line ∷ more → is_blank_line line ≡ false → (fault : ScenFault) → IsRowFault line (length rows + 2) fault
+pub IsScenFault-next : {bytes rest line : List ℕ} {rows : List Row} {more : List (List ℕ)} → HaveRead bytes rest rows → lines_of rest ≡ line ∷ more → is_blank_line line ≡ false → (fault : ScenFault) → IsScenarioRowFault line (length rows + 2) fault
     → (version : List ℕ) → IsVersion version → IsScenFault (version ∷ lines_of bytes) fault
 IsScenFault-next {bytes} {rest} {line} {rows} {more} h e seen fault row version is =
     let stays = stays_up_to h e version 0 (omega arith) seen in
     let here : get_or (lines_of bytes) (length rows) [] ≡ line = ap (λ i. get_or (lines_of bytes) i []) (sym (add-zero (length rows))) ∙ next_line h e 0 in
-    IsScenFault-row version is h.are (omega arith) fault (subst (λ l. IsRowFault l (length rows + 2) fault) (sym here) row)
+    IsScenFault-row version is h.are (omega arith) fault (subst (λ l. IsScenarioRowFault l (length rows + 2) fault) (sym here) row)
 
 -- where the lines are a scenario, want of memory alone is left
 pub only_no_memory : {lines : List (List ℕ)} {rows : List Row} → IsScenario lines rows → (e : ScenFault) → ((e ≡ NoMemory → ⊥) → IsScenFault lines e) → e ≡ NoMemory

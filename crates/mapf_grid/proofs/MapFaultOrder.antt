@@ -9,7 +9,7 @@ use Rattle.mapf_grid.proofs.Orders.{irreflexive}
 use Rattle.mapf_grid.specs.Least.{NoneBefore}
 use Rattle.mapf_grid.specs.Lines.{line_at, is_blank_line, number_of}
 use Rattle.mapf_grid.specs.MapFile.{HasSize, IsRowLine, HasMapFault, IsMapFault, map_fault_rank, is_cell}
-use Rattle.mapf_grid.specs.MapReading.{AreCells, IsRowFault}
+use Rattle.mapf_grid.specs.MapReading.{AreCellBytes, IsMapRowFault}
 use Rattle.mapf_grid.specs.declared.fault.MapFault.{MapFault}
 use Rattle.mapf_grid.specs.declared.fault.MapFault.TheVariants.{MissingRow, RowLength, BadCell, TextAfterRows, TooLarge, NoMemory}
 
@@ -34,8 +34,8 @@ IsBadByte row width column byte =
     (0 < column) × (column ≤ width) × (slice_get row (column - 1) ≡ Some byte) × (is_cell byte ≡ false)
 
 -- where the bytes before column n + 1 are cells, the bad byte isn't among them
-pub AreCells-no_bad_byte : (row : List ℕ) (n width column byte : ℕ) → AreCells row n → IsBadByte row width column byte → n < column
-AreCells-no_bad_byte row n width column byte cells bad =
+pub AreCellBytes-no_bad_byte : (row : List ℕ) (n width column byte : ℕ) → AreCellBytes row n → IsBadByte row width column byte → n < column
+AreCellBytes-no_bad_byte row n width column byte cells bad =
     elim (cases_lt n column) [
       | inl behind ↦ behind
       | inr among ↦
@@ -70,16 +70,16 @@ module _ (lines : List (List ℕ)) (k w : ℕ) (line : IsRowLine lines k w) (the
   fault_in_row y u fault e = absurd (omega (arith, line.from, ap (λ l. get_or l 0 0) e))
 
   -- a row of the right length with cells alone has no fault
-  pub none_before-row : length (line_at lines k) ≡ w → AreCells (line_at lines k) w → NoFaultBefore lines (k + 1)
+  pub none_before-row : length (line_at lines k) ≡ w → AreCellBytes (line_at lines k) w → NoFaultBefore lines (k + 1)
   none_before-row exact cells =
       none_before-more lines k none (λ y u fault e.
       elim (fault_in_row y u fault e) [
         | inl wrong ↦ wrong.1 exact
-        | inr bad ↦ (let behind = AreCells-no_bad_byte (line_at lines k) w w bad.0 bad.1 cells bad.3 in omega (arith, behind, bad.3))
+        | inr bad ↦ (let behind = AreCellBytes-no_bad_byte (line_at lines k) w w bad.0 bad.1 cells bad.3 in omega (arith, behind, bad.3))
       ])
 
   -- the first bad byte of a row is the file's first fault
-  pub IsMapFault-bad_cell : (column byte : ℕ) → AreCells (line_at lines k) (column - 1) → IsBadByte (line_at lines k) w column byte
+  pub IsMapFault-bad_cell : (column byte : ℕ) → AreCellBytes (line_at lines k) (column - 1) → IsBadByte (line_at lines k) w column byte
       → IsMapFault lines (BadCell k column byte)
   IsMapFault-bad_cell column byte cells bad = record {
     member = (w, line, bad.0, bad.1, bad.2, bad.3);
@@ -87,7 +87,7 @@ module _ (lines : List (List ℕ)) (k w : ℕ) (line : IsRowLine lines k w) (the
         elim (fault_in_row y u fault e) [
           | inl wrong ↦ elim (rw wrong.0 at before) [ inl less ↦ omega (arith, less) | inr equal ↦ omega (arith, equal.0) ]
           | inr other ↦
-              (let behind = AreCells-no_bad_byte (line_at lines k) (column - 1) w other.0 other.1 cells other.3 in
+              (let behind = AreCellBytes-no_bad_byte (line_at lines k) (column - 1) w other.0 other.1 cells other.3 in
               elim (rw other.2 at before) [
                 | inl less ↦ omega (arith, less)
                 | inr equal ↦ elim equal.1 [ inl less ↦ omega (arith, less, behind) | inr same_column ↦ same_column.1 ]
@@ -96,18 +96,18 @@ module _ (lines : List (List ℕ)) (k w : ℕ) (line : IsRowLine lines k w) (the
   }
 
   -- a row with cells alone and another length has the file's first fault
-  pub IsMapFault-row_length : AreCells (line_at lines k) w → length (line_at lines k) ≢ w → IsMapFault lines (RowLength k)
+  pub IsMapFault-row_length : AreCellBytes (line_at lines k) w → length (line_at lines k) ≢ w → IsMapFault lines (RowLength k)
   IsMapFault-row_length cells wrong = record {
     member = (w, line, there, wrong);
     least = none_before-there map_fault_rank (HasMapFault lines) (k ∷ []) (1 ∷ []) none (λ y u fault e before.
         elim (fault_in_row y u fault e) [
           | inl other ↦ irreflexive (1 ∷ []) (rw other.0 at before)
-          | inr bad ↦ (let behind = AreCells-no_bad_byte (line_at lines k) w w bad.0 bad.1 cells bad.3 in omega (arith, behind, bad.3))
+          | inr bad ↦ (let behind = AreCellBytes-no_bad_byte (line_at lines k) w w bad.0 bad.1 cells bad.3 in omega (arith, behind, bad.3))
         ]);
   }
 
   -- the fault that a row's reader gives is the file's first
-  pub IsMapFault-row : (y : MapFault) → IsRowFault (line_at lines k) k w y → y ≢ NoMemory → IsMapFault lines y
+  pub IsMapFault-row : (y : MapFault) → IsMapRowFault (line_at lines k) k w y → y ≢ NoMemory → IsMapFault lines y
   IsMapFault-row (BadCell j column byte) fault named =
       let found = IsMapFault-bad_cell column byte fault.3 (fault.1, fault.2, fault.4, fault.5) in
       let P : ℕ → Type 0 = λ i. IsMapFault lines (BadCell i column byte) in

@@ -4,7 +4,7 @@ use Rattle.std.proofs.lemmas.Bool.{cases_lt}
 use Rattle.std.proofs.lemmas.List.{drop_more, drop_all}
 use Rattle.mapf_grid.specs.Lines.{lines_of, line_at, is_blank_line}
 use Rattle.mapf_grid.specs.MapFile.{HasSize, IsRowLine, IsMapFault}
-use Rattle.mapf_grid.specs.MapReading.{HasRead, IsHeader, AreCells, IsRowFault}
+use Rattle.mapf_grid.specs.MapReading.{HasRead, IsHeader, AreCellBytes, IsMapRowFault}
 use Rattle.mapf_grid.specs.declared.fault.MapFault.{MapFault}
 use Rattle.mapf_grid.specs.declared.fault.MapFault.TheVariants.{MissingRow, TextAfterRows, NoMemory}
 use Rattle.mapf_grid.proofs.MapFaultOrder.{NoFaultBefore, none_before-row, IsMapFault-row, none_before-blank, blank-from_none_before}
@@ -112,12 +112,12 @@ module _ (lines : List (List ℕ)) (h w : ℕ) (header : IsHeader lines h w) (y 
         ap (line_at lines) same ∙ row_at
 
     -- a right row is read
-    pub HasRead-row : length row ≡ w → AreCells row w → HasRead lines (4 + (y + 1)) after
+    pub HasRead-row : length row ≡ w → AreCellBytes row w → HasRead lines (4 + (y + 1)) after
     HasRead-row exact cells =
         let behind : (4 + y) + 1 ≡ 4 + (y + 1) = omega arith in
         let next : (5 + y) + 1 ≡ (4 + (y + 1)) + 1 = omega arith in
         let there : 5 + y ≤ length lines = omega (arith, row_there.there) in
-        let Cells : List ℕ → Type 0 = λ bytes. AreCells bytes w in
+        let Cells : List ℕ → Type 0 = λ bytes. AreCellBytes bytes w in
         let none = none_before-row lines (5 + y) w next_is_row there none_before_next (ap length row_at ∙ exact) (subst Cells (sym row_at) cells) in
         record {
           left = row_there.left ∙ ap (λ k. drop k lines) behind;
@@ -125,8 +125,8 @@ module _ (lines : List (List ℕ)) (h w : ℕ) (header : IsHeader lines h w) (y 
         }
 
     -- a wrong row has the first fault
-    pub IsMapFault-wrong_row : (e : MapFault) → IsRowFault row (5 + y) w e → e ≢ NoMemory → IsMapFault lines e
+    pub IsMapFault-wrong_row : (e : MapFault) → IsMapRowFault row (5 + y) w e → e ≢ NoMemory → IsMapFault lines e
     IsMapFault-wrong_row e fault named =
         let there : 5 + y ≤ length lines = omega (arith, row_there.there) in
-        let Fault : List ℕ → Type 0 = λ bytes. IsRowFault bytes (5 + y) w e in
+        let Fault : List ℕ → Type 0 = λ bytes. IsMapRowFault bytes (5 + y) w e in
         IsMapFault-row lines (5 + y) w next_is_row there none_before_next e (subst Fault (sym row_at) fault) named

@@ -6,7 +6,7 @@ use Rattle.std.proofs.lemmas.Bool.{cases_order, cases_lt}
 use Rattle.std.proofs.lemmas.List.{get_or_append_left, get_or_at}
 use Rattle.std.proofs.lemmas.List.Elements.{Contains-append_left, Contains-push, Contains-push_cases, Contains-get_or}
 use Rattle.mapf_grid.specs.Grid.{Grid, IsFree, IsBeside, Next}
-use Rattle.mapf_grid.specs.Sides.{Offers}
+use Rattle.mapf_grid.specs.Sides.{PushesFree}
 
 -- a rising list that is pushed something larger
 increasing_push : (xs : List ℕ) (c : ℕ) → IsStrictlyIncreasing xs → ((v : ℕ) → Contains xs v → v < c) → IsStrictlyIncreasing (xs ++ c ∷ [])
@@ -31,9 +31,9 @@ pub holds_none : Holds (λ _. ⊥) []
 holds_none = record { cells = λ v. ((λ h. omega (arith, h.1)), λ h. absurd h); rising = λ k h. absurd (omega (arith, h)) }
 
 -- a side that lies behind all others joins them, if it is free
-pub holds_offer : (g : Grid) (P : ℕ → Type 0) (side : Option ℕ) (old new : List ℕ) → Holds P old → Offers g side old new →
+pub holds_push : (g : Grid) (P : ℕ → Type 0) (side : Option ℕ) (old new : List ℕ) → Holds P old → PushesFree g side old new →
     ((v c : ℕ) → P v → side ≡ Some c → v < c) → Holds (λ v. P v ⊎ ((side ≡ Some v) × IsFree g v)) new
-holds_offer g P side old new h (inl (c, is, free, e)) larger =
+holds_push g P side old new h (inl (c, is, free, e)) larger =
     subst (Holds (λ v. P v ⊎ ((side ≡ Some v) × IsFree g v))) (sym e) (record {
       cells = λ v. (to v, from v);
       rising = increasing_push old c h.rising (λ v i. larger v c ((h.cells v).0 i) is);
@@ -51,7 +51,7 @@ holds_offer g P side old new h (inl (c, is, free, e)) larger =
     from v (inr p) =
         let same : c ≡ v = cc (is, p.0) in
         subst (Contains (old ++ c ∷ [])) same (Contains-push old c)
-holds_offer g P side old new h (inr (blocked, e)) larger =
+holds_push g P side old new h (inr (blocked, e)) larger =
     subst (Holds (λ v. P v ⊎ ((side ≡ Some v) × IsFree g v))) (sym e) (record { cells = λ v. (to v, from v); rising = h.rising })
   where
     to : (v : ℕ) → Contains old v → P v ⊎ ((side ≡ Some v) × IsFree g v)
@@ -74,19 +74,19 @@ wide w u some same = go (cases_order w 1)
     go (inr (inr h)) = h
 
 module _ (g : Grid) (cell : ℕ) (above left right below : Option ℕ) (a b c d : List ℕ) where
-  -- what the four sides are, and how they were offered, one after another
+  -- what the four sides are, and how they were pushed, one after another
   pub record FourSides : Type 0 where
     pub width : 0 < g.width
     pub is_above : (v : ℕ) → (above ≡ Some v) ↔ (cell ≡ v + g.width)
     pub is_left : (v : ℕ) → (left ≡ Some v) ↔ ((cell ≡ v + 1) × (cell / g.width ≡ v / g.width))
     pub is_right : (v : ℕ) → (right ≡ Some v) ↔ ((v ≡ cell + 1) × (v / g.width ≡ cell / g.width))
     pub is_below : (v : ℕ) → (below ≡ Some v) ↔ (v ≡ cell + g.width)
-    pub one : Offers g above [] a
-    pub two : Offers g left a b
-    pub three : Offers g right b c
-    pub four : Offers g below c d
+    pub one : PushesFree g above [] a
+    pub two : PushesFree g left a b
+    pub three : PushesFree g right b c
+    pub four : PushesFree g below c d
 
-  -- the sides offered so far
+  -- the sides pushed so far
   abbrev Above : ℕ → Type 0
   Above v = ⊥ ⊎ ((above ≡ Some v) × IsFree g v)
 
@@ -129,10 +129,10 @@ module _ (g : Grid) (cell : ℕ) (above left right below : Option ℕ) (a b c d 
 
       all : Holds (λ v. Right v ⊎ ((below ≡ Some v) × IsFree g v)) d
       all =
-          let h1 = holds_offer g (λ _. ⊥) above [] a holds_none s.one (λ v u h e. absurd h) in
-          let h2 = holds_offer g Above left a b h1 s.two above_least in
-          let h3 = holds_offer g Left right b c h2 s.three left_less in
-          holds_offer g Right below c d h3 s.four right_less
+          let h1 = holds_push g (λ _. ⊥) above [] a holds_none s.one (λ v u h e. absurd h) in
+          let h2 = holds_push g Above left a b h1 s.two above_least in
+          let h3 = holds_push g Left right b c h2 s.three left_less in
+          holds_push g Right below c d h3 s.four right_less
 
       to : (v : ℕ) → Right v ⊎ ((below ≡ Some v) × IsFree g v) → IsFree g v × IsBeside g cell v
       to v (inl (inl (inl (inl h)))) = absurd h

@@ -7,22 +7,22 @@ use Rattle.std.specs.List.{slice_get}
 use Rattle.std.specs.Option.{option_map}
 use Rattle.mapf_grid.specs.MapFile.{IsRow, is_cell, is_ground}
 use Rattle.mapf_grid.specs.Lines.{line_at}
-use Rattle.mapf_grid.specs.MapReading.{AreCells, IsRowFault}
+use Rattle.mapf_grid.specs.MapReading.{AreCellBytes, IsMapRowFault}
 use Rattle.mapf_grid.specs.declared.fault.MapFault.TheVariants.{BadCell}
 
 -- the first byte of a row that is no cell is its fault
-pub IsRowFault-bad_cell : (row : List ℕ) (k width x byte : ℕ) → AreCells row x → x < length row → x < width → byte ≡ get_or row x 0
-    → (is_cell byte ≡ true → ⊥) → IsRowFault row k width (BadCell k (x + 1) byte)
-IsRowFault-bad_cell row k width x byte cells there within read other =
+pub IsMapRowFault-bad_cell : (row : List ℕ) (k width x byte : ℕ) → AreCellBytes row x → x < length row → x < width → byte ≡ get_or row x 0
+    → (is_cell byte ≡ true → ⊥) → IsMapRowFault row k width (BadCell k (x + 1) byte)
+IsMapRowFault-bad_cell row k width x byte cells there within read other =
     let place : x ≡ (x + 1) - 1 = omega arith in
     let at : slice_get row x ≡ Some byte = slice_get-get_or row x 0 there ∙ ap Some (sym read) in
-    let Cells : ℕ → Type 0 = λ n. AreCells row n in
+    let Cells : ℕ → Type 0 = λ n. AreCellBytes row n in
     let At : ℕ → Type 0 = λ n. slice_get row n ≡ Some byte in
     (refl, omega arith, omega (arith, within), subst Cells place cells, subst At place at, false_from_ne_true (is_cell byte) other)
 
 -- one more byte is a cell
-pub AreCells-more : (row : List ℕ) (n : ℕ) → AreCells row n → is_cell (get_or row n 0) ≡ true → AreCells row (n + 1)
-AreCells-more row n cells cell x below within =
+pub AreCellBytes-more : (row : List ℕ) (n : ℕ) → AreCellBytes row n → is_cell (get_or row n 0) ≡ true → AreCellBytes row (n + 1)
+AreCellBytes-more row n cells cell x below within =
     elim (cases_lt x n) [
       | inl before ↦ cells x before within
       | inr last ↦ (let same : x ≡ n = omega (arith, below, last) in ap (λ k. is_cell (get_or row k 0)) same ∙ cell)
@@ -63,7 +63,7 @@ module _ (w h : ℕ) (free : List Bool) (row : List ℕ) where
   }
 
   -- the row that is added is the next row
-  pub IsRow-last : (y : ℕ) → length free ≡ y * w → length row ≡ w → AreCells row w
+  pub IsRow-last : (y : ℕ) → length free ≡ y * w → length row ≡ w → AreCellBytes row w
       → IsRow (record { width = w; height = h; free = free ++ map is_ground row }) y row
   IsRow-last y count exact cells = record {
     exact = exact;
@@ -83,7 +83,7 @@ module _ (w h : ℕ) (free : List Bool) (row : List ℕ) where
   -- the rows so far and the next one
   pub IsRow-more : (lines : List (List ℕ)) (y : ℕ)
       → ((j : ℕ) → j < y → IsRow (record { width = w; height = h; free = free }) j (line_at lines (j + 5)))
-      → length free ≡ y * w → length row ≡ w → AreCells row w → line_at lines (y + 5) ≡ row
+      → length free ≡ y * w → length row ≡ w → AreCellBytes row w → line_at lines (y + 5) ≡ row
       → (j : ℕ) → j < y + 1 → IsRow (record { width = w; height = h; free = free ++ map is_ground row }) j (line_at lines (j + 5))
   IsRow-more lines y rows count exact cells at j below =
       elim (cases_lt j y) [

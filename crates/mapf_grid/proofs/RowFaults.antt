@@ -6,7 +6,7 @@ use Rattle.mapf_grid.proofs.Firsts.{before_place}
 use Rattle.mapf_grid.specs.Least.{NoneBefore}
 use Rattle.mapf_grid.specs.Lines.{words, number_of}
 use Rattle.mapf_grid.specs.ScenarioFile.{IsNumberField, field, scen_fault_rank}
-use Rattle.mapf_grid.specs.RowFields.{AreFields, HasRowFault, IsRowFault}
+use Rattle.mapf_grid.specs.RowFields.{AreFields, HasRowFault, IsScenarioRowFault}
 use Rattle.mapf_grid.specs.declared.scenario.fields.Fields.{Fields}
 use Rattle.mapf_grid.specs.declared.fault.ScenFault.TheVariants.{FieldCount, Number}
 
@@ -16,8 +16,8 @@ few_least line k few (Number l f) h p = let nine = h.1 in absurd (omega arith)
 few_least line k few y h p = h
 
 -- fewer than nine words are the line's first fault
-pub IsRowFault-few : (line : List ℕ) (k : ℕ) → length (words line) < 9 → IsRowFault line k (FieldCount k)
-IsRowFault-few line k few = record { member = (refl, few); least = few_least line k few }
+pub IsScenarioRowFault-few : (line : List ℕ) (k : ℕ) → length (words line) < 9 → IsScenarioRowFault line k (FieldCount k)
+IsScenarioRowFault-few line k few = record { member = (refl, few); least = few_least line k few }
 
 -- the number fields before f are numbers
 abbrev pub AreNumbersBefore : List ℕ → ℕ → Type 0
@@ -46,8 +46,8 @@ number_least line k f nine before (Number l g) h p =
 number_least line k f nine before y h p = h
 
 -- the first number field that is none is the line's first fault
-pub IsRowFault-number : (line : List ℕ) (k f : ℕ) → 9 ≤ length (words line) → AreNumbersBefore line f → IsNumberField f → number_of (field line f) ≡ None → IsRowFault line k (Number k f)
-IsRowFault-number line k f nine before is_field none = record { member = (refl, nine, is_field, none); least = number_least line k f nine before }
+pub IsScenarioRowFault-number : (line : List ℕ) (k f : ℕ) → 9 ≤ length (words line) → AreNumbersBefore line f → IsNumberField f → number_of (field line f) ≡ None → IsScenarioRowFault line k (Number k f)
+IsScenarioRowFault-number line k f nine before is_field none = record { member = (refl, nine, is_field, none); least = number_least line k f nine before }
 
 -- the fields that a line spells, by their numbers
 pub record SpellsFields (line : List ℕ) (fields : Fields) : Type 0 where

@@ -24,14 +24,14 @@ pub record IsHeader (lines : List (List ℕ)) (height width : ℕ) : Type 0 wher
   pub small_width : width ≤ most_side
 
 -- the first n bytes of a row, or all if it has fewer, are cells
-abbrev pub AreCells : List ℕ → ℕ → Type 0
-AreCells row n = (x : ℕ) → x < n → x < length row → is_cell (slice_index row x) ≡ true
+abbrev pub AreCellBytes : List ℕ → ℕ → Type 0
+AreCellBytes row n = (x : ℕ) → x < n → x < length row → is_cell (slice_index row x) ≡ true
 
 -- the fault of a row that is to have so many bytes and stands in line k
-abbrev pub IsRowFault : List ℕ → ℕ → ℕ → MapFault → Type 0
-IsRowFault row k width (BadCell line column byte) =
-    (line ≡ k) × (0 < column) × (column ≤ width) × AreCells row (column - 1)
+abbrev pub IsMapRowFault : List ℕ → ℕ → ℕ → MapFault → Type 0
+IsMapRowFault row k width (BadCell line column byte) =
+    (line ≡ k) × (0 < column) × (column ≤ width) × AreCellBytes row (column - 1)
     × (slice_get row (column - 1) ≡ Some byte) × (is_cell byte ≡ false)
-IsRowFault row k width (RowLength line) = (line ≡ k) × AreCells row width × (length row ≢ width)
-IsRowFault row k width NoMemory = Unit {0}
-IsRowFault row k width other = ⊥
+IsMapRowFault row k width (RowLength line) = (line ≡ k) × AreCellBytes row width × (length row ≢ width)
+IsMapRowFault row k width NoMemory = Unit {0}
+IsMapRowFault row k width other = ⊥

@@ -23,5 +23,5 @@ HasRowFault line k (Number l f) =
 HasRowFault line k NoMemory = ⊥
 
 -- the line's first fault
-abbrev pub IsRowFault : List ℕ → ℕ → ScenFault → Type 0
-IsRowFault line k fault = IsLeast scen_fault_rank (HasRowFault line k) fault
+abbrev pub IsScenarioRowFault : List ℕ → ℕ → ScenFault → Type 0
+IsScenarioRowFault line k fault = IsLeast scen_fault_rank (HasRowFault line k) fault

@@ -29,7 +29,7 @@ impl Model for Map {
 
 impl Map {
     ghost use Rattle.mapf_grid.specs.Grid.{Grid, cells, IsFree, IsBeside, Next, HasSizes};
-    ghost use Rattle.mapf_grid.specs.Sides.{Offers};
+    ghost use Rattle.mapf_grid.specs.Sides.{PushesFree};
 
     /// How many columns there are: 1 to 2,048.
     pub fn width(&self) -> u32
@@ -87,10 +87,10 @@ impl Map {
         ensures rising { IsStrictlyIncreasing result.items }
     {
         let mut sides = SmallVec::new(*self.free.allocator());
-        self.offer(self.above(cell), &mut sides);
-        self.offer(self.at_left(cell), &mut sides);
-        self.offer(self.at_right(cell), &mut sides);
-        self.offer(self.below(cell), &mut sides);
+        self.push_free(self.above(cell), &mut sides);
+        self.push_free(self.at_left(cell), &mut sides);
+        self.push_free(self.at_right(cell), &mut sides);
+        self.push_free(self.below(cell), &mut sides);
         sides
     }
 
@@ -140,9 +140,9 @@ impl Map {
     }
 
     /// Adds a cell to the list, if there is one and it is free.
-    fn offer(&self, side: Option<Cell>, sides: &mut SmallVec<Cell, 4>)
+    fn push_free(&self, side: Option<Cell>, sides: &mut SmallVec<Cell, 4>)
         requires { HasRoomFor sides.old 1 }
-        ensures offers { Offers self.now side sides.old.items sides.new.items }
+        ensures pushes { PushesFree self.now side sides.old.items sides.new.items }
         ensures capacity { sides.new.capacity ≡ sides.old.capacity }
     {
         if let Some(cell) = side {

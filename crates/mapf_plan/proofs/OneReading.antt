@@ -70,7 +70,7 @@ none_first_line g bound within = (
 )
 
 -- the text of an answer has no fault
-text_has_no_fault : (g : Grid) (a : Answer) → HasSizes g → read.HasSizes a → CanWrite g a → (f : TextFault) → ¬ HasTextFault g (text g a) f
+text_has_no_fault : (g : Grid) (a : Answer) → HasSizes g → read.IsWithinLimits a → CanWrite g a → (f : TextFault) → ¬ HasTextFault g (text g a) f
 text_has_no_fault g (answer.Plan plan cost) sizes sized can =
     let head = plan_head (length plan) cost in
     let first = plan_first_line g plan cost sized.1 can.0 in

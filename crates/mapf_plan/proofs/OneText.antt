@@ -47,7 +47,7 @@ plan_is_one g (p ∷ ps) (q ∷ qs) xs ys sizes sized inside other_sized other_i
     let rest : ps ≡ qs = plan_is_one g ps qs xs ys sizes sized.1 inside.1 other_sized.1 other_inside.1 (omega arith) cut.1 in
     cc
 
-answer_is_one : (g : Grid) (a b : Answer) (xs ys : List ℕ) → HasSizes g → read.HasSizes a → CanWrite g a → read.HasSizes b → CanWrite g b
+answer_is_one : (g : Grid) (a b : Answer) (xs ys : List ℕ) → HasSizes g → read.IsWithinLimits a → CanWrite g a → read.IsWithinLimits b → CanWrite g b
     → text g a ++ xs ≡ text g b ++ ys → a ≡ b
 answer_is_one g (answer.Plan plan stated) (answer.Plan other cost) xs ys sizes a_sizes a_can b_sizes b_can same =
     let left : text g (answer.Plan plan stated) ++ xs ≡ codes "plan " ++ (decimal (length plan) ++ 32 ∷ (decimal stated ++ 10 ∷ (flat_map (line g) plan ++ xs))) = simp append_assoc in

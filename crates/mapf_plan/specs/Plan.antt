@@ -64,7 +64,7 @@ pub record IsValid (inst : Instance) (plan : List (List ℕ)) : Type 0 where
   pub agents : length plan ≡ length inst.starts
   pub paths : (i : ℕ) → i < length inst.starts →
       IsPath inst.grid (slice_index inst.starts i) (slice_index inst.goals i) (path_of plan i)
-  pub apart : HasNoConflict plan
+  pub no_conflict : HasNoConflict plan
 
 -- a valid plan within the bound that costs least of all valid plans
 pub record IsOptimum (inst : Instance) (bound : ℕ) (plan : List (List ℕ)) : Type 0 where

@@ -13,14 +13,14 @@ use Rattle.mapf_plan.specs.declared.text.fault.TextFault.{TextFault}
 use Rattle.mapf_plan.specs.declared.text.fault.TextFault.TheVariants.{Head, Line, Outside, NoMemory}
 
 -- the sizes that the answers of texts have: 1 to 1,000 paths, each of 1 to 1,000,001 cells
-abbrev pub HasSizes : Answer → Type 0
-HasSizes (answer.Plan plan stated) =
+abbrev pub IsWithinLimits : Answer → Type 0
+IsWithinLimits (answer.Plan plan stated) =
     (0 < length plan) × (length plan ≤ most_agents) × AllByRecursion (λ path. (0 < length path) × (length path ≤ most_cells)) plan
-HasSizes (answer.None bound) = Unit {0}
+IsWithinLimits (answer.None bound) = Unit {0}
 
 -- the bytes are the text of this answer, whose sizes and numbers are within their limits
 pub record IsTextOf (g : Grid) (bytes : List ℕ) (answer : Answer) : Type 0 where
-  pub sizes : HasSizes answer
+  pub sizes : IsWithinLimits answer
   pub writable : CanWrite g answer
   pub spelled : bytes ≡ text g answer
 

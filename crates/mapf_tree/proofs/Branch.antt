@@ -51,7 +51,7 @@ obeys_one_side problem node plan other c nc np is valid obeys = left (dec_breaks
 
     right : Breaks (path_of other (agent_on c Left)) (constraint_on c Left) → Dec (Breaks (path_of other (agent_on c Right)) (constraint_on c Right)) → ObeysNode problem (side_of node c Left) other ⊎ ObeysNode problem (side_of node c Right) other
     right l (no r) = inr (obeys_side problem node other c Right (agent Right) r obeys)
-    right l (yes r) = absurd (valid.apart c (both_break plan other c (np ∙ sym valid.agents) is l r))
+    right l (yes r) = absurd (valid.no_conflict c (both_break plan other c (np ∙ sym valid.agents) is l r))
 
     left : Dec (Breaks (path_of other (agent_on c Left)) (constraint_on c Left)) → ObeysNode problem (side_of node c Left) other ⊎ ObeysNode problem (side_of node c Right) other
     left (no l) = inl (obeys_side problem node other c Left (agent Left) l obeys)

@@ -65,7 +65,7 @@ module _ (problem : Problem) (other : List (List ℕ)) (valid : IsValid problem.
       sides below c first (inr o) = on_side below c first Right o
 
       found : Below → ((c : Conflict) × IsFirstConflict plan c) ⊎ HasNoConflict plan → Cheaper
-      found below (inr none) = ((node, plan), record { planned = record { inside = inside; plan = has }; apart = none }, costs)
+      found below (inr none) = ((node, plan), record { planned = record { inside = inside; plan = has }; no_conflict = none }, costs)
       found below (inl w) =
           sides below w.0 w.1 (obeys_one_side problem node plan other w.0 (grown_all problem node inside).agents has.agents w.1.member valid obeys)
 
@@ -80,7 +80,7 @@ module _ (problem : Problem) (other : List (List ℕ)) (valid : IsValid problem.
 
 -- a solution's plan is valid
 solution_valid : (problem : Problem) (found : PlannedNode) → IsSolution problem found → IsValid problem.inst found.1
-solution_valid problem found s = record { agents = s.planned.plan.agents; paths = λ i h. (s.planned.plan.own i h).member.path; apart = s.apart }
+solution_valid problem found s = record { agents = s.planned.plan.agents; paths = λ i h. (s.planned.plan.own i h).member.path; no_conflict = s.no_conflict }
 
 -- the first solution costs no more than that solution
 pub answer_is_optimum : AnswerIsOptimum

@@ -39,7 +39,7 @@ module _ (problem : Problem) (one : length problem.inst.starts ≡ 1) where
   answer p own = (
     root_of problem,
     record {
-      member = record { planned = record { inside = root has; plan = has }; apart = no_conflict (p ∷ []) refl };
+      member = record { planned = record { inside = root has; plan = has }; no_conflict = no_conflict (p ∷ []) refl };
       least = λ other s. not_before other s (only_root problem one other.0 s.planned.inside);
     },
   )

@@ -156,12 +156,12 @@ module _ (problem : Problem) where
     pub ends_at_first : HasNoConflict x.1 → IsFirstSolution problem x
     ends_at_first none =
         record {
-          member = record { planned = x_waits.member; apart = none };
+          member = record { planned = x_waits.member; no_conflict = none };
           least = λ y s l. go y s l (dec_reached last y);
         }
       where
         go : (y : PlannedNode) → IsSolution problem y → Precedes (key y) (key x) → Dec (IsReached last y) → ⊥
-        go y s l (yes r) = at.none_yet y s.planned r s.apart
+        go y s l (yes r) = at.none_yet y s.planned r s.no_conflict
         go y s l (no n) = none_between y s.planned n l
 
   -- if none waits, all of the tree is reached
@@ -169,7 +169,7 @@ module _ (problem : Problem) where
   ends_at_none last Waits at empty y s = go (dec_reached last y)
     where
       go : Dec (IsReached last y) → ⊥
-      go (yes r) = at.none_yet y s.planned r s.apart
+      go (yes r) = at.none_yet y s.planned r s.no_conflict
       go (no n) = let w = waits_above last y.0 y.1 s.planned.inside s.planned.plan n in empty w.0 ((at.waits w.0).1 w.1)
 
   -- nothing is reached, so the root alone waits

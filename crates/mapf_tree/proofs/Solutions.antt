@@ -39,8 +39,8 @@ module _ (problem : Problem) where
           same f e s = same_plan problem p w.0 f.1 w.1 (subst (λ x. HasPlan problem x f.1) (sym e) s.planned.plan)
 
           by : ((c : Conflict) × IsFirstConflict w.0 c) ⊎ HasNoConflict w.0 → SolutionsOf (p ∷ ps)
-          by (inl c) = skip (λ f e s. s.apart c.0 (subst (λ q. IsConflict q c.0) (same f e s) c.1.member)) r
-          by (inr none) = ((p, w.0) ∷ r.0, (record { planned = record { inside = a.0; plan = w.1 }; apart = none }, r.1), each)
+          by (inl c) = skip (λ f e s. s.no_conflict c.0 (subst (λ q. IsConflict q c.0) (same f e s) c.1.member)) r
+          by (inr none) = ((p, w.0) ∷ r.0, (record { planned = record { inside = a.0; plan = w.1 }; no_conflict = none }, r.1), each)
             where
               each : (f : PlannedNode) → In (p ∷ ps) f.0 → IsSolution problem f → In ((p, w.0) ∷ r.0) f
               each f (inl e) s = inl (λ i. (e i, same f e s i))

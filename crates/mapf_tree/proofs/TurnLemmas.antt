@@ -70,7 +70,7 @@ module _ (p : Problem) (last : Option (List ℕ)) (old : List Node) (taken : IsT
 
     -- and if it has none, it is the answer
     pub solves : HasNoConflict x.1 → IsAnswer p (Some x.1)
-    solves apart = (x.0, ends_at_first p last (HasNodeFor p old) x at turn.least apart)
+    solves no_conflict = (x.0, ends_at_first p last (HasNodeFor p old) x at turn.least free)
 
 -- the root waits at first, if it is in the tree
 pub root_waits : (p : Problem) (o : Option Node) (old new : List Node) → old ≡ [] → IsRoot p o → IsPutIfSome old o new → IsTakenTo p None new × NoneSolves p None
@@ -93,8 +93,8 @@ root_waits p o old new none is given = (record { greatest = tt; none_before = λ
 pub solved_case : (p : Problem) (old new : List Node) (first : Node) (k : Key) (plan : List (List ℕ)) → old ≡ first ∷ new → IsRising old → AllStand p old → first.conflict ≡ None → key_rank k ≡ node_key first → plan ≡ first.plan → k.cost ≡ plan_cost first.plan → IsTurned p old new (variant.Solved k plan)
 solved_case p old new first k plan e rising all none rank is cost =
     let x = all first (subst (λ ns. Contains ns first) (sym e) (Contains-In (first ∷ new) first (inl refl))) in
-    let apart = none_stands p first x.0 x.1 none in
-    (x.0, solved_turn p old new first x.0 e rising all x.1 apart, apart, rank ∙ key-stands p first x.0 x.1, is ∙ x.1.plan, cost ∙ ap plan_cost (sym is))
+    let free = none_stands p first x.0 x.1 none in
+    (x.0, solved_turn p old new first x.0 e rising all x.1 free, free, rank ∙ key-stands p first x.0 x.1, is ∙ x.1.plan, cost ∙ ap plan_cost (sym is))
 
 -- a conflict that a test found
 pub conflict_there : (o q : Option Conflict) (b : Bool) → is_some o ≡ not b → o ≡ q → b ≡ false → (c : Conflict) × (q ≡ Some c)

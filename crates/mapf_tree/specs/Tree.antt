@@ -76,7 +76,7 @@ pub record IsMember (problem : Problem) (m : PlannedNode) : Type 0 where
 -- a node of the tree with its plan, which has no conflict
 pub record IsSolution (problem : Problem) (m : PlannedNode) : Type 0 where
   pub planned : IsMember problem m
-  pub apart : HasNoConflict m.1
+  pub no_conflict : HasNoConflict m.1
 
 abbrev pub turn : Side → ℕ
 turn Left = 0

@@ -4,7 +4,7 @@ ghost use Rattle.std.specs.Prelude.{◌≡◌, ◌≢◌, ℕ, ◌+◌, ◌*◌,
 ghost use Rattle.mapf_grid.specs.Lines.{lines_of, line_at};
 ghost use Rattle.mapf_grid.specs.Grid.{Grid};
 ghost use Rattle.mapf_grid.specs.MapFile.{IsRow, IsMap, IsMapFault, is_ground, is_cell};
-ghost use Rattle.mapf_grid.specs.MapReading.{IsHeader, HasRead, AreCells, IsRowFault};
+ghost use Rattle.mapf_grid.specs.MapReading.{IsHeader, HasRead, AreCellBytes, IsMapRowFault};
 
 use super::Map;
 use super::header::read_header;
@@ -91,10 +91,10 @@ fn read_rows(alloc: Global, bytes: &[u8]) -> Result<Rows<'_>, MapFault>
 
 /// Reads the row in this line of the file, and adds its cells.
 fn read_row(row: &[u8], line: usize, width: usize, free: &mut Vec<bool>) -> Result<(), MapFault>
-    ensures cells { OnOk result (AreCells row.now width) }
+    ensures cells { OnOk result (AreCellBytes row.now width) }
     ensures exact { OnOk result (length row.now ≡ width) }
     ensures added { OnOk result (free.new.items ≡ free.old.items ++ map is_ground row.now) }
-    ensures fault { IfErr result (IsRowFault row.now line width) }
+    ensures fault { IfErr result (IsMapRowFault row.now line width) }
 {
     let cells = &row[..width.min(row.len())];
     for (x, byte) in cells.iter().enumerate() {

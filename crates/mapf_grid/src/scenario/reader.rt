@@ -4,7 +4,7 @@ ghost use Rattle.std.specs.Prelude.{◌≡◌, ◌≢◌, ◌∷◌, ◌+◌, �
 ghost use Rattle.std.specs.List.{list_all};
 ghost use Rattle.mapf_grid.specs.Lines.{lines_of, is_blank_line, number_of};
 ghost use Rattle.mapf_grid.specs.ScenarioFile.{IsVersion, IsRowOf, IsScenario, IsScenFault};
-ghost use Rattle.mapf_grid.specs.RowFields.{AreFields, IsRowFault};
+ghost use Rattle.mapf_grid.specs.RowFields.{AreFields, IsScenarioRowFault};
 ghost use Rattle.mapf_grid.specs.declared.scenario.Row.{Row};
 
 use super::fields::Fields;
@@ -85,7 +85,7 @@ fn are_blank_lines(mut rest: &[u8]) -> bool
 
 fn read_row(alloc: Global, text: &[u8], line: usize) -> Result<Row, ScenFault>
     ensures found { IfOk result (IsRowOf text.now) }
-    ensures fault { IfErr result (λ e. e ≢ ScenFault.NoMemory → IsRowFault text.now line e) }
+    ensures fault { IfErr result (λ e. e ≢ ScenFault.NoMemory → IsScenarioRowFault text.now line e) }
 {
     let fields = Fields::of(text).ok_or(ScenFault::FieldCount { line })?;
     let bucket = number_field(fields.bucket, line, 1)?;

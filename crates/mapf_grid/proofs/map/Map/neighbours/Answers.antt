@@ -1,31 +1,31 @@
 use Rattle.std.proofs.Common.{ℕ, ◌<◌, List, subst}
 use Rattle.mapf_grid.specs.Grid.{Grid, IsFree, IsBeside}
-use Rattle.mapf_grid.specs.Sides.{Offers}
+use Rattle.mapf_grid.specs.Sides.{PushesFree}
 use Rattle.mapf_grid.proofs.Neighbours.{Holds, sides_of_cell, sides_are_steps}
 use Rattle.mapf_grid.proofs.map.Map.neighbours.Goals as goal
 
-wide : (c : goal.After-offer-4) → 0 < c.args.self.now.width
+wide : (c : goal.After-push_free-4) → 0 < c.args.self.now.width
 wide c = subst (λ (g : Grid). 0 < g.width) c.self.view_is c.self.invariant.some_width
 
-held : (c : goal.After-offer-4) → Holds (λ v. IsFree c.args.self.now v × IsBeside c.args.self.now c.args.cell v) c.offer-4.new.sides.items
+held : (c : goal.After-push_free-4) → Holds (λ v. IsFree c.args.self.now v × IsBeside c.args.self.now c.args.cell v) c.push_free-4.new.sides.items
 held c = sides_of_cell c.args.self.now c.args.cell c.above.result c.at_left.result c.at_right.result c.below.result
-    c.offer.new.sides.items c.offer-2.new.sides.items c.offer-3.new.sides.items c.offer-4.new.sides.items (record {
+    c.push_free.new.sides.items c.push_free-2.new.sides.items c.push_free-3.new.sides.items c.push_free-4.new.sides.items (record {
       width = wide c;
       is_above = c.above.ensures;
       is_left = c.at_left.ensures;
       is_right = c.at_right.ensures;
       is_below = c.below.ensures;
-      one = subst (λ (items : List ℕ). Offers c.args.self.now c.above.result items c.offer.new.sides.items) c.new-sides.ensures.items c.offer.ensures.offers;
-      two = c.offer-2.ensures.offers;
-      three = c.offer-3.ensures.offers;
-      four = c.offer-4.ensures.offers;
+      one = subst (λ (items : List ℕ). PushesFree c.args.self.now c.above.result items c.push_free.new.sides.items) c.new-sides.ensures.items c.push_free.ensures.pushes;
+      two = c.push_free-2.ensures.pushes;
+      three = c.push_free-3.ensures.pushes;
+      four = c.push_free-4.ensures.pushes;
     })
 
 pub returns-clause-sides : goal.returns-clause-sides
 returns-clause-sides c = (held c).cells
 
 pub returns-clause-steps : goal.returns-clause-steps
-returns-clause-steps c = λ free. sides_are_steps c.args.self.now c.args.cell c.offer-4.new.sides.items (wide c) free (held c)
+returns-clause-steps c = λ free. sides_are_steps c.args.self.now c.args.cell c.push_free-4.new.sides.items (wide c) free (held c)
 
 pub returns-clause-rising : goal.returns-clause-rising
 returns-clause-rising c = (held c).rising

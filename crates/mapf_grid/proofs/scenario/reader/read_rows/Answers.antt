@@ -3,7 +3,7 @@ use Rattle.std.proofs.lemmas.Grind.{common_steps}
 use Rattle.std.proofs.lemmas.Result.{err_from_is_err_and}
 use Rattle.mapf_grid.specs.Lines.{lines_of}
 use Rattle.mapf_grid.specs.ScenarioFile.{IsScenFault}
-use Rattle.mapf_grid.specs.RowFields.{IsRowFault}
+use Rattle.mapf_grid.specs.RowFields.{IsScenarioRowFault}
 use Rattle.mapf_grid.specs.declared.fault.ScenFault.TheVariants.{FieldCount}
 use Rattle.mapf_grid.proofs.FileFaults.{HaveRead-more, IsScenario-blank, IsScenario-end, IsScenFault-blank, IsScenFault-next}
 use Rattle.mapf_grid.proofs.scenario.reader.read_rows.Goals as goal
@@ -23,7 +23,7 @@ returns-in_err-row-clause-fault c =
     let number : c.len-number.result + 2 ≡ length c.loop-line.rows.items + 2 = grind arith in
     let p = err_from_is_err_and c.from_residual.result c.from_residual.ensures.1 in
     rw (p.1, p.2) (λ version is other. IsScenFault-next c.loop-line.invariant c.in-Some.ensures.line (sym c.is_blank_line.ensures ∙ c.if-is_blank_line.false) c.in_err-row.field-0.0
-    (subst (λ k. IsRowFault c.in-Some.line.now k c.in_err-row.field-0.0) number (c.in_err-row.ensures.fault other)) version is)
+    (subst (λ k. IsScenarioRowFault c.in-Some.line.now k c.in_err-row.field-0.0) number (c.in_err-row.ensures.fault other)) version is)
 
 pub loop-line-preserved : goal.loop-line-preserved
 loop-line-preserved c =

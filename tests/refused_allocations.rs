@@ -1,4 +1,4 @@
-// What the script `refusals` tests: it adds a test for each place, and runs them unproved with one allocation refused.
+// What the script `refused-allocations` tests: it adds a test for each place, and runs them unproved with one allocation refused.
 // So this file stands in no crate, and isn't called `.rt`.
 //
 // The refused allocation has the same number in each process, and each test is one. A test for a place makes others
