@@ -26,7 +26,7 @@ pub trait Order<W: Task> {
     fn number(&self) -> u64;
 }
 
-/// Does the jobs of 1 to 1,000 orders by 1 to 64 workers, and no more than there are orders, and returns when all of
+/// Does the jobs of at most 1,000 orders by 1 to 64 workers, and no more than there are orders, and returns when all of
 /// them have ended.
 ///
 /// Each pair is of a job that was ordered. An order whose job found no memory, when it was made, done or kept, has no
@@ -40,10 +40,13 @@ pub fn run_round<R: Threads + Sync, W: Work, O: Order<W> + Sync, G: Gate>(
     gate: &G,
     workers: usize,
 ) -> Result<Vec<Pair<W>>, NoMemory>
-    requires orders { (0 < length orders.now) × (length orders.now ≤ MOST_TICKETS) }
+    requires orders { length orders.now ≤ MOST_TICKETS }
     requires workers { (0 < workers) × (workers ≤ MOST_WORKERS) }
     ensures { IfOk result (λ pairs. All (λ p. Contains (map O.ordered orders.now) p.0) pairs.items) }
 {
+    if orders.is_empty() {
+        return Ok(Vec::new(alloc));
+    }
     let (tickets, seats) = Tickets::new(alloc, orders.len(), workers.min(orders.len()))?;
     let begun = with_room(alloc, seats, orders.len())?;
     let ended = thread::map_vec(

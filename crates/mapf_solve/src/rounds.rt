@@ -1,7 +1,6 @@
 //! Children that are worked ahead in rounds, by workers in threads.
 
-ghost use Rattle.std.specs.Prelude.{◌≡◌, ◌<◌, ◌≤◌, All, IfOk, OnOk, length};
-ghost use Rattle.mapf_tree.specs.Nodes.{AllStand};
+ghost use Rattle.std.specs.Prelude.{◌≡◌, ◌<◌, ◌≤◌, All, IfOk, length};
 ghost use Rattle.mapf_tree.specs.Family.{IsBranching, IsChildOf};
 
 mod kept;

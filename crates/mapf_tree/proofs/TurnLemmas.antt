@@ -70,7 +70,7 @@ module _ (p : Problem) (last : Option (List ℕ)) (old : List Node) (taken : IsT
 
     -- and if it has none, it is the answer
     pub solves : HasNoConflict x.1 → IsAnswer p (Some x.1)
-    solves no_conflict = (x.0, ends_at_first p last (HasNodeFor p old) x at turn.least free)
+    solves free = (x.0, ends_at_first p last (HasNodeFor p old) x at turn.least free)
 
 -- the root waits at first, if it is in the tree
 pub root_waits : (p : Problem) (o : Option Node) (old new : List Node) → old ≡ [] → IsRoot p o → IsPutIfSome old o new → IsTakenTo p None new × NoneSolves p None

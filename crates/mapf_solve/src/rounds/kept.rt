@@ -1,8 +1,6 @@
 //! The children that were worked ahead, and are not yet used.
 
 ghost use Rattle.std.specs.Prelude.{◌≡◌, All, IfSome, IsTrue, Some, slice_get};
-ghost use Rattle.mapf_tree.specs.declared.side.Side.{Side as Turn};
-ghost use Rattle.mapf_tree.specs.Nodes.{Node};
 
 use crate::rounds::side_job::{SideJob, SideWork};
 use mapf_board::Pair;

@@ -79,7 +79,7 @@ fn paths_ahead<'p, R: Threads + Sync, G: Gate>(
 
 /// A job for each agent's own path.
 fn path_jobs<'p>(alloc: Global, problem: &'p Problem) -> Result<Vec<PathJob<'p>>, NoMemory>
-    ensures count { IfOk result (λ jobs. (0 < length jobs.items) × (length jobs.items ≤ MOST_TICKETS)) }
+    ensures count { IfOk result (λ jobs. length jobs.items ≤ MOST_TICKETS) }
     ensures problem { IfOk result (λ jobs. All (λ j. j.problem ≡ problem.now) jobs.items) }
     ensures agents { IfOk result (λ jobs. AreOfAgents problem.now jobs.items) }
 {

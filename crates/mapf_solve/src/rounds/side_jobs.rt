@@ -74,9 +74,6 @@ pub(crate) fn do_sides<'p, R: Threads + Sync, G: Gate>(
     requires workers { (0 < workers) × (workers ≤ MOST_WORKERS) }
     ensures { All (λ pair. Contains orders.now pair.0) result.items }
 {
-    if orders.is_empty() {
-        return Vec::new(alloc);
-    }
     let work = SideWork::new(alloc);
     match run_round(rt, alloc, &work, orders, gate, workers) {
         Ok(pairs) => pairs,
