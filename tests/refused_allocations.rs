@@ -8,8 +8,8 @@
 use mapf_board::NoGate;
 use mapf_check::Verdict;
 use mapf_cli::{CheckFault, check_run};
-use mapf_plan::{Counted, TextFault};
-use mapf_solve::{Ask, Refusal, RunFault, answer};
+use mapf_plan::{Counted, DeviceFault};
+use mapf_solve::{Ask, Refusal, answer};
 use std::alloc::Global;
 use std::thread::Threads;
 
@@ -69,9 +69,9 @@ fn judged(alloc: Global, worked: &Worked) -> Outcome {
     let mut out = Counted::of(Vec::new(alloc));
     match check_run(alloc, &mut map, &mut scen, &mut plan, &mut out, 2) {
         Ok(Verdict::Valid { .. }) => Outcome::Right,
-        Err(CheckFault::Text(TextFault::NoMemory))
-        | Err(CheckFault::Run(RunFault::Refusal(Refusal::NoMemory)))
-        | Err(CheckFault::Run(RunFault::WriteFailed { taken: 0 })) => Outcome::NoMemory,
+        Err(CheckFault::Device(
+            DeviceFault::NoMemory | DeviceFault::WriteFailed { taken: 0 },
+        )) => Outcome::NoMemory,
         _ => Outcome::Wrong,
     }
 }

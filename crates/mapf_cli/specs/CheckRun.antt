@@ -1,19 +1,22 @@
 -- What a check over devices leaves, for readers and a writer that tell their bytes.
-use Rattle.std.specs.Prelude.{◌≡◌, ℕ, ◌≤◌, Bool, true, false, List, length, take, Option, Some, None, Result, Ok, Err}
-use Rattle.std.specs.Io.KnownBytes.{Appends, Keeps}
+use Rattle.std.specs.Prelude.{◌≡◌, ◌≢◌, ℕ, List, [], ◌∷◌, Option, IfSome, Result, Ok, Err}
 use Rattle.mapf_grid.specs.Instance.{Instance}
+use Rattle.mapf_grid.specs.Asked.{IsAsked, IsFilesFault}
+use Rattle.mapf_grid.specs.declared.fault.MapFault.TheVariants as map_fault
+use Rattle.mapf_grid.specs.declared.fault.ScenFault.TheVariants as scen_fault
+use Rattle.mapf_grid.specs.declared.fault.InstanceFault.TheVariants as instance_fault
+use Rattle.mapf_grid.specs.declared.files.FilesFault.{FilesFault}
+use Rattle.mapf_grid.specs.declared.files.FilesFault.TheVariants as files_fault
+use Rattle.mapf_plan.specs.Files.{File, End, Written, Broken, Refused, Leaves}
 use Rattle.mapf_plan.specs.ReadText.{IsTextOf, IsTextFault}
 use Rattle.mapf_plan.specs.declared.answer.Answer.{Answer}
+use Rattle.mapf_plan.specs.declared.device.fault.DeviceFault.TheVariants as device
+use Rattle.mapf_plan.specs.declared.device.fault.FileName.TheVariants as file
+use Rattle.mapf_plan.specs.declared.text.fault.TextFault.{TextFault}
 use Rattle.mapf_plan.specs.declared.text.fault.TextFault.TheVariants as text_fault
 use Rattle.mapf_check.specs.Verdict.{IsVerdict}
 use Rattle.mapf_check.specs.Wording.{verdict_line}
 use Rattle.mapf_check.specs.declared.verdict.Verdict.{Verdict}
-use Rattle.mapf_solve.specs.Out.{IsAsked, IsFilesFault}
-use Rattle.mapf_solve.specs.Run.{IsWithin, IsTooLong}
-use Rattle.mapf_solve.specs.declared.refusal.Refusal.TheVariants as refusal
-use Rattle.mapf_solve.specs.declared.run_fault.FileName.{FileName}
-use Rattle.mapf_solve.specs.declared.run_fault.FileName.TheVariants as file
-use Rattle.mapf_solve.specs.declared.run_fault.RunFault.TheVariants as fault
 use Rattle.mapf_cli.specs.declared.check_fault.CheckFault.{CheckFault}
 use Rattle.mapf_cli.specs.declared.check_fault.CheckFault.TheVariants as check
 
@@ -26,53 +29,46 @@ pub record IsJudged (map scen plan : List ℕ) (agents : ℕ) (verdict : Verdict
   pub judged : IsVerdict inst answer verdict
   pub worded : line ≡ verdict_line inst.grid verdict
 
--- the first fault of map, scenario, instance and plan text
+-- the first fault of map, scenario, instance and plan text; or want of memory, in place of any
 abbrev pub IsTextsFault : List ℕ → List ℕ → List ℕ → ℕ → CheckFault → Type 0
-IsTextsFault map scen plan agents (check.Run (fault.Refusal refusal.NoMemory)) = Unit {0}
-IsTextsFault map scen plan agents (check.Run (fault.Refusal named)) = IsFilesFault map scen agents named
-IsTextsFault map scen plan agents (check.Text text_fault.NoMemory) = Unit {0}
+IsTextsFault map scen plan agents (check.Files named) = IsFilesFault map scen agents named
 IsTextsFault map scen plan agents (check.Text named) = (inst : Instance) × IsAsked map scen agents inst × IsTextFault inst.grid plan named
-IsTextsFault map scen plan agents (check.Run other) = ⊥
+IsTextsFault map scen plan agents (check.Device device.NoMemory) = Unit {0}
+IsTextsFault map scen plan agents (check.Device other) = ⊥
+
+-- the layers' faults as a check's: want of memory is one, wherever it came
+abbrev pub of_files : FilesFault → CheckFault
+of_files files_fault.NoMemory = check.Device device.NoMemory
+of_files named = check.Files named
+
+abbrev pub of_text : TextFault → CheckFault
+of_text text_fault.NoMemory = check.Device device.NoMemory
+of_text named = check.Text named
+
+-- the fault is no layer's own want of memory
+abbrev pub HasOneMemory : CheckFault → Type 0
+HasOneMemory fault =
+    (fault ≢ check.Files (files_fault.Map map_fault.NoMemory)) × (fault ≢ check.Files (files_fault.Scenario scen_fault.NoMemory))
+    × (fault ≢ check.Files (files_fault.Instance instance_fault.NoMemory)) × (fault ≢ check.Files files_fault.NoMemory)
+    × (fault ≢ check.Text text_fault.NoMemory)
+
+-- how a check ended
+abbrev pub end_of : Result Verdict CheckFault → End Verdict CheckFault
+end_of (Ok verdict) = Written verdict
+end_of (Err (check.Device broken)) = Broken broken
+end_of (Err named) = Refused named
+
+-- the files of a check, in the order in which they are read
+abbrev pub files : (map scen plan : Option (List ℕ)) → List File
+files map scen plan =
+    record { name = file.Map; bytes = map } ∷ record { name = file.Scenario; bytes = scen } ∷ record { name = file.Plan; bytes = plan } ∷ []
 
 -- a fact of the bytes of the three files, where all readers tell them
-abbrev pub OfThree : Option (List ℕ) → Option (List ℕ) → Option (List ℕ) → (List ℕ → List ℕ → List ℕ → Type 0) → Type 0
-OfThree None scen plan P = Unit {0}
-OfThree (Some m) None plan P = Unit {0}
-OfThree (Some m) (Some s) None P = Unit {0}
-OfThree (Some m) (Some s) (Some p) P = P m s p
+abbrev pub OfFiles : Option (List ℕ) → Option (List ℕ) → Option (List ℕ) → (List ℕ → List ℕ → List ℕ → Type 0) → Type 0
+OfFiles map scen plan P = IfSome map (λ m. IfSome scen (λ s. IfSome plan (P m s)))
 
--- the check ended by a failed read of this file
-abbrev pub is_read_failure : FileName → Result Verdict CheckFault → Bool
-is_read_failure file.Map (Err (check.Run (fault.ReadFailed file.Map))) = true
-is_read_failure file.Scenario (Err (check.Run (fault.ReadFailed file.Scenario))) = true
-is_read_failure file.Plan (Err (check.Run (fault.ReadFailed file.Plan))) = true
-is_read_failure name result = false
-
--- the check ended by a failed write or flush
-abbrev pub is_write_failure : Result Verdict CheckFault → Bool
-is_write_failure (Err (check.Run (fault.WriteFailed taken))) = true
-is_write_failure result = false
-
--- what the writer holds afterwards, from what it held before: the verdict's line; after a failed write so many first bytes
--- of it; and after every other fault nothing was written
+-- the writer got the line of the verdict that is answered, or the files were refused
 abbrev pub LeavesVerdict : (map scen plan : Option (List ℕ)) → ℕ → (old new : Option (List ℕ)) → Result Verdict CheckFault → Type 0
-LeavesVerdict map scen plan agents old new (Ok verdict) =
-    OfThree map scen plan (λ m s p. (line : List ℕ) × IsJudged m s p agents verdict line × Appends old new line)
-LeavesVerdict map scen plan agents old new (Err (check.Run (fault.WriteFailed taken))) =
-    OfThree map scen plan (λ m s p. (verdict : Verdict) × (line : List ℕ) × IsJudged m s p agents verdict line
-    × (taken ≤ length line) × Appends old new (take taken line))
-LeavesVerdict map scen plan agents old new (Err (check.Run (fault.ReadFailed name))) = Keeps old new
-LeavesVerdict map scen plan agents old new (Err (check.Run (fault.TooLong name))) = Keeps old new
-LeavesVerdict map scen plan agents old new (Err named) = Keeps old new × OfThree map scen plan (λ m s p. IsTextsFault m s p agents named)
-
--- which file is too long: the first that is, in the order in which they are read. After a failed read nothing is said of
--- that file and those behind it, and nothing for want of memory while files are read.
-abbrev pub AreWithin : (map scen plan : Option (List ℕ)) → Result Verdict CheckFault → Type 0
-AreWithin map scen plan (Err (check.Run (fault.TooLong file.Map))) = IsTooLong map
-AreWithin map scen plan (Err (check.Run (fault.TooLong file.Scenario))) = IsWithin map × IsTooLong scen
-AreWithin map scen plan (Err (check.Run (fault.TooLong file.Plan))) = IsWithin map × IsWithin scen × IsTooLong plan
-AreWithin map scen plan (Err (check.Run (fault.ReadFailed file.Map))) = Unit {0}
-AreWithin map scen plan (Err (check.Run (fault.ReadFailed file.Scenario))) = IsWithin map
-AreWithin map scen plan (Err (check.Run (fault.ReadFailed file.Plan))) = IsWithin map × IsWithin scen
-AreWithin map scen plan (Err (check.Run (fault.Refusal refusal.NoMemory))) = Unit {0}
-AreWithin map scen plan other = IsWithin map × IsWithin scen × IsWithin plan
+LeavesVerdict map scen plan agents old new result =
+    Leaves (λ verdict line. OfFiles map scen plan (λ m s p. IsJudged m s p agents verdict line))
+    (λ named. OfFiles map scen plan (λ m s p. IsTextsFault m s p agents named)) old new (end_of result)

@@ -1,8 +1,8 @@
 ghost use Rattle.std.specs.Prelude.{◌≤◌};
 
 use crate::CheckFault;
-use mapf_plan::{TextFault, WriteFailed};
-use mapf_solve::{FileName, Refusal, RunFault};
+use mapf_plan::{DeviceFault, FileName};
+use mapf_solve::{Refusal, RunFault};
 use std::alloc::AllocError;
 use thiserror::Error;
 
@@ -25,12 +25,12 @@ pub(crate) enum CallFault {
     /// A file couldn't be opened.
     #[error("50 cannot open {0}")]
     CannotOpen(FileName),
-    /// The run ended with a fault.
+    /// The run of the solver ended with a fault.
     #[error(transparent)]
     Run(RunFault),
-    /// The plan's bytes are no text of an answer on the map.
+    /// The check ended with a fault.
     #[error(transparent)]
-    Text(TextFault),
+    Check(CheckFault),
 }
 
 impl CallFault {
@@ -39,28 +39,36 @@ impl CallFault {
         ensures { result ≤ 5 }
     {
         match self {
-            CallFault::Run(RunFault::Refusal(Refusal::NoMemory))
-            | CallFault::Text(TextFault::NoMemory) => NO_MEMORY,
-            CallFault::Run(RunFault::Refusal(_) | RunFault::TooLong(_)) | CallFault::Text(_) => {
-                FAULT
-            }
-            CallFault::CannotOpen(_)
-            | CallFault::Run(RunFault::ReadFailed(_) | RunFault::WriteFailed { .. }) => DEVICE,
+            CallFault::CannotOpen(_) => DEVICE,
+            CallFault::Run(RunFault::Refusal(Refusal::NoMemory)) => NO_MEMORY,
+            CallFault::Run(RunFault::Refusal(_))
+            | CallFault::Check(CheckFault::Files(_) | CheckFault::Text(_)) => FAULT,
+            CallFault::Run(RunFault::Device(fault)) | CallFault::Check(CheckFault::Device(fault)) =>
+                status_of_device(fault),
         }
+    }
+}
+
+/// The program's status after a fault of its devices.
+fn status_of_device(fault: &DeviceFault) -> u8
+    ensures { result ≤ 5 }
+{
+    match fault {
+        DeviceFault::ReadFailed(_) | DeviceFault::WriteFailed { .. } => DEVICE,
+        DeviceFault::TooLong(_) => FAULT,
+        DeviceFault::NoMemory => NO_MEMORY,
     }
 }
 
 impl From<AllocError> for CallFault {
     fn from(_refused: AllocError) -> CallFault {
-        CallFault::Run(RunFault::Refusal(Refusal::NoMemory))
+        CallFault::from(DeviceFault::NoMemory)
     }
 }
 
-impl From<WriteFailed> for CallFault {
-    fn from(failed: WriteFailed) -> CallFault {
-        CallFault::Run(RunFault::WriteFailed {
-            taken: failed.taken,
-        })
+impl From<DeviceFault> for CallFault {
+    fn from(fault: DeviceFault) -> CallFault {
+        CallFault::Run(RunFault::from(fault))
     }
 }
 
@@ -72,9 +80,6 @@ impl From<RunFault> for CallFault {
 
 impl From<CheckFault> for CallFault {
     fn from(fault: CheckFault) -> CallFault {
-        match fault {
-            CheckFault::Run(fault) => CallFault::Run(fault),
-            CheckFault::Text(fault) => CallFault::Text(fault),
-        }
+        CallFault::Check(fault)
     }
 }

@@ -8,8 +8,8 @@ use crate::command::{Asked, Check, Solve, parse};
 use crate::first_byte::FirstByte;
 use clap::error::ErrorKind;
 use mapf_check::Verdict;
-use mapf_plan::{Counted, Sink, write_whole};
-use mapf_solve::{FileName, run};
+use mapf_plan::{Counted, FileName, Sink, write_text, write_whole};
+use mapf_solve::run;
 use std::alloc::{AllocError, Global};
 use std::fs;
 use std::rt::Files;
@@ -64,10 +64,8 @@ fn solve_files<R: Files + Threads + Sync, O: Sink>(
     requires { O.failures out.old < u64.MAX }
     ensures { IfOk result (λ status. status ≤ 5) }
 {
-    let map = fs::open(rt, solve.map).map_err(|_| CallFault::CannotOpen(FileName::Map))?;
-    let scen = fs::open(rt, solve.scen).map_err(|_| CallFault::CannotOpen(FileName::Scenario))?;
-    let mut map = Counted::of(map);
-    let mut scen = Counted::of(scen);
+    let mut map = open(rt, solve.map, FileName::Map)?;
+    let mut scen = open(rt, solve.scen, FileName::Scenario)?;
     let mut text = FirstByte {
         sink: out,
         first: None,
@@ -89,15 +87,22 @@ fn check_files<R: Files, O: Sink>(
     requires { O.failures out.old < u64.MAX }
     ensures { IfOk result (λ status. status ≤ 5) }
 {
-    let map = fs::open(rt, check.map).map_err(|_| CallFault::CannotOpen(FileName::Map))?;
-    let scen = fs::open(rt, check.scen).map_err(|_| CallFault::CannotOpen(FileName::Scenario))?;
-    let plan = fs::open(rt, check.plan).map_err(|_| CallFault::CannotOpen(FileName::Plan))?;
-    let mut map = Counted::of(map);
-    let mut scen = Counted::of(scen);
-    let mut plan = Counted::of(plan);
+    let mut map = open(rt, check.map, FileName::Map)?;
+    let mut scen = open(rt, check.scen, FileName::Scenario)?;
+    let mut plan = open(rt, check.plan, FileName::Plan)?;
     match check_run(alloc, &mut map, &mut scen, &mut plan, out, check.agents)? {
         Verdict::Valid { .. } => Ok(SHOWN),
         _ => Ok(NONE),
+    }
+}
+
+/// Opens a file, as a reader with no failure counted so far.
+fn open<R: Files>(rt: &R, path: &str, name: FileName) -> Result<Counted<R::File>, CallFault>
+    ensures { IfOk result (λ file. file.1 ≡ 0) }
+{
+    match fs::open(rt, path) {
+        Ok(file) => Ok(Counted::of(file)),
+        Err(_) => Err(CallFault::CannotOpen(name)),
     }
 }
 
@@ -107,7 +112,7 @@ fn help<O: Sink>(alloc: Global, error: &clap::Error, out: &mut O) -> Result<u8, 
     ensures { IfOk result (λ status. status ≤ 5) }
 {
     let text = format!(in alloc; "{error}")?;
-    write_whole(out, text.as_bytes())?;
+    write_text(out, text.as_bytes())?;
     Ok(SHOWN)
 }
 

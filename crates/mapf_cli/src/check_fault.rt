@@ -1,25 +1,70 @@
-use mapf_plan::TextFault;
-use mapf_solve::RunFault;
+use mapf_grid::{FilesFault, NoMemory};
+use mapf_plan::{DeviceFault, TextFault};
 use thiserror::Error;
 
 /// Why a check over devices wrote no whole verdict.
+///
+/// Want of memory is a device's `NoMemory`, wherever it came, and never another layer's.
 #[derive(Clone, Copy, Debug, PartialEq, Eq, Error)]
 pub enum CheckFault {
+    /// The map and the scenario ask for no instance.
+    #[error(transparent)]
+    Files(FilesFault),
     /// The plan's bytes are no text of an answer on the map.
     #[error(transparent)]
     Text(TextFault),
-    /// The map, the scenario or the instance was refused, or a device failed, as in a run of the solver.
+    /// A device failed, a file is too long, or want of memory.
     #[error(transparent)]
-    Run(RunFault),
+    Device(DeviceFault),
 }
 
-impl From<RunFault> for CheckFault {
+impl From<FilesFault> for CheckFault {
+    ghost use Rattle.std.specs.Prelude.{◌≡◌};
+    ghost use Rattle.mapf_cli.specs.CheckRun.{of_files};
+
+    ghost from_gives = { λ fault r. r ≡ of_files fault };
+
+    fn from(fault: FilesFault) -> CheckFault {
+        match fault {
+            FilesFault::NoMemory => CheckFault::Device(DeviceFault::NoMemory),
+            _ => CheckFault::Files(fault),
+        }
+    }
+}
+
+impl From<TextFault> for CheckFault {
+    ghost use Rattle.std.specs.Prelude.{◌≡◌};
+    ghost use Rattle.mapf_cli.specs.CheckRun.{of_text};
+
+    ghost from_gives = { λ fault r. r ≡ of_text fault };
+
+    fn from(fault: TextFault) -> CheckFault {
+        match fault {
+            TextFault::NoMemory => CheckFault::Device(DeviceFault::NoMemory),
+            _ => CheckFault::Text(fault),
+        }
+    }
+}
+
+impl From<DeviceFault> for CheckFault {
     ghost use Rattle.std.specs.Prelude.{◌≡◌};
     ghost use Rattle.mapf_cli.specs.declared.check_fault.CheckFault.TheVariants as check;
 
-    ghost from_gives = { λ fault e. e ≡ check.Run fault };
+    ghost from_gives = { λ fault r. r ≡ check.Device fault };
 
-    fn from(fault: RunFault) -> CheckFault {
-        CheckFault::Run(fault)
+    fn from(fault: DeviceFault) -> CheckFault {
+        CheckFault::Device(fault)
+    }
+}
+
+impl From<NoMemory> for CheckFault {
+    ghost use Rattle.std.specs.Prelude.{◌≡◌};
+    ghost use Rattle.mapf_plan.specs.declared.device.fault.DeviceFault.TheVariants as device;
+    ghost use Rattle.mapf_cli.specs.declared.check_fault.CheckFault.TheVariants as check;
+
+    ghost from_gives = { λ _ r. r ≡ check.Device device.NoMemory };
+
+    fn from(_refused: NoMemory) -> CheckFault {
+        CheckFault::Device(DeviceFault::NoMemory)
     }
 }

@@ -1,26 +1,18 @@
--- What an instance's answer means for its text, and a layer's fault for a refusal.
-use Rattle.std.proofs.Common.{◌≡◌, ◌≢◌, ℕ, suc, ◌<◌, ◌≤◌, List, [], ◌∷◌, length, slice_index, Some, None, inl, inr, subst, sym, ap, ◌∙◌, arith}
+-- What an instance's answer means for its text.
+use Rattle.std.proofs.Common.{◌≡◌, ℕ, suc, ◌<◌, ◌≤◌, List, [], ◌∷◌, length, slice_index, Some, None, inl, inr, subst, sym, ap, ◌∙◌, arith}
 use Rattle.std.specs.List.{AllByRecursion}
-use Rattle.mapf_grid.specs.Grid.{Grid, HasSizes, cells}
-use Rattle.mapf_grid.specs.Lines.{lines_of}
-use Rattle.mapf_grid.specs.MapFile.{IsMap}
-use Rattle.mapf_grid.specs.ScenarioFile.{IsScenario}
-use Rattle.mapf_grid.specs.Instance.{Instance, IsInstanceFault}
-use Rattle.mapf_grid.specs.declared.scenario.Row.{Row}
-use Rattle.mapf_grid.specs.declared.fault.InstanceFault.{InstanceFault}
-use Rattle.mapf_grid.specs.declared.fault.InstanceFault.TheVariants as instance_fault
+use Rattle.mapf_grid.specs.Grid.{HasSizes, cells}
+use Rattle.mapf_grid.specs.Instance.{Instance}
+use Rattle.mapf_grid.specs.Asked.{IsAsked}
 use Rattle.mapf_plan.specs.Plan.{plan_cost, path_of}
 use Rattle.mapf_plan.specs.Text.{text, CanWrite}
 use Rattle.mapf_plan.specs.declared.answer.Answer.{Answer}
 use Rattle.mapf_plan.proofs.Paths.{cells_below}
 use Rattle.mapf_tree.specs.Tree.{HasPlan, IsAnswer}
 use Rattle.mapf_tree.proofs.Descent.{answer_is_optimum, none_is_none}
-use Rattle.mapf_solve.specs.Refusals.{of_instance}
 use Rattle.mapf_tree.specs.Answered.{IsAnswerOf}
-use Rattle.mapf_solve.specs.Out.{IsAsked, IsFilesFault, IsBest}
+use Rattle.mapf_solve.specs.Out.{IsBest}
 use Rattle.mapf_solve.specs.declared.ask.Ask.{Ask}
-use Rattle.mapf_solve.specs.declared.refusal.Refusal.{Refusal}
-use Rattle.mapf_solve.specs.declared.refusal.Refusal.TheVariants as refusal
 
 -- what holds of each agent's path holds of the list of paths
 all_paths : (P : List ℕ → Type 0) (plan : List (List ℕ)) → ((i : ℕ) → i < length plan → P (path_of plan i)) → AllByRecursion P plan
@@ -60,24 +52,3 @@ answer_is_best map scen ask inst given bytes asked (None, is, e) spelled = recor
   asked = asked;
   best = inr ((none_is_none inst ask.bound).0 is, spelled ∙ ap (text inst.grid) e);
 }
-
--- an instance's fault is refused by its name
-pub instance_refusal : (map scen : List ℕ) (agents : ℕ) (g : Grid) (rows : List Row) (fault : InstanceFault) (r : Refusal) →
-    IsMap (lines_of map) g → IsScenario (lines_of scen) rows →
-    (fault ≢ instance_fault.NoMemory → IsInstanceFault g rows agents fault) → r ≡ of_instance fault → r ≢ refusal.NoMemory →
-    IsFilesFault map scen agents r
-instance_refusal map scen agents g rows instance_fault.NoMemory r m s h e ne = absurd (ne e)
-instance_refusal map scen agents g rows instance_fault.AgentCount r m s h e ne =
-    subst (IsFilesFault map scen agents) (sym e) (g, rows, m, s, h (λ x. cc))
-instance_refusal map scen agents g rows (instance_fault.TooFewRows n) r m s h e ne =
-    subst (IsFilesFault map scen agents) (sym e) (g, rows, m, s, h (λ x. cc))
-instance_refusal map scen agents g rows (instance_fault.WrongSize i) r m s h e ne =
-    subst (IsFilesFault map scen agents) (sym e) (g, rows, m, s, h (λ x. cc))
-instance_refusal map scen agents g rows (instance_fault.StartNotFree i) r m s h e ne =
-    subst (IsFilesFault map scen agents) (sym e) (g, rows, m, s, h (λ x. cc))
-instance_refusal map scen agents g rows (instance_fault.GoalNotFree i) r m s h e ne =
-    subst (IsFilesFault map scen agents) (sym e) (g, rows, m, s, h (λ x. cc))
-instance_refusal map scen agents g rows (instance_fault.SharedStart i j) r m s h e ne =
-    subst (IsFilesFault map scen agents) (sym e) (g, rows, m, s, h (λ x. cc))
-instance_refusal map scen agents g rows (instance_fault.SharedGoal i j) r m s h e ne =
-    subst (IsFilesFault map scen agents) (sym e) (g, rows, m, s, h (λ x. cc))

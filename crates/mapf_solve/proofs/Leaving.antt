@@ -1,12 +1,15 @@
 -- What the text that a run leaves says of other plans and of other numbers of workers.
-use Rattle.std.proofs.Common.{ℕ, List, Option, Some, None, Result, Ok, Err, refl}
+use Rattle.std.proofs.Common.{◌≡◌, ℕ, List, Option, Some, None, Result, Ok, Err, refl, sym, subst}
+use Rattle.std.specs.Result.{IsErrAnd}
+use Rattle.mapf_plan.specs.Files.{IsWriteFaultOf}
+use Rattle.mapf_plan.specs.declared.device.fault.DeviceFault.{DeviceFault}
+use Rattle.mapf_plan.specs.declared.device.fault.DeviceFault.TheVariants as device
+use Rattle.mapf_plan.proofs.WhatIsLeft.{Leaves-more}
 use Rattle.mapf_tree.specs.Answered.{stated}
-use Rattle.mapf_solve.specs.Out.{IsText, IsBest}
-use Rattle.mapf_solve.specs.Run.{OfFiles, Leaves, LeavesBest, LeavesOnly}
+use Rattle.mapf_solve.specs.Out.{IsText, IsRefusal, IsBest}
+use Rattle.mapf_solve.specs.Run.{of_device, OfFiles, end_of, LeavesText, LeavesBest, LeavesOnly}
 use Rattle.mapf_solve.specs.declared.ask.Ask.{Ask}
-use Rattle.mapf_solve.specs.declared.refusal.Refusal.TheVariants as refusal
 use Rattle.mapf_solve.specs.declared.run_fault.RunFault.{RunFault}
-use Rattle.mapf_solve.specs.declared.run_fault.RunFault.TheVariants as fault
 use Rattle.mapf_solve.proofs.Answering.{answer_is_best}
 use Rattle.mapf_solve.proofs.OneOut.{one_out}
 
@@ -21,22 +24,22 @@ text_is_best : (map scen : List ℕ) (ask : Ask) (bytes : List ℕ) → IsText m
 text_is_best map scen ask bytes h = answer_is_best map scen ask h.inst (stated ask.bound h.plan) bytes h.asked (h.plan, h.answer, refl) h.spelled
 
 -- so what is left is best
-pub best_is_left : (map scen : Option (List ℕ)) (ask : Ask) (old new : Option (List ℕ)) (result : Result (Unit {0}) RunFault) → Leaves map scen ask old new result → LeavesBest map scen ask old new result
-best_is_left map scen ask old new (Ok _) h = of_files map scen _ _ (λ m s k. (k.0, text_is_best m s ask k.0 k.1, k.2)) h
-best_is_left map scen ask old new (Err (fault.WriteFailed taken)) h = of_files map scen _ _ (λ m s k. (k.0, text_is_best m s ask k.0 k.1, k.2, k.3)) h
-best_is_left map scen ask old new (Err (fault.Refusal named)) h = tt
-best_is_left map scen ask old new (Err (fault.ReadFailed name)) h = tt
-best_is_left map scen ask old new (Err (fault.TooLong name)) h = tt
+pub best_is_left : (map scen : Option (List ℕ)) (ask : Ask) (old new : Option (List ℕ)) (result : Result (Unit {0}) RunFault) → LeavesText map scen ask old new result → LeavesBest map scen ask old new result
+best_is_left map scen ask old new result h =
+    Leaves-more _ _ _ _ (λ v t. of_files map scen _ _ (λ m s. text_is_best m s ask t)) (λ r k. tt) old new (end_of result) h
 
 -- and the only one
-pub only_is_left : (map scen : Option (List ℕ)) (ask : Ask) (old new : Option (List ℕ)) (result : Result (Unit {0}) RunFault) → Leaves map scen ask old new result → LeavesOnly map scen ask old new result
-only_is_left map scen ask old new (Ok _) h = of_files map scen _ _ (λ m s k. (k.0, one_out m s ask (Ok k.0) k.1.workers k.1, k.2)) h
-only_is_left map scen ask old new (Err (fault.WriteFailed taken)) h = of_files map scen _ _ (λ m s k. (k.0, one_out m s ask (Ok k.0) k.1.workers k.1, k.2, k.3)) h
-only_is_left map scen ask old new (Err (fault.Refusal refusal.NoMemory)) h = tt
-only_is_left map scen ask old new (Err (fault.Refusal refusal.Bound)) h = of_files map scen _ _ (λ m s k w. one_out m s ask (Err refusal.Bound) w k) h.1
-only_is_left map scen ask old new (Err (fault.Refusal refusal.Workers)) h = of_files map scen _ _ (λ m s k w. one_out m s ask (Err refusal.Workers) w k) h.1
-only_is_left map scen ask old new (Err (fault.Refusal (refusal.Map named))) h = of_files map scen _ _ (λ m s k w. one_out m s ask (Err (refusal.Map named)) w k) h.1
-only_is_left map scen ask old new (Err (fault.Refusal (refusal.Scenario named))) h = of_files map scen _ _ (λ m s k w. one_out m s ask (Err (refusal.Scenario named)) w k) h.1
-only_is_left map scen ask old new (Err (fault.Refusal (refusal.Instance named))) h = of_files map scen _ _ (λ m s k w. one_out m s ask (Err (refusal.Instance named)) w k) h.1
-only_is_left map scen ask old new (Err (fault.ReadFailed name)) h = tt
-only_is_left map scen ask old new (Err (fault.TooLong name)) h = tt
+pub only_is_left : (map scen : Option (List ℕ)) (ask : Ask) (old new : Option (List ℕ)) (result : Result (Unit {0}) RunFault) → LeavesText map scen ask old new result → LeavesOnly map scen ask old new result
+only_is_left map scen ask old new result h =
+    Leaves-more _ _ _ _ (λ v t. of_files map scen _ _ (λ m s is. one_out m s ask (Ok t) is.workers is))
+    (λ r. of_files map scen _ _ (λ m s is has. one_out m s ask (Err r) has is)) old new (end_of result) h
+
+-- a text that was written in part is left in part
+pub part_is_left : (map scen : Option (List ℕ)) (ask : Ask) (old new : Option (List ℕ)) (text : List ℕ) (broken : DeviceFault) (result : Result (Unit {0}) RunFault) →
+    OfFiles map scen (λ m s. IsText m s ask text) → IsWriteFaultOf text old new broken → IsErrAnd result (λ e. e ≡ of_device broken) → LeavesText map scen ask old new result
+part_is_left map scen ask old new text (device.WriteFailed taken) (Err e) says wrote is =
+    subst (λ e. LeavesText map scen ask old new (Err e)) (sym is) (tt, text, says, wrote.0, wrote.1)
+part_is_left map scen ask old new text (device.ReadFailed name) (Err e) says wrote is = absurd wrote
+part_is_left map scen ask old new text (device.TooLong name) (Err e) says wrote is = absurd wrote
+part_is_left map scen ask old new text device.NoMemory (Err e) says wrote is = absurd wrote
+part_is_left map scen ask old new text broken (Ok done) says wrote is = absurd is

@@ -1,4 +1,3 @@
-pub mod Refusals
 pub mod Out
 pub mod Run
 pub mod Rounds

@@ -1,11 +1,9 @@
 -- What is answered to two files and an ask: one text, or one named fault. Nothing here speaks of workers but their number's limits.
 use Rattle.std.specs.Prelude.{◌≡◌, ℕ, ◌<◌, ◌≤◌, ◌⊎◌, List, Option, Result, Ok, Err}
-use Rattle.mapf_grid.specs.Grid.{Grid}
-use Rattle.mapf_grid.specs.Lines.{lines_of}
-use Rattle.mapf_grid.specs.MapFile.{IsMap, IsMapFault}
-use Rattle.mapf_grid.specs.ScenarioFile.{IsScenario, IsScenFault}
-use Rattle.mapf_grid.specs.Instance.{Instance, IsInstance, IsInstanceFault}
-use Rattle.mapf_grid.specs.declared.scenario.Row.{Row}
+use Rattle.mapf_grid.specs.Instance.{Instance}
+use Rattle.mapf_grid.specs.Asked.{IsAsked, IsFilesFault}
+use Rattle.mapf_grid.specs.declared.files.FilesFault.{FilesFault}
+use Rattle.mapf_grid.specs.declared.files.FilesFault.TheVariants as files
 use Rattle.mapf_plan.specs.Plan.{plan_cost, IsValid, IsOptimum}
 use Rattle.mapf_plan.specs.Text.{text}
 use Rattle.mapf_plan.specs.declared.answer.Answer.TheVariants as answer
@@ -21,28 +19,19 @@ IsBound ask = ask.bound ≤ 1000000
 abbrev pub IsWorkers : Ask → Type 0
 IsWorkers ask = (0 < ask.workers) × (ask.workers ≤ 64)
 
--- the instance that the bytes of the two files ask for
-pub record IsAsked (map scen : List ℕ) (agents : ℕ) (inst : Instance) : Type 0 where
-  pub rows : List Row
-  pub map_file : IsMap (lines_of map) inst.grid
-  pub scenario_file : IsScenario (lines_of scen) rows
-  pub instance : IsInstance inst.grid rows agents inst
-
--- the first fault of the map, the scenario and the instance
-abbrev pub IsFilesFault : List ℕ → List ℕ → ℕ → Refusal → Type 0
-IsFilesFault map scen agents refusal.Bound = ⊥
-IsFilesFault map scen agents refusal.Workers = ⊥
-IsFilesFault map scen agents (refusal.Map fault) = IsMapFault (lines_of map) fault
-IsFilesFault map scen agents (refusal.Scenario fault) = (g : Grid) × IsMap (lines_of map) g × IsScenFault (lines_of scen) fault
-IsFilesFault map scen agents (refusal.Instance fault) =
-    (g : Grid) × (rows : List Row) × IsMap (lines_of map) g × IsScenario (lines_of scen) rows × IsInstanceFault g rows agents fault
-IsFilesFault map scen agents refusal.NoMemory = ⊥
+-- a fault of the two files as a refusal
+abbrev pub of_files : FilesFault → Refusal
+of_files (files.Map fault) = refusal.Map fault
+of_files (files.Scenario fault) = refusal.Scenario fault
+of_files (files.Instance fault) = refusal.Instance fault
+of_files files.NoMemory = refusal.NoMemory
 
 -- the bound comes first, then the workers, then the files
 abbrev pub IsRefusal : List ℕ → List ℕ → Ask → Refusal → Type 0
 IsRefusal map scen ask refusal.Bound = ¬ IsBound ask
 IsRefusal map scen ask refusal.Workers = IsBound ask × ¬ IsWorkers ask
-IsRefusal map scen ask fault = IsBound ask × IsWorkers ask × IsFilesFault map scen ask.agents fault
+IsRefusal map scen ask named =
+    IsBound ask × IsWorkers ask × (fault : FilesFault) × (named ≡ of_files fault) × IsFilesFault map scen ask.agents fault
 
 -- the text of the answer of conflict-based search: the plan of the constraint tree's first solution
 pub record IsText (map scen : List ℕ) (ask : Ask) (bytes : List ℕ) : Type 0 where

@@ -5,9 +5,9 @@ ghost use Rattle.mapf_plan.specs.Text.{text};
 ghost use Rattle.mapf_tree.specs.Answered.{IsAnswerOf};
 ghost use Rattle.mapf_solve.specs.Out.{IsOut, IsBest, IsOnlyOut, IsWorkers};
 
-use crate::{Ask, Refusal, instance_of, solve};
+use crate::{Ask, Refusal, solve};
 use mapf_board::Gate;
-use mapf_grid::NoMemory;
+use mapf_grid::{NoMemory, instance_of};
 use mapf_plan::{Answer, write};
 use mapf_tree::Problem;
 use std::alloc::Global;

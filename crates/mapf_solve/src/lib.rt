@@ -3,8 +3,6 @@
 
 mod answers;
 mod ask;
-mod asked;
-mod files;
 pub mod laws;
 mod refusal;
 mod rounds;
@@ -14,9 +12,7 @@ mod solving;
 
 pub use answers::answer;
 pub use ask::Ask;
-pub use asked::instance_of;
-pub use files::read_file;
 pub use refusal::Refusal;
-pub use run_fault::{FileName, RunFault};
+pub use run_fault::RunFault;
 pub use runs::run;
 pub use solving::solve;

@@ -1,4 +1,4 @@
-use mapf_grid::{InstanceFault, MapFault, NoMemory, ScenFault};
+use mapf_grid::{FilesFault, InstanceFault, MapFault, NoMemory, ScenFault};
 use thiserror::Error;
 
 /// Why an ask has no answer.
@@ -35,44 +35,18 @@ impl From<NoMemory> for Refusal {
     }
 }
 
-impl From<MapFault> for Refusal {
+impl From<FilesFault> for Refusal {
     ghost use Rattle.std.specs.Prelude.{◌≡◌};
-    ghost use Rattle.mapf_solve.specs.Refusals.{of_map};
+    ghost use Rattle.mapf_solve.specs.Out.{of_files};
 
-    ghost from_gives = { λ fault r. r ≡ of_map fault };
+    ghost from_gives = { λ fault r. r ≡ of_files fault };
 
-    fn from(fault: MapFault) -> Refusal {
+    fn from(fault: FilesFault) -> Refusal {
         match fault {
-            MapFault::NoMemory => Refusal::NoMemory,
-            _ => Refusal::Map(fault),
-        }
-    }
-}
-
-impl From<ScenFault> for Refusal {
-    ghost use Rattle.std.specs.Prelude.{◌≡◌};
-    ghost use Rattle.mapf_solve.specs.Refusals.{of_scenario};
-
-    ghost from_gives = { λ fault r. r ≡ of_scenario fault };
-
-    fn from(fault: ScenFault) -> Refusal {
-        match fault {
-            ScenFault::NoMemory => Refusal::NoMemory,
-            _ => Refusal::Scenario(fault),
-        }
-    }
-}
-
-impl From<InstanceFault> for Refusal {
-    ghost use Rattle.std.specs.Prelude.{◌≡◌};
-    ghost use Rattle.mapf_solve.specs.Refusals.{of_instance};
-
-    ghost from_gives = { λ fault r. r ≡ of_instance fault };
-
-    fn from(fault: InstanceFault) -> Refusal {
-        match fault {
-            InstanceFault::NoMemory => Refusal::NoMemory,
-            _ => Refusal::Instance(fault),
+            FilesFault::Map(fault) => Refusal::Map(fault),
+            FilesFault::Scenario(fault) => Refusal::Scenario(fault),
+            FilesFault::Instance(fault) => Refusal::Instance(fault),
+            FilesFault::NoMemory => Refusal::NoMemory,
         }
     }
 }

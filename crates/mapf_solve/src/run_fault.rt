@@ -1,38 +1,39 @@
 use crate::Refusal;
-use std::fmt;
+use mapf_plan::DeviceFault;
 use thiserror::Error;
-
-/// A file that a command reads.
-#[derive(Clone, Copy, Debug, PartialEq, Eq)]
-pub enum FileName {
-    Map,
-    Scenario,
-    Plan,
-}
-
-impl fmt::Display for FileName {
-    fn fmt<W: fmt::Write>(&self, f: &mut fmt::Formatter<W>) -> fmt::Result {
-        match self {
-            FileName::Map => write!(f, "map"),
-            FileName::Scenario => write!(f, "scenario"),
-            FileName::Plan => write!(f, "plan"),
-        }
-    }
-}
 
 /// Why a run over devices wrote no whole answer.
 #[derive(Clone, Copy, Debug, PartialEq, Eq, Error)]
 pub enum RunFault {
-    /// The ask has no answer.
+    /// The ask has no answer; or want of memory, wherever it came.
     #[error(transparent)]
     Refusal(Refusal),
-    /// A read failed: the reader's count of failures rose.
-    #[error("51 read failed {0}")]
-    ReadFailed(FileName),
-    /// A write or the flush failed: the writer's count of failures rose. It had taken so many first bytes of the text.
-    #[error("52 write failed after {taken} bytes")]
-    WriteFailed { taken: usize },
-    /// The reader gave more than 67,108,864 bytes.
-    #[error("53 too long {0}")]
-    TooLong(FileName),
+    /// A device failed, or a file is too long.
+    #[error(transparent)]
+    Device(DeviceFault),
+}
+
+impl From<Refusal> for RunFault {
+    ghost use Rattle.std.specs.Prelude.{◌≡◌};
+    ghost use Rattle.mapf_solve.specs.declared.run_fault.RunFault.TheVariants as run;
+
+    ghost from_gives = { λ refusal r. r ≡ run.Refusal refusal };
+
+    fn from(refusal: Refusal) -> RunFault {
+        RunFault::Refusal(refusal)
+    }
+}
+
+impl From<DeviceFault> for RunFault {
+    ghost use Rattle.std.specs.Prelude.{◌≡◌};
+    ghost use Rattle.mapf_solve.specs.Run.{of_device};
+
+    ghost from_gives = { λ fault r. r ≡ of_device fault };
+
+    fn from(fault: DeviceFault) -> RunFault {
+        match fault {
+            DeviceFault::NoMemory => RunFault::Refusal(Refusal::NoMemory),
+            _ => RunFault::Device(fault),
+        }
+    }
 }

@@ -1,12 +1,13 @@
 //! A run from two readers to a writer.
 
-ghost use Rattle.std.specs.Prelude.{◌<◌};
+ghost use Rattle.std.specs.Prelude.{◌≢◌, ◌<◌, IfErr};
 ghost use Rattle.mapf_plan.specs.Device.{Counts};
-ghost use Rattle.mapf_solve.specs.Run.{is_read_failure, is_write_failure, Leaves, LeavesBest, LeavesOnly, AreWithin};
+ghost use Rattle.mapf_plan.specs.Files.{is_read_failure, is_write_failure, AreWithin};
+ghost use Rattle.mapf_solve.specs.Run.{end_of, files, LeavesText, LeavesBest, LeavesOnly};
 
-use crate::{Ask, FileName, RunFault, answer, read_file};
+use crate::{Ask, RunFault, answer};
 use mapf_board::NoGate;
-use mapf_plan::{Sink, Source, write_whole};
+use mapf_plan::{DeviceFault, FileName, Sink, Source, read_file, write_text};
 use std::alloc::Global;
 use std::thread::Threads;
 
@@ -26,15 +27,15 @@ pub fn run<R: Threads + Sync, M: Source, S: Source, O: Sink>(
     requires out { O.failures out.old < u64.MAX }
 
     // A device's failure is answered exactly where its count rose, and that is by 1.
-    ensures map { Counts (is_read_failure FileName.Map result) (M.failures map.old) (M.failures map.new) }
-    ensures scen { Counts (is_read_failure FileName.Scenario result) (S.failures scen.old) (S.failures scen.new) }
-    ensures out { Counts (is_write_failure result) (O.failures out.old) (O.failures out.new) }
+    ensures map { Counts (is_read_failure FileName.Map (end_of result)) (M.failures map.old) (M.failures map.new) }
+    ensures scen { Counts (is_read_failure FileName.Scenario (end_of result)) (S.failures scen.old) (S.failures scen.new) }
+    ensures out { Counts (is_write_failure (end_of result)) (O.failures out.old) (O.failures out.new) }
 
     // A file is too long where it is the first of more than 67,108,864 bytes; else no file that was read is longer.
-    ensures within { AreWithin (M.remaining map.old) (S.remaining scen.old) result }
+    ensures within { AreWithin (files (M.remaining map.old) (S.remaining scen.old)) (end_of result) }
 
     // What was written is the text of what the readers gave.
-    ensures text { Leaves (M.remaining map.old) (S.remaining scen.old) ask (O.contents out.old) (O.contents out.new) result }
+    ensures text { LeavesText (M.remaining map.old) (S.remaining scen.old) ask (O.contents out.old) (O.contents out.new) result }
 
     // It is the text of a plan without conflict that costs least of all such plans, or `none` exactly if none costs at most the
     // bound.
@@ -42,6 +43,9 @@ pub fn run<R: Threads + Sync, M: Source, S: Source, O: Sink>(
 
     // With any number of workers from 1 to 64 the same text, or the same refusal.
     ensures same { LeavesOnly (M.remaining map.old) (S.remaining scen.old) ask (O.contents out.old) (O.contents out.new) result }
+
+    // Want of memory is a refusal.
+    ensures memory { IfErr result (λ fault. fault ≢ RunFault.Device DeviceFault.NoMemory) }
 {
     write_text_or_fault(rt, alloc, map, scen, out, ask)
 }
@@ -58,21 +62,15 @@ fn write_text_or_fault<R: Threads + Sync, M: Source, S: Source, O: Sink>(
     requires map { M.failures map.old < u64.MAX }
     requires scen { S.failures scen.old < u64.MAX }
     requires out { O.failures out.old < u64.MAX }
-    ensures map { Counts (is_read_failure FileName.Map result) (M.failures map.old) (M.failures map.new) }
-    ensures scen { Counts (is_read_failure FileName.Scenario result) (S.failures scen.old) (S.failures scen.new) }
-    ensures out { Counts (is_write_failure result) (O.failures out.old) (O.failures out.new) }
-    ensures within { AreWithin (M.remaining map.old) (S.remaining scen.old) result }
-    ensures text { Leaves (M.remaining map.old) (S.remaining scen.old) ask (O.contents out.old) (O.contents out.new) result }
+    ensures map { Counts (is_read_failure FileName.Map (end_of result)) (M.failures map.old) (M.failures map.new) }
+    ensures scen { Counts (is_read_failure FileName.Scenario (end_of result)) (S.failures scen.old) (S.failures scen.new) }
+    ensures out { Counts (is_write_failure (end_of result)) (O.failures out.old) (O.failures out.new) }
+    ensures within { AreWithin (files (M.remaining map.old) (S.remaining scen.old)) (end_of result) }
+    ensures text { LeavesText (M.remaining map.old) (S.remaining scen.old) ask (O.contents out.old) (O.contents out.new) result }
+    ensures memory { IfErr result (λ fault. fault ≢ RunFault.Device DeviceFault.NoMemory) }
 {
     let map = read_file(alloc, map, FileName::Map)?;
     let scen = read_file(alloc, scen, FileName::Scenario)?;
-    match answer(rt, alloc, &map, &scen, ask, &NoGate) {
-        Ok(text) => match write_whole(out, &text) {
-            Ok(()) => Ok(()),
-            Err(failed) => Err(RunFault::WriteFailed {
-                taken: failed.taken,
-            }),
-        },
-        Err(refusal) => Err(RunFault::Refusal(refusal)),
-    }
+    let text = answer(rt, alloc, &map, &scen, ask, &NoGate)?;
+    Ok(write_text(out, &text)?)
 }

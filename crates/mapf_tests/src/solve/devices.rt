@@ -1,7 +1,7 @@
 //! Runs over readers and writers that fail.
 
 use crate::worked::ALONG;
-use mapf_plan::{Counted, Sink};
+use mapf_plan::{Counted, DeviceFault, Sink};
 use mapf_solve::{Ask, RunFault, run};
 use std::io;
 
@@ -61,6 +61,7 @@ fn a_writer_that_takes_five_bytes(rt: HostRuntime) {
             workers: 1,
         },
     );
-    assert_eq!(rt; result, Err(RunFault::WriteFailed { taken: 5 }));
+    let failed = RunFault::Device(DeviceFault::WriteFailed { taken: 5 });
+    assert_eq!(rt; result, Err(failed));
     assert_eq!(rt; out.bytes.as_slice(), b"none ".as_slice());
 }

@@ -4,8 +4,9 @@ ghost use Rattle.std.specs.Prelude.{◌<◌, ◌≤◌};
 
 use crate::worked::{CROSSING, Worked};
 use mapf_board::Gate;
+use mapf_grid::instance_of;
 use mapf_plan::Answer;
-use mapf_solve::{Ask, answer, instance_of, solve};
+use mapf_solve::{Ask, answer, solve};
 use mapf_tree::Problem;
 use std::alloc::Global;
 use std::sync::atomic::{AtomicU64, Ordering};
