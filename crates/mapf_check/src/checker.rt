@@ -5,7 +5,6 @@ ghost use Rattle.mapf_check.specs.Verdict.{IsVerdict, IsPlanVerdict, IsValidAnsw
 
 use crate::Verdict;
 use crate::paths::{ends_on, is_early_on, starts_on};
-use crate::steps::is_step;
 use mapf_grid::Instance;
 use mapf_plan::{Answer, Plan};
 
@@ -101,11 +100,8 @@ fn bad_step_of(instance: &Instance, plan: &Plan, agent: usize) -> Option<Verdict
         (λ fault. IsFirstFault instance.now plan.now fault) }
 {
     for time in 1..plan.paths()[agent].cost() + 1 {
-        if !is_step(
-            instance.map(),
-            plan.at(agent, time - 1),
-            plan.at(agent, time),
-        ) {
+        let (from, to) = (plan.at(agent, time - 1), plan.at(agent, time));
+        if !instance.map().is_step(from, to) {
             return Some(Verdict::BadStep { agent, time });
         }
     }

@@ -4,7 +4,6 @@
 mod checker;
 pub mod laws;
 mod paths;
-mod steps;
 mod verdict;
 mod wording;
 

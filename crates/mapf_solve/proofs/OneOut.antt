@@ -5,11 +5,12 @@ use Rattle.mapf_grid.specs.Instance.{Instance}
 use Rattle.mapf_grid.specs.Asked.{IsAsked, IsFilesFault}
 use Rattle.mapf_grid.specs.declared.files.FilesFault.{FilesFault}
 use Rattle.mapf_grid.proofs.Asked.{same_instance, no_fault, same_files_fault}
+use Rattle.mapf_plan.specs.Plan.{most_bound}
 use Rattle.mapf_plan.specs.Text.{text}
 use Rattle.mapf_tree.specs.Answered.{stated}
 use Rattle.mapf_tree.specs.Tree.{IsAnswer}
 use Rattle.mapf_tree.proofs.Unique.{answer_is_unique}
-use Rattle.mapf_solve.specs.Out.{IsBound, IsWorkers, of_files, IsRefusal, IsText, IsOut, IsOnlyOut, OneOut}
+use Rattle.mapf_solve.specs.Out.{problem_of, IsBound, IsWorkers, of_files, IsRefusal, IsText, IsOut, IsOnlyOut, OneOut}
 use Rattle.mapf_solve.specs.declared.ask.Ask.{Ask}
 use Rattle.mapf_solve.specs.declared.refusal.Refusal.{Refusal}
 use Rattle.mapf_solve.specs.declared.refusal.Refusal.TheVariants as refusal
@@ -18,8 +19,8 @@ use Rattle.mapf_solve.specs.declared.refusal.Refusal.TheVariants as refusal
 same_text : (map scen : List ℕ) (ask : Ask) (n : ℕ) (a b : List ℕ) → IsText map scen ask a → IsText map scen (record ask { workers = n }) b → b ≡ a
 same_text map scen ask n a b s t =
     let i : t.inst ≡ s.inst = same_instance map scen ask.agents t.inst s.inst t.asked s.asked in
-    let p : t.plan ≡ s.plan = answer_is_unique s.inst ask.bound t.plan s.plan (subst (λ x. IsAnswer x ask.bound t.plan) i t.answer) s.answer in
-    t.spelled ∙ ap (λ (x : Instance). text x.grid (stated ask.bound t.plan)) i ∙ ap (λ x. text s.inst.grid (stated ask.bound x)) p ∙ sym s.spelled
+    let p : t.plan ≡ s.plan = answer_is_unique (problem_of s.inst ask) t.plan s.plan (subst (λ x. IsAnswer (problem_of x ask) t.plan) i t.answer) s.answer in
+    t.spelled ∙ ap (λ (x : Instance). text x.grid (stated (problem_of x ask) t.plan)) i ∙ ap (λ x. text s.inst.grid (stated (problem_of s.inst ask) x)) p ∙ sym s.spelled
 
 -- past the bound there is one fault
 past_bound : (map scen : List ℕ) (ask : Ask) (fault : Refusal) → ¬ IsBound ask → IsRefusal map scen ask fault → fault ≡ refusal.Bound
@@ -61,7 +62,7 @@ one_out map scen ask (Ok a) has s n may (Err f) t =
 one_out map scen ask (Err f) has s n may (Ok b) t =
     absurd (not_refused map scen ask f t.inst t.asked t.bound has s)
 one_out map scen ask (Err f) has s n may (Err g) t =
-    elim (dec_le ask.bound 1000000) [
+    elim (dec_le ask.bound most_bound) [
       | yes h ↦ ap (λ x. Err x) (same_refusal map scen ask n f g h has may s t)
       | no h ↦ ap (λ x. Err x) (past_bound map scen (record ask { workers = n }) g h t ∙ sym (past_bound map scen ask f h s))
     ]

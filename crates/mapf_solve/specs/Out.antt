@@ -4,9 +4,10 @@ use Rattle.mapf_grid.specs.Instance.{Instance}
 use Rattle.mapf_grid.specs.Asked.{IsAsked, IsFilesFault}
 use Rattle.mapf_grid.specs.declared.files.FilesFault.{FilesFault}
 use Rattle.mapf_grid.specs.declared.files.FilesFault.TheVariants as files
-use Rattle.mapf_plan.specs.Plan.{plan_cost, IsValid, IsOptimum}
+use Rattle.mapf_plan.specs.Plan.{plan_cost, IsValid, IsOptimum, most_bound}
 use Rattle.mapf_plan.specs.Text.{text}
 use Rattle.mapf_plan.specs.declared.answer.Answer.TheVariants as answer
+use Rattle.mapf_tree.specs.Problem.{Problem}
 use Rattle.mapf_tree.specs.Tree.{IsAnswer}
 use Rattle.mapf_tree.specs.Answered.{stated}
 use Rattle.mapf_solve.specs.declared.ask.Ask.{Ask}
@@ -14,10 +15,13 @@ use Rattle.mapf_solve.specs.declared.refusal.Refusal.{Refusal}
 use Rattle.mapf_solve.specs.declared.refusal.Refusal.TheVariants as refusal
 
 abbrev pub IsBound : Ask → Type 0
-IsBound ask = ask.bound ≤ 1000000
+IsBound ask = ask.bound ≤ most_bound
+
+abbrev pub most_workers : ℕ
+most_workers = 64
 
 abbrev pub IsWorkers : Ask → Type 0
-IsWorkers ask = (0 < ask.workers) × (ask.workers ≤ 64)
+IsWorkers ask = (0 < ask.workers) × (ask.workers ≤ most_workers)
 
 -- a fault of the two files as a refusal
 abbrev pub of_files : FilesFault → Refusal
@@ -33,6 +37,10 @@ IsRefusal map scen ask refusal.Workers = IsBound ask × ¬ IsWorkers ask
 IsRefusal map scen ask named =
     IsBound ask × IsWorkers ask × (fault : FilesFault) × (named ≡ of_files fault) × IsFilesFault map scen ask.agents fault
 
+-- what is to be solved: the instance, under the ask's bound
+abbrev pub problem_of : Instance → Ask → Problem
+problem_of inst ask = record { inst = inst; bound = ask.bound }
+
 -- the text of the answer of conflict-based search: the plan of the constraint tree's first solution
 pub record IsText (map scen : List ℕ) (ask : Ask) (bytes : List ℕ) : Type 0 where
   pub bound : IsBound ask
@@ -40,8 +48,8 @@ pub record IsText (map scen : List ℕ) (ask : Ask) (bytes : List ℕ) : Type 0 
   pub inst : Instance
   pub asked : IsAsked map scen ask.agents inst
   pub plan : Option (List (List ℕ))
-  pub answer : IsAnswer inst ask.bound plan
-  pub spelled : bytes ≡ text inst.grid (stated ask.bound plan)
+  pub answer : IsAnswer (problem_of inst ask) plan
+  pub spelled : bytes ≡ text inst.grid (stated (problem_of inst ask) plan)
 
 -- the text, or the named fault, unless memory was wanting
 abbrev pub IsOut : List ℕ → List ℕ → Ask → Result (List ℕ) Refusal → Type 0

@@ -1,14 +1,15 @@
 //! The answer, from the bytes of two files to the bytes of the text.
 
 ghost use Rattle.std.specs.Prelude.{◌≡◌, ◌≢◌, ◌≤◌, IfOk, IfErr, Ok, Err};
+ghost use Rattle.mapf_plan.specs.Plan.{most_bound};
 ghost use Rattle.mapf_plan.specs.Text.{text};
 ghost use Rattle.mapf_tree.specs.Answered.{IsAnswerOf};
 ghost use Rattle.mapf_solve.specs.Out.{IsOut, IsBest, IsOnlyOut, IsWorkers};
 
 use crate::{Ask, Refusal, solve};
-use mapf_board::Gate;
+use mapf_board::{Gate, MOST_WORKERS};
 use mapf_grid::{NoMemory, instance_of};
-use mapf_plan::{Answer, write};
+use mapf_plan::{Answer, MOST_BOUND, write};
 use mapf_tree::Problem;
 use std::alloc::Global;
 use std::thread::Threads;
@@ -54,10 +55,10 @@ fn text_or_fault<R: Threads + Sync, G: Gate>(
     ensures fault { IfErr result (λ fault. fault ≢ Refusal.NoMemory → IsOut map.now scen.now ask (Err fault)) }
     ensures best { IfOk result (λ bytes. IsBest map.now scen.now ask bytes.items) }
 {
-    if ask.bound > 1_000_000 {
+    if ask.bound > MOST_BOUND {
         return Err(Refusal::Bound);
     }
-    if ask.workers < 1 || ask.workers > 64 {
+    if ask.workers < 1 || ask.workers > MOST_WORKERS as u64 {
         return Err(Refusal::Workers);
     }
     let instance = instance_of(alloc, map, scen, ask.agents)?;
@@ -70,7 +71,7 @@ fn text_or_fault<R: Threads + Sync, G: Gate>(
 
 /// The text of a problem's answer.
 fn spell(alloc: Global, problem: &Problem, answer: &Answer) -> Result<Vec<u8>, NoMemory>
-    requires bound { problem.now.bound ≤ 1000000 }
+    requires bound { problem.now.bound ≤ most_bound }
     requires answer { IsAnswerOf problem.now answer.now }
     ensures { IfOk result (λ bytes. bytes.items ≡ text problem.now.inst.grid answer.now) }
 {
