@@ -1,7 +1,7 @@
-//! Want of memory.
+//! Out of memory.
 use std::alloc::{AllocError, AllocFailed};
 
-/// Want of memory: an allocation was refused.
+/// Out of memory: an allocation was refused.
 #[derive(Clone, Copy, Debug, PartialEq, Eq)]
 pub struct NoMemory;
 

@@ -18,7 +18,7 @@ pub trait Order<W: Task> {
     // the job that is ordered
     ghost ordered: { Self → W.Job };
 
-    /// The job that is ordered. An error is want of memory.
+    /// The job that is ordered. An error is that memory ran out.
     fn job(&self, alloc: Global) -> Result<W::Job, NoMemory>
         ensures { IfOk result (λ job. job ≡ ordered self.now) };
 
@@ -30,7 +30,7 @@ pub trait Order<W: Task> {
 /// them have ended.
 ///
 /// Each pair is of a job that was ordered. An order whose job found no memory, when it was made, done or kept, has no
-/// pair. An error is want of memory for the round as a whole (its tickets, its threads, or the list of all pairs); the
+/// pair. An error is that memory ran out for the round as a whole (its tickets, its threads, or the list of all pairs); the
 /// pairs that were made are lost then, and the orders stand as they were.
 pub fn run_round<R: Threads + Sync, W: Work, O: Order<W> + Sync, G: Gate>(
     rt: &R,
@@ -109,7 +109,7 @@ fn do_orders<W: Work, O: Order<W>, G: Gate>(
     (seat, pairs)
 }
 
-/// One job made and done, through the gate; none for want of memory.
+/// One job made and done, through the gate; none when memory runs out.
 fn do_order<W: Work, O: Order<W>, G: Gate>(
     alloc: Global,
     work: &W,

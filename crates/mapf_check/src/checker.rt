@@ -23,7 +23,7 @@ pub fn check(instance: &Instance, answer: &Answer) -> Verdict
     }
 }
 
-// The verdict on a plan that is stated to cost so much.
+/// The verdict on a plan that is stated to cost so much.
 fn check_plan(instance: &Instance, plan: &Plan, stated: u64) -> Verdict
     ensures { IsPlanVerdict instance.now plan.now stated result }
 {
@@ -44,7 +44,7 @@ fn check_plan(instance: &Instance, plan: &Plan, stated: u64) -> Verdict
     Verdict::Valid { cost: stated }
 }
 
-// The first fault that one of the paths has by itself.
+/// The first fault that one of the paths has by itself.
 fn fault_of_paths(instance: &Instance, plan: &Plan) -> Option<Verdict>
     requires { length plan.now ≡ length instance.now.starts }
     ensures { MatchOption result (NoFaultBefore instance.now plan.now (66 ∷ []))
@@ -62,7 +62,7 @@ fn fault_of_paths(instance: &Instance, plan: &Plan) -> Option<Verdict>
     ends_late(instance, plan)
 }
 
-// The first agent whose path doesn't begin on its start.
+/// The first agent whose path doesn't begin on its start.
 fn wrong_start(instance: &Instance, plan: &Plan) -> Option<Verdict>
     requires { length plan.now ≡ length instance.now.starts }
     ensures { MatchOption result (NoFaultBefore instance.now plan.now (63 ∷ []))
@@ -76,7 +76,7 @@ fn wrong_start(instance: &Instance, plan: &Plan) -> Option<Verdict>
     None
 }
 
-// The first step of an agent that isn't one of the map.
+/// The first step of an agent that isn't one of the map.
 fn bad_step(instance: &Instance, plan: &Plan) -> Option<Verdict>
     requires paths { length plan.now ≡ length instance.now.starts }
     requires before { NoFaultBefore instance.now plan.now (63 ∷ []) }
@@ -91,7 +91,7 @@ fn bad_step(instance: &Instance, plan: &Plan) -> Option<Verdict>
     None
 }
 
-// The first step of this agent that isn't one of the map.
+/// The first step of this agent that isn't one of the map.
 fn bad_step_of(instance: &Instance, plan: &Plan, agent: usize) -> Option<Verdict>
     requires agent { agent < length plan.now }
     requires paths { length plan.now ≡ length instance.now.starts }
@@ -108,7 +108,7 @@ fn bad_step_of(instance: &Instance, plan: &Plan, agent: usize) -> Option<Verdict
     None
 }
 
-// The first agent whose path doesn't end on its goal.
+/// The first agent whose path doesn't end on its goal.
 fn wrong_end(instance: &Instance, plan: &Plan) -> Option<Verdict>
     requires paths { length plan.now ≡ length instance.now.starts }
     requires before { NoFaultBefore instance.now plan.now (64 ∷ []) }
@@ -123,7 +123,7 @@ fn wrong_end(instance: &Instance, plan: &Plan) -> Option<Verdict>
     None
 }
 
-// The first agent that is on its goal one step before its path ends.
+/// The first agent that is on its goal one step before its path ends.
 fn ends_late(instance: &Instance, plan: &Plan) -> Option<Verdict>
     requires paths { length plan.now ≡ length instance.now.starts }
     requires before { NoFaultBefore instance.now plan.now (65 ∷ []) }

@@ -19,7 +19,7 @@ pub fn line(alloc: Global, verdict: &Verdict, map: &Map) -> Result<String, NoMem
     Ok(text)
 }
 
-// The words of a verdict.
+/// The words of a verdict.
 fn push_verdict(text: &mut String, verdict: Verdict, map: &Map) -> Result<(), NoMemory>
     requires { HasPositions map.now verdict }
     ensures { OnOk result (string_bytes text.new ≡ string_bytes text.old ++ verdict_words map.now verdict) }
@@ -44,7 +44,7 @@ fn push_verdict(text: &mut String, verdict: Verdict, map: &Map) -> Result<(), No
     Ok(())
 }
 
-// The words of a conflict.
+/// The words of a conflict.
 fn push_conflict(text: &mut String, conflict: Conflict, map: &Map) -> Result<(), NoMemory>
     requires { IsOnMap map.now conflict }
     ensures { OnOk result (string_bytes text.new ≡ string_bytes text.old ++ conflict_words map.now conflict) }

@@ -17,7 +17,7 @@ use Rattle.mapf_cli.specs.CheckRun.{IsJudged, IsTextsFault, HasOneMemory, of_tex
 use Rattle.mapf_cli.specs.declared.check_fault.CheckFault.{CheckFault}
 use Rattle.mapf_cli.specs.declared.check_fault.CheckFault.TheVariants as check
 
--- a fault of the texts is no layer's own want of memory
+-- a fault of the texts is no layer's own `NoMemory`
 pub one_memory : (map scen plan : List ℕ) (agents : ℕ) (fault : CheckFault) → IsTextsFault map scen plan agents fault → HasOneMemory fault
 one_memory map scen plan agents fault h = (
   λ e. (subst (IsTextsFault map scen plan agents) e h).member,

@@ -29,14 +29,14 @@ pub record IsJudged (map scen plan : List ℕ) (agents : ℕ) (verdict : Verdict
   pub judged : IsVerdict inst answer verdict
   pub worded : line ≡ verdict_line inst.grid verdict
 
--- the first fault of map, scenario, instance and plan text; or want of memory, in place of any
+-- the first fault of map, scenario, instance and plan text; or `NoMemory`, in place of any
 abbrev pub IsTextsFault : List ℕ → List ℕ → List ℕ → ℕ → CheckFault → Type 0
 IsTextsFault map scen plan agents (check.Files named) = IsFilesFault map scen agents named
 IsTextsFault map scen plan agents (check.Text named) = (inst : Instance) × IsAsked map scen agents inst × IsTextFault inst.grid plan named
 IsTextsFault map scen plan agents (check.Device device.NoMemory) = Unit {0}
 IsTextsFault map scen plan agents (check.Device other) = ⊥
 
--- the layers' faults as a check's: want of memory is one, wherever it came
+-- the layers' faults as a check's: `NoMemory` is one, wherever it came
 abbrev pub of_files : FilesFault → CheckFault
 of_files files_fault.NoMemory = check.Device device.NoMemory
 of_files named = check.Files named
@@ -45,7 +45,7 @@ abbrev pub of_text : TextFault → CheckFault
 of_text text_fault.NoMemory = check.Device device.NoMemory
 of_text named = check.Text named
 
--- the fault is no layer's own want of memory
+-- the fault is no layer's own `NoMemory`
 abbrev pub HasOneMemory : CheckFault → Type 0
 HasOneMemory fault =
     (fault ≢ check.Files (files_fault.Map map_fault.NoMemory)) × (fault ≢ check.Files (files_fault.Scenario scen_fault.NoMemory))

@@ -14,7 +14,7 @@ pub(crate) const NONE: u8 = 1;
 pub(crate) const COMMAND_LINE: u8 = 2;
 /// The bytes or the numbers were refused.
 pub(crate) const FAULT: u8 = 3;
-/// Want of memory.
+/// Out of memory.
 pub(crate) const NO_MEMORY: u8 = 4;
 /// A file couldn't be opened or read, or the output couldn't be written.
 pub(crate) const DEVICE: u8 = 5;

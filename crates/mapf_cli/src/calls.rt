@@ -19,7 +19,7 @@ use std::thread::Threads;
 ///
 /// `mapf solve` prints a plan (status 0) or `none` (1) on `out`, and `mapf check` one verdict line: valid (0), or not
 /// valid or no plan given (1). Help goes to `out` (0). A refusal is one line on
-/// `err`: of the command line, whose text is `clap`'s (2), of bytes and numbers (3), want of memory (4), a file that
+/// `err`: of the command line, whose text is `clap`'s (2), of bytes and numbers (3), out of memory (4), a file that
 /// couldn't be opened or read, or an output that couldn't be written (5). Faults of `err` itself are ignored.
 pub fn call<R: Files + Threads + Sync, O: Sink, E: Sink>(
     rt: &R,

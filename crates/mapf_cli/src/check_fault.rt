@@ -4,7 +4,7 @@ use thiserror::Error;
 
 /// Why a check over devices wrote no whole verdict.
 ///
-/// Want of memory is a device's `NoMemory`, wherever it came, and never another layer's.
+/// Out of memory is a device's `NoMemory`, wherever it came, and never another layer's.
 #[derive(Clone, Copy, Debug, PartialEq, Eq, Error)]
 pub enum CheckFault {
     /// The map and the scenario ask for no instance.
@@ -13,7 +13,7 @@ pub enum CheckFault {
     /// The plan's bytes are no text of an answer on the map.
     #[error(transparent)]
     Text(TextFault),
-    /// A device failed, a file is too long, or want of memory.
+    /// A device failed, a file is too long, or memory ran out.
     #[error(transparent)]
     Device(DeviceFault),
 }

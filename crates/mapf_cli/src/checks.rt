@@ -41,7 +41,7 @@ pub fn check_run<M: Source, S: Source, P: Source, O: Sink>(
     // What was written is the line of the verdict on what the readers gave.
     ensures verdict { LeavesVerdict (M.remaining map.old) (S.remaining scen.old) (P.remaining plan.old) agents (O.contents out.old) (O.contents out.new) result }
 
-    // Want of memory has one spelling.
+    // Out of memory has one spelling.
     ensures memory { IfErr result HasOneMemory }
 {
     let map = read_file(alloc, map, FileName::Map)?;

@@ -236,7 +236,7 @@ IsScenFault-next {bytes} {rest} {line} {rows} {more} h e seen fault row version 
     let here : get_or (lines_of bytes) (length rows) [] ≡ line = ap (λ i. get_or (lines_of bytes) i []) (sym (add-zero (length rows))) ∙ next_line h e 0 in
     IsScenFault-row version is h.are (omega arith) fault (subst (λ l. IsScenarioRowFault l (length rows + 2) fault) (sym here) row)
 
--- where the lines are a scenario, want of memory alone is left
+-- where the lines are a scenario, `NoMemory` alone is left
 pub only_no_memory : {lines : List (List ℕ)} {rows : List Row} → IsScenario lines rows → (e : ScenFault) → ((e ≡ NoMemory → ⊥) → IsScenFault lines e) → e ≡ NoMemory
 only_no_memory is NoMemory fault = refl
 only_no_memory is e fault = absurd (no_fault is e (fault (λ same. cc)).member)

@@ -35,7 +35,7 @@ no_fault {n = n} is (SharedStart e q) h = no_shared_start n e q (AreAgents-insta
 no_fault {n = n} is (SharedGoal e q) h = no_shared_goal n e q (AreAgents-instance is) h h.1.1
 no_fault is NoMemory h = h
 
--- where there is an instance, want of memory alone is left
+-- where there is an instance, `NoMemory` alone is left
 pub only_no_memory : {g : Grid} {rows : List Row} {n : ℕ} {inst : Instance} → IsInstance g rows n inst → (e : InstanceFault) → ((e ≡ NoMemory → ⊥) → IsInstanceFault g rows n e) → e ≡ NoMemory
 only_no_memory is NoMemory fault = refl
 only_no_memory is e fault = absurd (no_fault is e (fault (λ same. cc)).member)

@@ -30,7 +30,7 @@ IsFilesFault map scen agents (files.Instance fault) =
     (g : Grid) × (rows : List Row) × IsMap (lines_of map) g × IsScenario (lines_of scen) rows × IsInstanceFault g rows agents fault
 IsFilesFault map scen agents files.NoMemory = ⊥
 
--- each reader's fault: want of memory is one, wherever it came
+-- each reader's fault: `NoMemory` is one, wherever it came
 abbrev pub of_map : MapFault → FilesFault
 of_map map_fault.NoMemory = files.NoMemory
 of_map fault = files.Map fault

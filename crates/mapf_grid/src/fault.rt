@@ -45,7 +45,7 @@ pub enum MapFault {
     TooLarge {
         line: usize,
     },
-    /// Want of memory.
+    /// Out of memory.
     #[error("43 no memory")]
     NoMemory,
 }
@@ -64,7 +64,7 @@ pub enum ScenFault {
     /// The field, one of 1 and 3 to 8, is no number of 1 to 9 digits.
     #[error("13 bad number at line {line} field {field}")]
     Number { line: usize, field: usize },
-    /// Want of memory.
+    /// Out of memory.
     #[error("43 no memory")]
     NoMemory,
 }
@@ -95,12 +95,12 @@ pub enum InstanceFault {
     /// The two rows have one goal; the earlier is the first row with it.
     #[error("27 shared goal in rows {earlier} and {row}")]
     SharedGoal { earlier: usize, row: usize },
-    /// Want of memory.
+    /// Out of memory.
     #[error("43 no memory")]
     NoMemory,
 }
 
-/// Want of memory: an allocation was refused.
+/// Out of memory: an allocation was refused.
 #[derive(Clone, Copy, Debug, PartialEq, Eq, Error)]
 #[error("43 no memory")]
 pub struct NoMemory;

@@ -40,7 +40,7 @@ impl Instance {
     /// The instance of the first rows of a scenario, one for each agent. Later rows are not looked at.
     ///
     /// An error gives the map back. It is `AgentCount` for no agent or over 1,000, `TooFewRows`, or the first fault
-    /// of the first faulty row; and `NoMemory` for want of memory.
+    /// of the first faulty row; and `NoMemory` when memory runs out.
     pub fn new(
         alloc: Global,
         map: Map,

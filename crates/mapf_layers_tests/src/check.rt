@@ -5,10 +5,10 @@ use std::alloc::Global;
 use std::process::Abort;
 use std::test::Fail;
 
-// Two agents on
-//     ...
-//     @.@
-// whose cells are 0 1 2 and 3 4 5: agent 0 stays on cell 1, and agent 1 goes from cell 0 to cell 2.
+/// Two agents on
+///     ...
+///     @.@
+/// whose cells are 0 1 2 and 3 4 5: agent 0 stays on cell 1, and agent 1 goes from cell 0 to cell 2.
 fn two_agents(alloc: Global) -> Result<Instance, Fail> {
     let map = Map::read(alloc, b"type octile\nheight 2\nwidth 3\nmap\n...\n@.@\n")?;
     let rows = Scenario::read(
@@ -22,7 +22,7 @@ fn two_agents(alloc: Global) -> Result<Instance, Fail> {
     )
 }
 
-// The plan over these cells, named by their numbers.
+/// The plan over these cells, named by their numbers.
 fn plan_of(rt: &impl Abort, alloc: Global, paths: &[&[u32]]) -> Result<Plan, Fail> {
     let mut plan = Vec::new(alloc);
     for cells in paths {
@@ -41,7 +41,7 @@ fn path_of(rt: &impl Abort, alloc: Global, cells: &[u32]) -> Result<Path, Fail> 
     Ok(Path::of(path))
 }
 
-// Checks a plan for the two agents, stated to cost so much.
+/// Checks a plan for the two agents, stated to cost so much.
 fn expect(
     rt: &impl Abort,
     alloc: Global,

@@ -12,7 +12,7 @@ pub record File : Type 0 where
   pub name : FileName
   pub bytes : Option (List ℕ)
 
--- how a run ended: a text was written, and a value answered with it; a device failed, a file was too long or memory was wanting;
+-- how a run ended: a text was written, and a value answered with it; a device failed, a file was too long or memory ran out;
 -- or what was read was refused
 pub data End (V R : Type 0) : Type 0 where
   Written : V → End V R
@@ -76,7 +76,7 @@ module _ {V R : Type 0} where
   is_write_failure end = false
 
   -- which file is too long: the first that is, in the order in which they are read. After a failed read nothing is said of
-  -- that file and those behind it, and nothing for want of memory.
+  -- that file and those behind it, and nothing when memory runs out.
   abbrev pub AreWithin : List File → End V R → Type 0
   AreWithin files (Broken (device.TooLong name)) = UpTo IsTooLong name files
   AreWithin files (Broken (device.ReadFailed name)) = UpTo (λ bytes. Unit {0}) name files

@@ -73,7 +73,7 @@ pub only_text : {T : Type 0} (bytes : T → List ℕ) (map scen : List ℕ) (ask
 only_text bytes map scen ask (Ok t) out = one_out map scen ask (Ok (bytes t)) out.workers out
 only_text bytes map scen ask (Err f) out = tt
 
--- and so is a fault, but for want of memory
+-- and so is a fault, unless memory runs out
 pub only_fault : {T : Type 0} (map scen : List ℕ) (ask : Ask) (r : Result T Refusal) →
     IfErr r (λ f. f ≢ refusal.NoMemory → IsOut map scen ask (Err f)) →
     IfErr r (λ f. f ≢ refusal.NoMemory → IsWorkers ask → IsOnlyOut map scen ask (Err f))

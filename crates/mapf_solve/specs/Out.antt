@@ -51,7 +51,7 @@ pub record IsText (map scen : List ℕ) (ask : Ask) (bytes : List ℕ) : Type 0 
   pub answer : IsAnswer (problem_of inst ask) plan
   pub spelled : bytes ≡ text inst.grid (stated (problem_of inst ask) plan)
 
--- the text, or the named fault, unless memory was wanting
+-- the text, or the named fault, unless memory ran out
 abbrev pub IsOut : List ℕ → List ℕ → Ask → Result (List ℕ) Refusal → Type 0
 IsOut map scen ask (Ok bytes) = IsText map scen ask bytes
 IsOut map scen ask (Err fault) = IsRefusal map scen ask fault

@@ -11,7 +11,7 @@ use Rattle.mapf_solve.specs.declared.refusal.Refusal.TheVariants as refusal
 use Rattle.mapf_solve.specs.declared.run_fault.RunFault.{RunFault}
 use Rattle.mapf_solve.specs.declared.run_fault.RunFault.TheVariants as fault
 
--- a device's fault as a run's: want of memory is a refusal
+-- a device's fault as a run's: `NoMemory` is a refusal
 abbrev pub of_device : DeviceFault → RunFault
 of_device device.NoMemory = fault.Refusal refusal.NoMemory
 of_device broken = fault.Device broken

@@ -18,7 +18,7 @@ use std::thread::Threads;
 ///
 /// The text is that of the one answer of conflict-based search: a plan without conflict that costs least of all such
 /// plans, or `none` exactly if no plan without conflict costs at most the bound. It is the same for each number of
-/// workers. Faults come in the order bound, workers, map, scenario, instance; want of memory may come in place of
+/// workers. Faults come in the order bound, workers, map, scenario, instance; `NoMemory` may come in place of
 /// anything.
 pub fn answer<R: Threads + Sync, G: Gate>(
     rt: &R,

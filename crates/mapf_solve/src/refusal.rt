@@ -19,7 +19,7 @@ pub enum Refusal {
     /// The scenario's first rows make no instance on the map.
     #[error(transparent)]
     Instance(InstanceFault),
-    /// Want of memory, wherever it came.
+    /// Out of memory, wherever it came.
     #[error("43 no memory")]
     NoMemory,
 }

@@ -5,7 +5,7 @@ use thiserror::Error;
 /// Why a run over devices wrote no whole answer.
 #[derive(Clone, Copy, Debug, PartialEq, Eq, Error)]
 pub enum RunFault {
-    /// The ask has no answer; or want of memory, wherever it came.
+    /// The ask has no answer; or memory ran out, wherever that was.
     #[error(transparent)]
     Refusal(Refusal),
     /// A device failed, or a file is too long.

@@ -44,7 +44,7 @@ pub fn run<R: Threads + Sync, M: Source, S: Source, O: Sink>(
     // With any number of workers from 1 to 64 the same text, or the same refusal.
     ensures same { LeavesOnly (M.remaining map.old) (S.remaining scen.old) ask (O.contents out.old) (O.contents out.new) result }
 
-    // Want of memory is a refusal.
+    // Out of memory is a refusal.
     ensures memory { IfErr result (λ fault. fault ≢ RunFault.Device DeviceFault.NoMemory) }
 {
     write_text_or_fault(rt, alloc, map, scen, out, ask)

@@ -11,7 +11,7 @@ use mapf_tree::Problem;
 use std::alloc::Global;
 use std::test::Fail;
 
-// The problem of these files.
+/// The problem of these files.
 fn problem_of(alloc: Global, worked: &Worked, bound: u32) -> Result<Problem, Fail>
     requires { bound ≤ 1000000 }
 {

@@ -51,13 +51,13 @@ IsSolvedBy problem last given =
 abbrev pub IsEnded : Problem → List Node → Option (List ℕ) → Answer → Type 0
 IsEnded problem nodes last given = ((nodes ≡ []) × (given ≡ answer.None problem.bound)) ⊎ IsSolvedBy problem last given
 
--- while there is no answer yet, no taken node is a solution; an answer is the right one, and nothing was taken after it; after want of memory nothing is said
+-- while there is no answer yet, no taken node is a solution; an answer is the right one, and nothing was taken after it; after memory ran out nothing is said
 abbrev pub IsLawful : Problem → List Node → Option (List ℕ) → Result (Option Answer) NoMemory → Type 0
 IsLawful problem nodes last (Ok None) = IsTakenTo problem last nodes × NoneSolves problem last
 IsLawful problem nodes last (Ok (Some given)) = IsTakenTo problem last nodes × IsAnswerOf problem given × IsEnded problem nodes last given
 IsLawful problem nodes last (Err _) = Unit {0}
 
--- the problem, the nodes that wait, the key of the last taken node, and what came of it: an answer, none yet, or want of memory
+-- the problem, the nodes that wait, the key of the last taken node, and what came of it: an answer, none yet, or out of memory
 pub record Searched : Type 0 where
   pub problem : Problem
   pub waiting : List Node

@@ -69,7 +69,7 @@ TakesOne problem from to =
     (x : PlannedNode) × IsMember problem x × (¬ IsReached from x)
     × ((m : PlannedNode) → IsMember problem m → IsReached to m ↔ (IsReached from m ⊎ (m ≡ x)))
 
--- one node is taken; or there is an answer, from one node more or because nothing waits; or memory was wanting
+-- one node is taken; or there is an answer, from one node more or because nothing waits; or memory ran out
 abbrev pub IsStep : Searched → Searched → Result Progress NoMemory → Type 0
 IsStep old new (Ok Working) = (new.outcome ≡ Ok None) × TakesOne old.problem old.last new.last
 IsStep old new (Ok Finished) =

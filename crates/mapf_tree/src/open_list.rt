@@ -48,7 +48,7 @@ impl OpenList {
     pub fn put(&mut self, node: Node) -> Result<(), Node>
         ensures ok { OnOk result (IsPut self.old node self.new) }
 
-        // For want of memory the node comes back, and the list is unchanged.
+        // When memory runs out the node comes back, and the list is unchanged.
         ensures back { IfErr result (λ n. n ≡ node) }
         ensures err { IfErr result (λ _. self.new ≡ self.old) }
         ensures rising { IsRising self.new }

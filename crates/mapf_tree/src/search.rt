@@ -160,7 +160,7 @@ impl<'p> Search<'p> {
         }
     }
 
-    /// The answer; none before there is one, and none after want of memory.
+    /// The answer; none before there is one, and none after memory ran out.
     pub fn answer(&self) -> Option<&Answer>
         ensures answer { option_copied result ≡ answer_of self.now.outcome }
         ensures search { IsSearch self.now }

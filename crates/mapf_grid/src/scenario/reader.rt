@@ -18,7 +18,7 @@ impl Scenario {
     /// Reads a scenario file. Blank lines at the file's end are none.
     ///
     /// Where the bytes are no scenario file, the error is the fault of the first faulty line; and it is `NoMemory`
-    /// for want of memory.
+    /// when memory runs out.
     pub fn read(alloc: Global, bytes: &[u8]) -> Result<Scenario, ScenFault>
         ensures found { IfOk result (IsScenario (lines_of bytes.now)) }
         ensures fault { IfErr result (λ e. e ≢ ScenFault.NoMemory → IsScenFault (lines_of bytes.now) e) }

@@ -6,7 +6,7 @@ use super::squares::Squares;
 use mapf_board::{Live, WorkerSeat};
 use std::alloc::AllocError;
 
-// The last seat, which is taken from the others.
+/// The last seat, which is taken from the others.
 pub(super) fn take_seat(
     live: &Live<Squares>,
     workers: &mut Vec<WorkerSeat<Squares>>,
@@ -23,7 +23,7 @@ pub(super) fn take_seat(
     workers.pop().unwrap()
 }
 
-// The seat goes back, as the last.
+/// The seat goes back, as the last.
 pub(super) fn put_back(
     live: &Live<Squares>,
     workers: &mut Vec<WorkerSeat<Squares>>,

@@ -4,7 +4,7 @@ ghost use Rattle.std.specs.Prelude.{◌≡◌};
 use mapf_board::{Pair, Task, Work};
 use std::marker::PhantomData;
 
-// A place in a row of numbers.
+/// A place in a row of numbers.
 #[derive(Clone, Copy)]
 pub(super) struct Place<'m> {
     row: &'m [u32],
@@ -25,7 +25,7 @@ pub(super) fn place_of<'m>(row: &'m [u32], at: usize) -> Place<'m>
     Place { row, at }
 }
 
-// What number stands there?
+/// What number stands there?
 #[derive(Clone, Copy)]
 pub(super) struct Rows<'m> {
     marker: PhantomData<&'m u32>,

@@ -4,7 +4,7 @@ ghost use Rattle.mapf_board.specs.Workers.{IsWorkerOf, IsIdle, HoldsJob};
 
 use mapf_board::{Left, Live, Pair, Task, Work, WorkerSeat};
 
-// What is the square of a number?
+/// What is the square of a number?
 #[derive(Clone, Copy)]
 pub(super) struct Squares;
 
@@ -22,7 +22,7 @@ impl Work for Squares {
     }
 }
 
-// Does the job of the claim, and leaves its answer.
+/// Does the job of the claim, and leaves its answer.
 pub(super) fn work_off<W: Work>(live: &Live<W>, work: &W, seat: &mut WorkerSeat<W>)
     requires worker { IsWorkerOf live.now seat.old }
     requires claim { (job : W.Job) × HoldsJob seat.old job }
@@ -36,7 +36,7 @@ pub(super) fn work_off<W: Work>(live: &Live<W>, work: &W, seat: &mut WorkerSeat<
     }
 }
 
-// The number and its square, where it was answered.
+/// The number and its square, where it was answered.
 pub(super) fn answer_in(left: Left<Pair<Squares>, u32>) -> Option<(u32, u64)> {
     match left {
         Left::Answer(pair) => Some(pair.parts()),

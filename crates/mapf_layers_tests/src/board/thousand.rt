@@ -11,10 +11,10 @@ use std::thread::{Threads, join};
 
 const JOBS: u32 = 1000;
 
-// More turns than any thread takes.
+/// More turns than any thread takes.
 const TURNS: u64 = 1_000_000_000;
 
-// Goes round the slots until the flag is shut, and does each job that it can claim.
+/// Goes round the slots until the flag is shut, and does each job that it can claim.
 fn worker(live: &Live<Squares>, mut seat: WorkerSeat<Squares>) -> WorkerSeat<Squares>
     requires board { size_of live.now ≡ 8 }
     requires worker { IsWorkerOf live.now seat }
@@ -33,7 +33,7 @@ fn worker(live: &Live<Squares>, mut seat: WorkerSeat<Squares>) -> WorkerSeat<Squ
     seat
 }
 
-// One more for the number that comes back with its square.
+/// One more for the number that comes back with its square.
 fn count_back(back: &mut Vec<u32>, answer: Option<(u32, u64)>) -> bool {
     let Some((job, square)) = answer else {
         return false;
@@ -47,7 +47,7 @@ fn count_back(back: &mut Vec<u32>, answer: Option<(u32, u64)>) -> bool {
     true
 }
 
-// Goes round the slots until all jobs came back, takes what is left, and posts the next job; then shuts the flag.
+/// Goes round the slots until all jobs came back, takes what is left, and posts the next job; then shuts the flag.
 fn run_owner(
     live: &Live<Squares>,
     mut owner: Owner<Squares>,
@@ -77,7 +77,7 @@ fn run_owner(
     (owner, back)
 }
 
-// Two workers, each in a thread of its own.
+/// Two workers, each in a thread of its own.
 fn run_workers<R: Threads + Sync>(
     rt: &R,
     live: &Live<Squares>,

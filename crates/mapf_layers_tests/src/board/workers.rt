@@ -8,10 +8,10 @@ use std::alloc::{AllocError, Global};
 use std::thread;
 use std::thread::Threads;
 
-// A worker's seat, and the pairs that it made.
+/// A worker's seat, and the pairs that it made.
 pub(super) type Made<'m> = (TicketSeat, Vec<Pair<Rows<'m>>>);
 
-// Draws until no number is left.
+/// Draws until no number is left.
 fn worker<'m>(
     alloc: Global,
     tickets: &Tickets,
@@ -32,7 +32,7 @@ fn worker<'m>(
     Ok((seat, pairs))
 }
 
-// The seats and the pairs of all workers.
+/// The seats and the pairs of all workers.
 fn gathered<'m>(
     alloc: Global,
     made: Vec<Result<Made<'m>, AllocError>>,
@@ -53,7 +53,7 @@ fn gathered<'m>(
     Ok((seats, pairs))
 }
 
-// The answers for all places of a row, by so many workers in threads, and how many numbers were drawn.
+/// The answers for all places of a row, by so many workers in threads, and how many numbers were drawn.
 pub(super) fn all_pairs<'m, R: Threads + Sync>(
     rt: &R,
     alloc: Global,
@@ -70,7 +70,7 @@ pub(super) fn all_pairs<'m, R: Threads + Sync>(
     Ok((tickets.close(seats), pairs))
 }
 
-// A pair of any work, by way of another thread.
+/// A pair of any work, by way of another thread.
 pub(super) fn sent<W: Work, R: Threads>(rt: &R, pair: Pair<W>) -> Pair<W>
     ensures { result ≡ pair }
 {

@@ -6,7 +6,7 @@ use mapf_low::{Constraint, Constraints};
 use std::alloc::Global;
 use std::test::Fail;
 
-// What a set forbids on the cells 0 and 1 and between them, up to the time 4.
+/// What a set forbids on the cells 0 and 1 and between them, up to the time 4.
 fn forbidden(alloc: Global, set: &Constraints) -> Result<String, Fail> {
     let mut text = String::new(alloc);
     for time in 0..5 {

@@ -4,7 +4,7 @@ use std::io;
 use std::io::{Error, ErrorKind, Read, Write};
 use std::test::Fail;
 
-// Gives the byte 7 so many times, at most `most` a call, and fails from the call number `fails_at` on.
+/// Gives the byte 7 so many times, at most `most` a call, and fails from the call number `fails_at` on.
 #[derive(Drop)]
 struct Reader {
     left: usize,
@@ -27,7 +27,7 @@ impl Read for Reader {
     }
 }
 
-// Takes at most `most` bytes a call, and fails from the call number `fails_at` on, a flush among them.
+/// Takes at most `most` bytes a call, and fails from the call number `fails_at` on, a flush among them.
 #[derive(Drop)]
 struct Writer {
     taken: Vec<u8>,

@@ -17,7 +17,7 @@ fn a_copy_has_the_same_cells(rt: HostRuntime) -> Result<(), Fail> {
     Ok(())
 }
 
-// The first conflict of two paths of three cells each.
+/// The first conflict of two paths of three cells each.
 fn of_two(alloc: Global, a: [u32; 3], b: [u32; 3]) -> Result<Option<Conflict>, Fail> {
     let first = vec![in alloc; Cell::of(a[0]), Cell::of(a[1]), Cell::of(a[2])]?;
     let second = vec![in alloc; Cell::of(b[0]), Cell::of(b[1]), Cell::of(b[2])]?;
@@ -25,7 +25,7 @@ fn of_two(alloc: Global, a: [u32; 3], b: [u32; 3]) -> Result<Option<Conflict>, F
     Ok(plan.first_conflict())
 }
 
-// The nodes L and LLL of the tree of a corridor with a bay, and two agents that meet after both moved.
+/// The nodes L and LLL of the tree of a corridor with a bay, and two agents that meet after both moved.
 #[test]
 fn finds_the_first_conflict(rt: HostRuntime) -> Result<(), Fail> {
     let swapping = Conflict::Swapping {

@@ -9,7 +9,7 @@ const LINE: &[u8] = b"type octile\nheight 1\nwidth 3\nmap\n...\n";
 
 const BAY: &[u8] = b"type octile\nheight 2\nwidth 3\nmap\n...\n@.@\n";
 
-// What an answer says: its cost and each path's cells by their numbers, or its bound.
+/// What an answer says: its cost and each path's cells by their numbers, or its bound.
 fn said(alloc: Global, answer: &Answer) -> Result<String, Fail> {
     let mut text = String::new(alloc);
     match answer {
@@ -25,7 +25,7 @@ fn said(alloc: Global, answer: &Answer) -> Result<String, Fail> {
     Ok(text)
 }
 
-// On this map the text says this, and is what is written for it.
+/// On this map the text says this, and is what is written for it.
 fn expect(
     rt: &impl Abort,
     alloc: Global,
@@ -63,7 +63,7 @@ fn no_plan(rt: HostRuntime) -> Result<(), Fail> {
     expect(&rt, rt.alloc(), LINE, b"none 1000000\n", "none 1000000")
 }
 
-// The fault of these bytes on this map, if they have one.
+/// The fault of these bytes on this map, if they have one.
 fn fault_of(alloc: Global, map: &[u8], bytes: &[u8]) -> Result<Option<TextFault>, Fail> {
     let map = Map::read(alloc, map)?;
     Ok(read_answer(alloc, bytes, &map).err())
@@ -109,7 +109,7 @@ fn tells_the_first_fault(rt: HostRuntime) -> Result<(), Fail> {
     Ok(())
 }
 
-// A letter for a fault: the line's digit, `h` for the head, and a point where there is none.
+/// A letter for a fault: the line's digit, `h` for the head, and a point where there is none.
 fn letter(fault: Option<TextFault>) -> char {
     match fault {
         None => '.',

@@ -31,7 +31,7 @@ pub enum DeviceFault {
     /// The reader gave more than 67,108,864 bytes.
     #[error("53 too long {0}")]
     TooLong(FileName),
-    /// Want of memory.
+    /// Out of memory.
     #[error("43 no memory")]
     NoMemory,
 }

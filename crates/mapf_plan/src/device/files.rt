@@ -13,7 +13,7 @@ const LIMIT: usize = 67_108_864;
 
 /// Reads a file's bytes, all of them: 67,108,864 at most.
 ///
-/// An error is `ReadFailed` exactly where the reader's count of failures rose, `TooLong`, or want of memory.
+/// An error is `ReadFailed` exactly where the reader's count of failures rose, `TooLong`, or out of memory.
 pub fn read_file<S: Source>(
     alloc: Global,
     source: &mut S,

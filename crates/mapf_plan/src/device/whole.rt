@@ -18,7 +18,7 @@ pub enum ReadFault {
     /// The source gave more bytes than the limit.
     #[error("too long")]
     TooLong,
-    /// Want of memory.
+    /// Out of memory.
     #[error("no memory")]
     NoMemory,
 }

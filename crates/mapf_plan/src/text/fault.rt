@@ -20,7 +20,7 @@ pub enum TextFault {
     /// The position at this place of the line is outside the map, and none before it in that line is.
     #[error("33 outside at line {line} place {place}")]
     Outside { line: usize, place: usize },
-    /// Want of memory.
+    /// Out of memory.
     #[error("43 no memory")]
     NoMemory,
 }

@@ -63,7 +63,7 @@ impl<'p> Kept<'p> {
         Some(child)
     }
 
-    /// Keeps these children too; they are dropped for want of memory.
+    /// Keeps these children too; they are dropped when memory runs out.
     pub(crate) fn keep(&mut self, mut pairs: Vec<Pair<SideWork<'p>>>)
         requires { All (λ p. p.0.problem ≡ self.old) pairs.items }
         ensures { self.new ≡ self.old }

@@ -62,7 +62,7 @@ fn add_side<'n, 'p>(
     Ok(())
 }
 
-/// Does the jobs of these orders by so many workers: the children that they made, none for want of memory.
+/// Does the jobs of these orders by so many workers: the children that they made, none when memory runs out.
 pub(crate) fn do_sides<'p, R: Threads + Sync, G: Gate>(
     rt: &R,
     alloc: Global,

@@ -5,7 +5,7 @@ use mapf_plan::{Counted, DeviceFault, Sink};
 use mapf_solve::{Ask, RunFault, run};
 use std::io;
 
-// A sink that has room for so many bytes, and then fails.
+/// A sink that has room for so many bytes, and then fails.
 #[derive(Drop)]
 struct Narrow {
     room: usize,

@@ -13,7 +13,7 @@ use std::alloc::Global;
 use std::process::Abort;
 use std::test::Fail;
 
-// A line for each node, those on the left first: its name and cost, its paths, and its conflict.
+/// A line for each node, those on the left first: its name and cost, its paths, and its conflict.
 const BAY_TREE: &str = " 2: 1; 0 1 2; agents 0 and 1 on 1 at 1
 L 4: 1 0 1; 0 1 2; agents 0 and 1 swap 1 and 0 at 1
 LL 4: 1 2 1; 0 1 2; agents 0 and 1 swap 2 and 1 at 2
@@ -33,13 +33,13 @@ RR 4: 0 1; 1 3 1 0; agents 0 and 1 on 1 at 2
 RRR 4: 0 1; 1 3 2 0;
 ";
 
-// Under a smaller bound the tree ends earlier.
+/// Under a smaller bound the tree ends earlier.
 const SQUARE_TREE_WITH_LESS: &str = " 2: 0 1; 1 0; agents 0 and 1 swap 0 and 1 at 1
 L 3: 0 0 1; 1 0; agents 0 and 1 on 0 at 1
 R 3: 0 1; 1 1 0; agents 0 and 1 on 1 at 1
 ";
 
-// Writes the line of a node.
+/// Writes the line of a node.
 fn write_node(rt: &impl Abort, alloc: Global, node: &Node, text: &mut String) -> Result<(), Fail> {
     let key = node.key();
     assert_eq!(rt; key.depth, key.name.len());
@@ -53,7 +53,7 @@ fn write_node(rt: &impl Abort, alloc: Global, node: &Node, text: &mut String) ->
     Ok(())
 }
 
-// The child on this side; none also where the node has no conflict.
+/// The child on this side; none also where the node has no conflict.
 fn child_of(
     alloc: Global,
     problem: &Problem,
@@ -69,7 +69,7 @@ fn child_of(
     child(alloc, problem, parent, side)
 }
 
-// Writes the lines of a node and of those below it, if they are on no more than so many levels.
+/// Writes the lines of a node and of those below it, if they are on no more than so many levels.
 fn write_nodes(
     rt: &impl Abort,
     alloc: Global,
@@ -90,7 +90,7 @@ fn write_nodes(
     Ok(())
 }
 
-// The lines of the whole tree.
+/// The lines of the whole tree.
 fn tree(rt: &impl Abort, alloc: Global, problem: &Problem) -> Result<String, Fail> {
     let mut text = String::new(alloc);
     let root = root(alloc, problem)?.ok_or("no root")?;
@@ -122,13 +122,13 @@ fn square_with_less(rt: HostRuntime) -> Result<(), Fail> {
     Ok(())
 }
 
-// A line for each turn that leads to the left child's left child's left child.
+/// A line for each turn that leads to the left child's left child's left child.
 const LEFT_CHANGES: &str = "agent 0 not on 1 at 1: 1 0 1;
 agent 0 not from 1 to 0 at 1: 1 2 1;
 agent 0 not from 2 to 1 at 2: 1 4 1;
 ";
 
-// The node so many left turns below the root.
+/// The node so many left turns below the root.
 fn left_node(alloc: Global, problem: &Problem, turns: u8) -> Result<Node, Fail>
     ensures { IfOk result (λ node. (m : PlannedNode) × StandsFor problem.now node m) }
 {

@@ -11,7 +11,7 @@ use std::alloc::Global;
 use std::process::Abort;
 use std::test::Fail;
 
-// Writes the cost and the paths of a plan, or the bound where there is none.
+/// Writes the cost and the paths of a plan, or the bound where there is none.
 fn push_answer(text: &mut String, answer: &Answer) -> Result<(), Fail> {
     match answer {
         Answer::Plan { plan, stated } => {
@@ -23,7 +23,7 @@ fn push_answer(text: &mut String, answer: &Answer) -> Result<(), Fail> {
     Ok(())
 }
 
-// The search in the tree of these files finds this.
+/// The search in the tree of these files finds this.
 fn expect(
     rt: &impl Abort,
     alloc: Global,
@@ -66,7 +66,7 @@ fn the_left_of_two_solutions(rt: HostRuntime) -> Result<(), Fail> {
     expect(&rt, rt.alloc(), &CROSSING, 9, "plan 5: 1 1 4 7; 3 4 5;")
 }
 
-// The nodes that so many turns take, a full stop where the search is finished, and its answer.
+/// The nodes that so many turns take, a full stop where the search is finished, and its answer.
 fn taken(alloc: Global, problem: &Problem, turns: u8) -> Result<String, Fail> {
     let mut search = Search::new(alloc, problem)?;
     let mut children = ByChild::new(alloc);
@@ -85,7 +85,7 @@ fn taken(alloc: Global, problem: &Problem, turns: u8) -> Result<String, Fail> {
     Ok(text)
 }
 
-// Turn by turn the search takes the nodes in the order of their keys.
+/// Turn by turn the search takes the nodes in the order of their keys.
 #[test]
 fn six_turns_of_the_corridor_with_bay(rt: HostRuntime) -> Result<(), Fail> {
     let problem = problem_of(rt.alloc(), &BAY, 4)?;
@@ -96,7 +96,7 @@ fn six_turns_of_the_corridor_with_bay(rt: HostRuntime) -> Result<(), Fail> {
     Ok(())
 }
 
-// The fourth turn finds no node.
+/// The fourth turn finds no node.
 #[test]
 fn three_turns_without_a_solution(rt: HostRuntime) -> Result<(), Fail> {
     let problem = problem_of(rt.alloc(), &CHANGE, 3)?;

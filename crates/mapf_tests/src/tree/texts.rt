@@ -6,7 +6,7 @@ use mapf_tree::Side;
 use std::alloc::Global;
 use std::test::Fail;
 
-// A node's name: a letter for each turn from the root.
+/// A node's name: a letter for each turn from the root.
 pub(super) fn letters(alloc: Global, name: &[Side]) -> Result<String, Fail> {
     let mut text = String::new(alloc);
     for side in name {
@@ -18,7 +18,7 @@ pub(super) fn letters(alloc: Global, name: &[Side]) -> Result<String, Fail> {
     Ok(text)
 }
 
-// Each path's cells by their numbers, and a semicolon behind each path.
+/// Each path's cells by their numbers, and a semicolon behind each path.
 pub(super) fn push_paths(text: &mut String, paths: &[Path]) -> Result<(), Fail> {
     for path in paths {
         push_path(text, path)?;
@@ -34,7 +34,7 @@ fn push_path(text: &mut String, path: &Path) -> Result<(), Fail> {
     Ok(())
 }
 
-// An agent, what it is forbidden, cells by their numbers, and its path from then on.
+/// An agent, what it is forbidden, cells by their numbers, and its path from then on.
 pub(super) fn push_change(
     text: &mut String,
     agent: usize,
@@ -55,7 +55,7 @@ pub(super) fn push_change(
     push_path(text, path)
 }
 
-// The conflict's agents, its cells by their numbers, and its time.
+/// The conflict's agents, its cells by their numbers, and its time.
 pub(super) fn push_conflict(text: &mut String, conflict: Conflict) -> Result<(), Fail> {
     match conflict {
         Conflict::Vertex {
