@@ -6,7 +6,7 @@ use Rattle.mapf_plan.specs.declared.device.fault.DeviceFault.{DeviceFault}
 use Rattle.mapf_plan.specs.declared.device.fault.DeviceFault.TheVariants as device
 use Rattle.mapf_plan.proofs.WhatIsLeft.{Leaves-more}
 use Rattle.mapf_tree.specs.Answered.{stated}
-use Rattle.mapf_solve.specs.Out.{IsText, IsRefusal, IsBest}
+use Rattle.mapf_solve.specs.Out.{problem_of, IsText, IsRefusal, IsBest}
 use Rattle.mapf_solve.specs.Run.{of_device, OfFiles, end_of, LeavesText, LeavesBest, LeavesOnly}
 use Rattle.mapf_solve.specs.declared.ask.Ask.{Ask}
 use Rattle.mapf_solve.specs.declared.run_fault.RunFault.{RunFault}
@@ -21,7 +21,7 @@ of_files (Some m) (Some s) P Q f h = f m s h
 
 -- the text of the tree's first solution is that of an optimum
 text_is_best : (map scen : List ℕ) (ask : Ask) (bytes : List ℕ) → IsText map scen ask bytes → IsBest map scen ask bytes
-text_is_best map scen ask bytes h = answer_is_best map scen ask h.inst (stated ask.bound h.plan) bytes h.asked (h.plan, h.answer, refl) h.spelled
+text_is_best map scen ask bytes h = answer_is_best map scen ask h.inst (stated (problem_of h.inst ask) h.plan) bytes h.asked (h.plan, h.answer, refl) h.spelled
 
 -- so what is left is best
 pub best_is_left : (map scen : Option (List ℕ)) (ask : Ask) (old new : Option (List ℕ)) (result : Result (Unit {0}) RunFault) → LeavesText map scen ask old new result → LeavesBest map scen ask old new result
