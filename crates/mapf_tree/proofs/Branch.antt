@@ -1,7 +1,6 @@
 -- A valid plan that obeys a node obeys one of its sides.
 use Rattle.std.proofs.Common.{◌≡◌, ◌⊎◌, ℕ, ◌<◌, List, [], ◌∷◌, length, get_or, set, inl, inr, subst, sym, ap, ◌∙◌, arith, get_or-set_same, get_or-set_other}
 use native.Mathlib.Decide.{ℕ_discrete}
-use Rattle.mapf_grid.specs.Instance.{Instance}
 use Rattle.mapf_plan.specs.declared.conflict.Conflict.{Conflict}
 use Rattle.mapf_plan.specs.declared.conflict.Conflict.TheVariants.{Vertex, Swapping}
 use Rattle.mapf_plan.specs.Plan.{IsConflict, path_of}

@@ -2,7 +2,6 @@
 use Rattle.std.proofs.Common.{◌≡◌, ◌⊎◌, ℕ, zero, suc, ◌<◌, ◌≤◌, ◌+◌, List, [], ◌∷◌, map, length, get_or, inl, inr, subst, sym, ◌∙◌, arith, length-append}
 use Rattle.std.proofs.lemmas.List.{get_or-replicate}
 use Rattle.std.proofs.lemmas.Bool.{cases_lt}
-use Rattle.mapf_grid.specs.Instance.{Instance}
 use Rattle.mapf_grid.proofs.Orders.{first_le}
 use Rattle.mapf_grid.proofs.Lists.{build, sum_by-le, part_le_sum_by}
 use Rattle.mapf_plan.specs.Path.{cost}

@@ -2,7 +2,6 @@
 use Rattle.std.proofs.Common.{◌≡◌, ◌⊎◌, ℕ, zero, suc, ◌≤◌, List, [], ◌∷◌, ◌++◌, length, inl, inr, subst, sym, refl, ap₂, ◌∙◌, arith, length-append}
 use Rattle.std.specs.List.{AllByRecursion}
 use Rattle.std.proofs.lemmas.Bool.{cases_eq}
-use Rattle.mapf_grid.specs.Instance.{Instance}
 use Rattle.mapf_grid.proofs.Orders.{In}
 use Rattle.mapf_grid.proofs.Lists.{In-append_left, In-append_right}
 use Rattle.mapf_plan.specs.declared.conflict.Conflict.{Conflict}

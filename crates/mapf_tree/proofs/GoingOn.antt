@@ -1,7 +1,6 @@
 -- A search over many turns, and its answer.
 use Rattle.std.proofs.Common.{◌≡◌, ◌⊎◌, ℕ, ◌+◌, ◌<◌, ◌≤◌, List, [], ◌∷◌, Option, Some, None, Result, Ok, Err, IfOk, inl, inr, subst, sym, refl, ◌∙◌, arith, Contains}
 use Rattle.std.specs.Option.{ok_or}
-use Rattle.mapf_grid.specs.Instance.{Instance}
 use Rattle.mapf_grid.specs.declared.fault.NoMemory.{NoMemory}
 use Rattle.mapf_grid.proofs.Orders.{In}
 use Rattle.mapf_plan.specs.declared.answer.Answer.{Answer}

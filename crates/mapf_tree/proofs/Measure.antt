@@ -7,7 +7,6 @@ use Rattle.std.proofs.lemmas.List.Folds.{sum_by-replicate}
 use Rattle.std.proofs.lemmas.List.Elements.{All-from_get_or}
 use native.Mathlib.Decide.{ℕ_discrete}
 use Rattle.mapf_grid.specs.Grid.{IsFree, Next}
-use Rattle.mapf_grid.specs.Instance.{Instance}
 use Rattle.mapf_grid.proofs.Orders.{In}
 use Rattle.mapf_plan.specs.Path.{IsPath}
 use Rattle.mapf_plan.specs.declared.conflict.Conflict.{Conflict}

@@ -1,14 +1,11 @@
 -- The answer for one agent.
-use Rattle.std.proofs.Common.{◌≡◌, ℕ, zero, suc, ◌<◌, List, [], ◌∷◌, length, get_or, subst, sym, refl, ◌∙◌, arith, Some, None}
+use Rattle.std.proofs.Common.{◌≡◌, ℕ, zero, suc, ◌<◌, List, [], ◌∷◌, length, subst, sym, refl, ◌∙◌, arith, Some, None}
 use Rattle.std.proofs.lemmas.List.Sums.{sum_by-cons}
-use Rattle.mapf_grid.specs.Instance.{Instance}
 use Rattle.mapf_grid.specs.Least.{Precedes}
 use Rattle.mapf_grid.proofs.Orders.{irreflexive}
 use Rattle.mapf_plan.specs.Path.{cost}
 use Rattle.mapf_plan.specs.declared.conflict.Conflict.TheVariants.{Vertex, Swapping}
 use Rattle.mapf_plan.specs.Plan.{HasNoConflict, path_of}
-use Rattle.mapf_low.specs.Constraints.{IsAllowed}
-use Rattle.mapf_low.specs.OwnPath.{IsOwnPath}
 use Rattle.mapf_tree.specs.Problem.{Problem}
 use Rattle.mapf_tree.specs.Tree.{IsAllowedFor, IsOwnPathOf, TreeNode, HasPlan, InTree, root, side, root_of, constraints_of, key, IsSolution, IsAnswer}
 use Rattle.mapf_tree.specs.Laws.{OneAgentsAnswer}

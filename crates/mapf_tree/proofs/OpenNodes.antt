@@ -1,5 +1,5 @@
 -- Which nodes of the tree a list of nodes stands for, when a node is taken out or put in.
-use Rattle.std.proofs.Common.{◌≡◌, ◌≢◌, ◌⊎◌, ◌↔◌, ℕ, List, [], ◌∷◌, length, map, Option, Some, None, inl, inr, subst, sym, refl, ap, ap₂, ◌∙◌, Contains}
+use Rattle.std.proofs.Common.{◌≡◌, ◌≢◌, ◌⊎◌, ◌↔◌, ℕ, List, ◌∷◌, length, map, Option, Some, None, inl, inr, subst, sym, refl, ap, ap₂, ◌∙◌, Contains}
 use Rattle.mapf_grid.specs.Least.{Precedes, IsLeast}
 use Rattle.mapf_grid.proofs.Orders.{In, compare, irreflexive, transitive}
 use Rattle.mapf_plan.specs.declared.conflict.Conflict.{Conflict}

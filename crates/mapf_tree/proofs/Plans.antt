@@ -1,12 +1,9 @@
 -- The plan of a node: there is one at most, and whether there is one can be decided.
 use Rattle.std.proofs.Common.{◌≡◌, ◌⊎◌, ℕ, ◌<◌, ◌≤◌, List, [], length, get_or, inl, inr, subst, sym, ap, ◌∙◌, ext_get_or, arith}
 use native.Mathlib.Decide.{dec_le}
-use Rattle.mapf_grid.specs.Instance.{Instance}
 use Rattle.mapf_grid.proofs.Lists.{build_or}
 use Rattle.mapf_plan.specs.Path.{cost}
 use Rattle.mapf_plan.specs.Plan.{path_of, plan_cost}
-use Rattle.mapf_low.specs.Constraints.{IsAllowed}
-use Rattle.mapf_low.specs.OwnPath.{IsOwnPath}
 use Rattle.mapf_low.proofs.OwnPaths.{own_path, same_own}
 use Rattle.mapf_tree.specs.Problem.{Problem}
 use Rattle.mapf_tree.specs.Tree.{IsAllowedFor, IsOwnPathOf, TreeNode, HasPlan, constraints_of}

@@ -1,7 +1,6 @@
 -- How many nodes of the tree are not taken yet: the measure of a search.
 use Rattle.std.proofs.Common.{◌≡◌, ◌↔◌, ℕ, ◌+◌, ◌<◌, ◌≤◌, List, [], ◌∷◌, length, Option, Some, None, inl, inr, subst, sym, refl, arith, Contains}
 use Rattle.std.specs.List.{AllByRecursion}
-use Rattle.mapf_grid.specs.Instance.{Instance}
 use Rattle.mapf_grid.specs.Least.{Precedes}
 use Rattle.mapf_grid.proofs.Orders.{In, transitive, le_before, dec_precedes}
 use Rattle.mapf_tree.specs.Problem.{Problem}

@@ -2,10 +2,8 @@
 use Rattle.std.proofs.Common.{◌≡◌, ◌↔◌, ℕ, ◌<◌, ◌≤◌, ◌+◌, List, [], ◌∷◌, ◌++◌, length, get_or, replicate, Some, None, subst, sym, ap, ◌∙◌, arith, Contains}
 use Rattle.std.proofs.lemmas.List.{get_or-replicate, length-replicate, length_push, get_or_append_left, get_or_push}
 use borrow.Author.Count.{below_more}
-use Rattle.mapf_grid.specs.Instance.{Instance}
 use Rattle.mapf_plan.specs.Plan.{path_of, plan_cost}
 use Rattle.mapf_low.specs.declared.constraint.Constraint.{Constraint}
-use Rattle.mapf_low.specs.OwnPath.{IsOwnPath}
 use Rattle.mapf_tree.specs.Problem.{Problem}
 use Rattle.mapf_tree.specs.Tree.{IsOwnPathOf, HasPlan, root, root_of, constraints_of}
 use Rattle.mapf_tree.specs.Nodes.{AreChanges, unchanged, Node, IsConflictOf}

@@ -1,7 +1,6 @@
 -- The turns of a search.
 use Rattle.std.proofs.Common.{◌≡◌, ◌≢◌, ◌⊎◌, ◌↔◌, ℕ, zero, suc, ◌<◌, ◌≤◌, List, [], ◌∷◌, length, get_or, set, Option, Some, None, inl, inr, subst, sym, refl, ap, ◌∙◌, arith, length-append, Contains}
 use Rattle.std.proofs.lemmas.Bool.{cases_lt}
-use Rattle.mapf_grid.specs.Instance.{Instance}
 use Rattle.mapf_grid.specs.Least.{Precedes, IsLeast}
 use Rattle.mapf_grid.proofs.Orders.{compare, irreflexive, transitive, dec_precedes, le_before}
 use Rattle.mapf_grid.proofs.Lists.{sum_by-le}

@@ -7,7 +7,6 @@ use Rattle.mapf_plan.specs.declared.conflict.Conflict.{Conflict}
 use Rattle.mapf_plan.specs.Path.{cost}
 use Rattle.mapf_plan.specs.Plan.{IsFirstConflict, path_of, plan_cost}
 use Rattle.mapf_low.specs.declared.constraint.Constraint.{Constraint}
-use Rattle.mapf_low.specs.OwnPath.{IsOwnPath}
 use Rattle.mapf_low.proofs.Limits.{own_by_bound}
 use Rattle.mapf_low.proofs.Sets.{own_set, none_set}
 use Rattle.mapf_tree.specs.declared.side.Side.{Side}

@@ -1,7 +1,6 @@
 -- The solutions of a tree are a list, so it has a least one or none.
 use Rattle.std.proofs.Common.{◌≡◌, ◌⊎◌, ℕ, List, [], ◌∷◌, Option, Some, None, inl, inr, subst, sym}
 use Rattle.std.specs.List.{AllByRecursion}
-use Rattle.mapf_grid.specs.Instance.{Instance}
 use Rattle.mapf_grid.specs.Least.{IsLeast}
 use Rattle.mapf_grid.proofs.Orders.{In, least_in}
 use Rattle.mapf_plan.specs.declared.conflict.Conflict.{Conflict}

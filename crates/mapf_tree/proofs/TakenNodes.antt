@@ -1,7 +1,6 @@
 -- How many nodes a search can take.
-use Rattle.std.proofs.Common.{◌≡◌, ℕ, suc, ◌≤◌, List, [], ◌∷◌, length, inl, inr, subst, refl}
+use Rattle.std.proofs.Common.{◌≡◌, suc, ◌≤◌, List, [], ◌∷◌, length, inl, inr, subst, refl}
 use Rattle.std.specs.List.{AllByRecursion}
-use Rattle.mapf_grid.specs.Instance.{Instance}
 use Rattle.mapf_tree.specs.Problem.{Problem}
 use Rattle.mapf_tree.specs.Tree.{TreeNode, HasPlan, InTree, PlannedNode, IsMember}
 use Rattle.mapf_tree.specs.Search.{EachOnce}

@@ -1,7 +1,6 @@
 -- One turn of a search over nodes.
-use Rattle.std.proofs.Common.{◌≡◌, ◌≢◌, ◌⊎◌, ◌↔◌, ℕ, List, [], ◌∷◌, Bool, true, false, Option, Some, None, is_some, IsSome, not, Result, Ok, inl, inr, subst, sym, refl, ap, ◌∙◌, Contains}
+use Rattle.std.proofs.Common.{◌≡◌, ◌⊎◌, ℕ, List, [], ◌∷◌, Bool, true, false, Option, Some, None, is_some, IsSome, not, Result, Ok, inl, inr, subst, sym, refl, ap, ◌∙◌, Contains}
 use Rattle.mapf_grid.specs.declared.fault.NoMemory.{NoMemory}
-use Rattle.mapf_grid.specs.Least.{IsLeast}
 use Rattle.mapf_plan.specs.Plan.{plan_cost, HasNoConflict}
 use Rattle.mapf_plan.specs.declared.conflict.Conflict.{Conflict}
 use Rattle.mapf_tree.specs.declared.key.Key.{Key}
@@ -13,9 +12,9 @@ use Rattle.mapf_tree.specs.OpenList.{IsRising, IsPutIfSome}
 use Rattle.mapf_plan.specs.declared.answer.Answer.{Answer}
 use Rattle.mapf_plan.specs.declared.answer.Answer.TheVariants as answer
 use Rattle.mapf_tree.specs.Problem.{Problem}
-use Rattle.mapf_tree.specs.Search.{IsReached, IsWaiting, IsChild, IsTakenTo, NoneSolves, IsLawful}
-use Rattle.mapf_tree.specs.Turns.{IsSearchAt, IsTurn, IsTurnOf, IsTurned, TakesOne}
-use Rattle.mapf_tree.specs.Nodes.{Node, node_key, StandsFor, AllStand, HasNodeFor}
+use Rattle.mapf_tree.specs.Search.{IsReached, IsWaiting, IsTakenTo, NoneSolves, IsLawful}
+use Rattle.mapf_tree.specs.Turns.{IsSearchAt, IsTurnOf, IsTurned, TakesOne}
+use Rattle.mapf_tree.specs.Nodes.{Node, node_key, AllStand, HasNodeFor}
 use Rattle.mapf_tree.proofs.Members.{Contains-In, In-Contains}
 use Rattle.mapf_tree.proofs.SearchLaws.{reached_now, reached_then, next_waits, ends_at_first, ends_at_none, starts}
 use Rattle.mapf_tree.proofs.OpenNodes.{key-stands, none_stands, conflict_stands, solved_turn, branched_turn, root_node, put_node_adds, AddsSide}
