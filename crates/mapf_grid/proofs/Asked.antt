@@ -58,17 +58,4 @@ pub instance_fault_of_files : (map scen : List ℕ) (agents : ℕ) (g : Grid) (r
     (fault ≢ instance_fault.NoMemory → IsInstanceFault g rows agents fault) → r ≡ of_instance fault → r ≢ files.NoMemory →
     IsFilesFault map scen agents r
 instance_fault_of_files map scen agents g rows instance_fault.NoMemory r m s h e ne = absurd (ne e)
-instance_fault_of_files map scen agents g rows instance_fault.AgentCount r m s h e ne =
-    subst (IsFilesFault map scen agents) (sym e) (g, rows, m, s, h (λ x. cc))
-instance_fault_of_files map scen agents g rows (instance_fault.TooFewRows n) r m s h e ne =
-    subst (IsFilesFault map scen agents) (sym e) (g, rows, m, s, h (λ x. cc))
-instance_fault_of_files map scen agents g rows (instance_fault.WrongSize i) r m s h e ne =
-    subst (IsFilesFault map scen agents) (sym e) (g, rows, m, s, h (λ x. cc))
-instance_fault_of_files map scen agents g rows (instance_fault.StartNotFree i) r m s h e ne =
-    subst (IsFilesFault map scen agents) (sym e) (g, rows, m, s, h (λ x. cc))
-instance_fault_of_files map scen agents g rows (instance_fault.GoalNotFree i) r m s h e ne =
-    subst (IsFilesFault map scen agents) (sym e) (g, rows, m, s, h (λ x. cc))
-instance_fault_of_files map scen agents g rows (instance_fault.SharedStart i j) r m s h e ne =
-    subst (IsFilesFault map scen agents) (sym e) (g, rows, m, s, h (λ x. cc))
-instance_fault_of_files map scen agents g rows (instance_fault.SharedGoal i j) r m s h e ne =
-    subst (IsFilesFault map scen agents) (sym e) (g, rows, m, s, h (λ x. cc))
+instance_fault_of_files map scen agents g rows fault r m s h e ne = subst (IsFilesFault map scen agents) (sym e) (g, rows, m, s, h (λ x. cc))

@@ -1,10 +1,10 @@
 ghost use Rattle.std.specs.Prelude.{◌↔◌, IsTrue, IfOk, Contains};
 ghost use Rattle.mapf_low.specs.Query.{MayEnd, IsFound};
 
-use crate::reconstruction::reconstruct_path;
 use crate::layer::Layer;
 use crate::layers::{first_layer, next_layer};
 use crate::query::Query;
+use crate::reconstruction::reconstruct_path;
 use mapf_grid::NoMemory;
 use mapf_plan::Path;
 use std::alloc::Global;

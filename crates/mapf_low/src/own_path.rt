@@ -9,8 +9,8 @@ ghost use Rattle.mapf_low.specs.Constraints.{IsAllowed};
 ghost use Rattle.mapf_low.specs.OwnPath.{IsOwnPath};
 ghost use Rattle.mapf_plan.specs.Plan.{most_bound};
 
-use crate::reconstruction::reconstruct_path;
 use crate::query::Query;
+use crate::reconstruction::reconstruct_path;
 use crate::search::{Searched, search};
 use crate::states::States;
 use crate::{Constraints, Distances};

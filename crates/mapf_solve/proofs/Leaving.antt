@@ -6,7 +6,7 @@ use Rattle.mapf_plan.specs.declared.device.fault.DeviceFault.{DeviceFault}
 use Rattle.mapf_plan.specs.declared.device.fault.DeviceFault.TheVariants as device
 use Rattle.mapf_plan.proofs.WhatIsLeft.{Leaves-more}
 use Rattle.mapf_tree.specs.Answered.{stated}
-use Rattle.mapf_solve.specs.Out.{problem_of, IsText, IsRefusal, IsBest}
+use Rattle.mapf_solve.specs.Out.{problem_of, IsText, IsBest}
 use Rattle.mapf_solve.specs.Run.{of_device, OfFiles, end_of, LeavesText, LeavesBest, LeavesOnly}
 use Rattle.mapf_solve.specs.declared.ask.Ask.{Ask}
 use Rattle.mapf_solve.specs.declared.run_fault.RunFault.{RunFault}

@@ -25,21 +25,14 @@ same_text map scen ask n a b s t =
 -- past the bound there is one fault
 past_bound : (map scen : List ℕ) (ask : Ask) (fault : Refusal) → ¬ IsBound ask → IsRefusal map scen ask fault → fault ≡ refusal.Bound
 past_bound map scen ask refusal.Bound over f = refl
-past_bound map scen ask refusal.Workers over f = absurd (over f.0)
-past_bound map scen ask (refusal.Map x) over f = absurd (over f.0)
-past_bound map scen ask (refusal.Scenario x) over f = absurd (over f.0)
-past_bound map scen ask (refusal.Instance x) over f = absurd (over f.0)
-past_bound map scen ask refusal.NoMemory over f = absurd (over f.0)
+past_bound map scen ask fault over f = absurd (over f.0)
 
 -- within the bound, and with a number of workers that may be, the fault is one of the files
 of_the_files : (map scen : List ℕ) (ask : Ask) (named : Refusal) → IsBound ask → IsWorkers ask → IsRefusal map scen ask named →
     (fault : FilesFault) × (named ≡ of_files fault) × IsFilesFault map scen ask.agents fault
 of_the_files map scen ask refusal.Bound b w f = absurd (f b)
 of_the_files map scen ask refusal.Workers b w f = absurd (f.1 w)
-of_the_files map scen ask (refusal.Map x) b w f = (f.2, f.3, f.4)
-of_the_files map scen ask (refusal.Scenario x) b w f = (f.2, f.3, f.4)
-of_the_files map scen ask (refusal.Instance x) b w f = (f.2, f.3, f.4)
-of_the_files map scen ask refusal.NoMemory b w f = (f.2, f.3, f.4)
+of_the_files map scen ask named b w f = (f.2, f.3, f.4)
 
 -- an instance that is asked for is not refused
 not_refused : (map scen : List ℕ) (ask : Ask) (named : Refusal) (i : Instance) → IsAsked map scen ask.agents i → IsBound ask → IsWorkers ask → IsRefusal map scen ask named → ⊥

@@ -11,9 +11,7 @@ impl Map {
     {
         self.is_free(from)
             && self.is_free(to)
-            && (from == to
-                || self.is_right_or_below(from, to)
-                || self.is_right_or_below(to, from))
+            && (from == to || self.is_right_or_below(from, to) || self.is_right_or_below(to, from))
     }
 
     /// Whether the second cell is at the right of the first in the same row, or below it.

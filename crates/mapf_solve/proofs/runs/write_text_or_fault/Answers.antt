@@ -1,4 +1,4 @@
-use Rattle.std.proofs.Common.{List, ℕ, IfSome, subst, sym}
+use Rattle.std.proofs.Common.{IfSome, subst, sym}
 use Rattle.mapf_plan.proofs.WhatIsLeft.{told}
 use Rattle.mapf_solve.specs.Out.{IsText}
 use Rattle.mapf_solve.proofs.Leaving.{part_is_left}
