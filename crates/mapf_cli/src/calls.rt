@@ -4,7 +4,7 @@ ghost use Rattle.std.specs.Prelude.{◌≡◌, ◌<◌, ◌≤◌, IfOk};
 
 use crate::call_fault::{COMMAND_LINE, CallFault, NO_MEMORY, NONE, SHOWN};
 use crate::checks::check_run;
-use crate::command::{Asked, Check, Solve, parse};
+use crate::command::{Check, Solve, Subcommand, parse};
 use crate::first_byte::FirstByte;
 use clap::error::ErrorKind;
 use mapf_check::Verdict;
@@ -33,8 +33,8 @@ pub fn call<R: Files + Threads + Sync, O: Sink, E: Sink>(
     ensures { result ≤ 5 }
 {
     let done = match parse(alloc, words.as_slice()) {
-        Ok(Some(Asked::Solve(solve))) => solve_files(rt, alloc, &solve, out),
-        Ok(Some(Asked::Check(check))) => check_files(rt, alloc, &check, out),
+        Ok(Some(Subcommand::Solve(solve))) => solve_files(rt, alloc, &solve, out),
+        Ok(Some(Subcommand::Check(check))) => check_files(rt, alloc, &check, out),
         Ok(None) => Ok(COMMAND_LINE),
         Err(error) if error.use_stderr() => return refuse_words(alloc, &error, err),
         Err(error) => help(alloc, &error, out),

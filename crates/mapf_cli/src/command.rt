@@ -30,19 +30,19 @@ pub(crate) struct Check<'a> {
 
 /// What the words ask for.
 #[derive(Clone, Copy)]
-pub(crate) enum Asked<'a> {
+pub(crate) enum Subcommand<'a> {
     Solve(Solve<'a>),
     Check(Check<'a>),
 }
 
 /// What the words ask for; none only where `clap` lets a word pass that no command has.
-pub(crate) fn parse<'a>(alloc: Global, words: &'a [String]) -> Result<Option<Asked<'a>>, Error> {
+pub(crate) fn parse<'a>(alloc: Global, words: &'a [String]) -> Result<Option<Subcommand<'a>>, Error> {
     let matches = program(alloc)?.try_get_matches_from(words)?;
     if let Some(solve) = matches.subcommand_matches("solve") {
-        return Ok(solve_of(solve).map(|solve| Asked::Solve(solve)));
+        return Ok(solve_of(solve).map(|solve| Subcommand::Solve(solve)));
     }
     if let Some(check) = matches.subcommand_matches("check") {
-        return Ok(check_of(check).map(|check| Asked::Check(check)));
+        return Ok(check_of(check).map(|check| Subcommand::Check(check)));
     }
     Ok(None)
 }
