@@ -7,6 +7,7 @@ mod class;
 mod constraint;
 mod constraints;
 mod distances;
+mod entry;
 mod expansion;
 pub mod laws;
 mod layer;
