@@ -165,3 +165,9 @@ sides_are_steps g u items some free h v = (to, from)
     from : Next g u v × (u ≢ v) → Contains items v
     from ((f, fv, inl e), ne) = absurd (ne e)
     from ((f, fv, inr b), ne) = (h.cells v).1 (fv, b)
+
+-- a side that counts only if it is free
+pub free_side : (side kept : Option ℕ) (P F : ℕ → Type 0) → ((v : ℕ) → (side ≡ Some v) ↔ P v) →
+    ((v : ℕ) → (kept ≡ Some v) ↔ ((side ≡ Some v) × F v)) → (v : ℕ) → (kept ≡ Some v) ↔ (P v × F v)
+free_side side kept P F is free v =
+    (λ e. let f = (free v).0 e in ((is v).0 f.0, f.1), λ h. (free v).1 ((is v).1 h.0, h.1))

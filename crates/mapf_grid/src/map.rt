@@ -4,6 +4,7 @@ ghost use Rattle.smallvec.specs.SmallVec.{HasRoomFor};
 
 mod header;
 mod reader;
+mod sides;
 mod steps;
 
 use crate::Cell;
