@@ -36,7 +36,10 @@ pub(crate) enum Subcommand<'a> {
 }
 
 /// What the words ask for; none only where `clap` lets a word pass that no command has.
-pub(crate) fn parse<'a>(alloc: Global, words: &'a [String]) -> Result<Option<Subcommand<'a>>, Error> {
+pub(crate) fn parse<'a>(
+    alloc: Global,
+    words: &'a [String],
+) -> Result<Option<Subcommand<'a>>, Error> {
     let matches = program(alloc)?.try_get_matches_from(words)?;
     if let Some(solve) = matches.subcommand_matches("solve") {
         return Ok(solve_of(solve).map(|solve| Subcommand::Solve(solve)));
