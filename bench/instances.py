@@ -1,7 +1,8 @@
 #!/usr/bin/env python3
 """Makes the benchmark's maps and scenarios, the same everywhere: docs/BENCHMARK.md has the rule.
 
-Usage: instances.py FOLDER. It writes NAME.map and NAME.scen for each map into the folder.
+Usage: instances.py FOLDER [large]. It writes NAME.map and NAME.scen for each map into the folder; with `large` those of
+tables of distances alone.
 """
 import os
 import sys
@@ -100,6 +101,14 @@ def pocket(folder, steps):
     write(folder, name, grid, lines)
 
 
+def walled(grid):
+    """Walls in every fourth row, each with one gap, at alternating ends."""
+    width = len(grid[0])
+    for y in range(3, len(grid), 4):
+        for x in range(width - 1):
+            grid[y][x if y % 8 == 3 else x + 1] = False
+
+
 def steps_from(grid, start):
     """The number of steps to each cell that is reached from this one."""
     height, width = len(grid), len(grid[0])
@@ -152,6 +161,23 @@ def scenario(name, grid, random, rows):
     return lines
 
 
+def distances(folder):
+    """Three maps of the largest size, for tables of distances: 64 rows each, whose last word, the length, is left 0."""
+    walls = empty(2048, 2048)
+    walled(walls)
+    random = Random(6)
+    for kind, grid in (("open", empty(2048, 2048)), ("walls", walls), ("random-20", blocked(2048, 2048, 20, random))):
+        name = f"{kind}-2048-2048"
+        cells = largest_part(grid)
+        starts, goals = set(), set()
+        lines = ["version 1"]
+        for _ in range(64):
+            start, goal = draw(cells, starts, random), draw(cells, goals, random)
+            places = f"{start[0]}\t{start[1]}\t{goal[0]}\t{goal[1]}"
+            lines.append(f"0\t{name}.map\t2048\t2048\t{places}\t0")
+        write(folder, name, grid, lines)
+
+
 def write(folder, name, grid, lines):
     header = ["type octile", f"height {len(grid)}", f"width {len(grid[0])}", "map"]
     rows = ["".join("." if free else "@" for free in row) for row in grid]
@@ -162,6 +188,9 @@ def write(folder, name, grid, lines):
 
 def main():
     folder = sys.argv[1]
+    if sys.argv[2:] == ["large"]:
+        distances(folder)
+        return
     seed = 1
     for name, make in (
         ("empty-32-32", lambda random: empty(32, 32)),
@@ -174,11 +203,8 @@ def main():
         grid = make(random)
         write(folder, name, grid, scenario(name, grid, random, ROWS))
         seed += 1
-    # The largest map that is read: free but for a wall in every fourth row that has a gap at alternating ends.
     large = empty(2048, 2048)
-    for y in range(3, 2048, 4):
-        for x in range(2047):
-            large[y][x if y % 8 == 3 else x + 1] = False
+    walled(large)
     lines = ["version 1"]
     for row in range(10):
         places = f"{100 * row}\t0\t{100 * row + 50}\t2"
