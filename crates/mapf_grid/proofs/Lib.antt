@@ -1,5 +1,6 @@
 mod Neighbours
-pub mod Orders
+pub mod Members
+pub mod Ranks
 pub mod Firsts
 pub mod Decide
 pub mod Steps

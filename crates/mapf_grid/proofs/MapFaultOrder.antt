@@ -5,7 +5,7 @@ use Rattle.std.proofs.lemmas.Bool.{cases_lt, cases_Bool, true≢false}
 use Rattle.std.proofs.lemmas.Option.{slice_get_within, get_or_from_slice_get, same_Some}
 use Rattle.std.proofs.lemmas.List.{get_or_past}
 use Rattle.mapf_grid.proofs.Firsts.{NoneAt, none_before-next, none_before-there}
-use Rattle.mapf_grid.proofs.Orders.{irreflexive}
+use Rattle.mapf_grid.proofs.Ranks.{irreflexive}
 use Rattle.mapf_grid.specs.Least.{NoneBefore}
 use Rattle.mapf_grid.specs.Lines.{line_at, is_blank_line, number_of}
 use Rattle.mapf_grid.specs.MapFile.{HasSize, IsRowLine, HasMapFault, IsMapFault, map_fault_rank, is_cell}

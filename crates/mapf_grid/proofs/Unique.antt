@@ -3,7 +3,7 @@ use Rattle.mapf_grid.specs.Instance.{HasInstanceFault, instance_fault_rank}
 use Rattle.mapf_grid.specs.MapFile.{HasMapFault, map_fault_rank}
 use Rattle.mapf_grid.specs.ScenarioFile.{HasScenFault, scen_fault_rank}
 use Rattle.mapf_grid.specs.Unique.{OneMap, OneScenario, OneInstance, MapOrFault, ScenarioOrFault, InstanceOrFault, OneMapFault, OneScenFault, OneInstanceFault}
-use Rattle.mapf_grid.proofs.Orders.{same_rank}
+use Rattle.mapf_grid.proofs.Ranks.{same_rank}
 use Rattle.mapf_grid.proofs.MapFileLaws.{IsMap-one, IsMap-no_fault}
 use Rattle.mapf_grid.proofs.RowNames.{one_list}
 use Rattle.mapf_grid.proofs.FileFaults.{no_fault as no_scenario_fault}
