@@ -6,8 +6,8 @@ use super::{Sink, Source};
 use std::alloc::Global;
 use thiserror::Error;
 
-/// How many bytes one call of `read` may give.
-const BLOCK: usize = 65_536;
+/// How many bytes one call of `read` may give: few enough for a small stack.
+const BLOCK: usize = 8_192;
 
 /// Why a source couldn't be read to its end.
 #[derive(Clone, Copy, Debug, PartialEq, Eq, Error)]
