@@ -18,7 +18,7 @@ use std::thread::Threads;
 /// Does what the words ask for, the program's name being the first, and answers the program's status.
 ///
 /// `mapf solve` prints a plan (status 0) or `none` (1) on `out`, and `mapf check` one verdict line: valid (0), or not
-/// valid or no plan given (1). Help goes to `out` (0). A refusal is one line on
+/// valid or no plan given (1). Help and the version go to `out` (0). A refusal is one line on
 /// `err`: of the command line, whose text is `clap`'s (2), of bytes and numbers (3), out of memory (4), a file that
 /// couldn't be opened or read, or an output that couldn't be written (5). Faults of `err` itself are ignored.
 pub fn call<R: Files + Threads + Sync, O: Sink, E: Sink>(
@@ -52,6 +52,18 @@ pub fn no_words<E: Sink>(err: &mut E) -> u8
 {
     let _ = write_whole(err, b"mapf: 43 no memory\n");
     NO_MEMORY
+}
+
+/// Says that a word of the command line is not UTF-8, in `clap`'s words for it, and answers that status.
+pub fn no_text<E: Sink>(err: &mut E) -> u8
+    requires { E.failures err.old < u64.MAX }
+    ensures { result ≡ 2 }
+{
+    let _ = write_whole(
+        err,
+        b"error: invalid UTF-8 was detected in one or more arguments\n",
+    );
+    COMMAND_LINE
 }
 
 /// Opens the two files, runs, and answers the status of the text's first byte.
@@ -106,7 +118,7 @@ fn open<R: Files>(rt: &R, path: &str, name: FileName) -> Result<Counted<R::File>
     }
 }
 
-/// Prints the help.
+/// Prints the help, or the version.
 fn help<O: Sink>(alloc: Global, error: &clap::Error, out: &mut O) -> Result<u8, CallFault>
     requires { O.failures out.old < u64.MAX }
     ensures { IfOk result (λ status. status ≤ 5) }

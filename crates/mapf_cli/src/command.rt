@@ -73,6 +73,7 @@ fn check_of<'a>(matches: &ArgMatches<'a>) -> Option<Check<'a>> {
 
 fn program<'a>(alloc: Global) -> Result<Command<'a>, AllocError> {
     Command::new(alloc, "mapf")
+        .version("0.1.0")
         .about("Optimal multi-agent path finding by conflict-based search")
         .subcommand_required(true)
         .subcommand(solve_command(alloc)?)?

@@ -8,6 +8,6 @@ mod checks;
 mod command;
 mod first_byte;
 
-pub use calls::{call, no_words};
+pub use calls::{call, no_text, no_words};
 pub use check_fault::CheckFault;
 pub use checks::check_run;
