@@ -1,7 +1,12 @@
 -- Decisions.
-use Rattle.std.proofs.Common.{◌≡◌, ◌⊎◌, ℕ, zero, suc, ◌<◌, List, [], ◌∷◌, inl, inr, subst, sym, arith}
+use Rattle.std.proofs.Common.{◌⊎◌, ℕ, zero, suc, ◌<◌, List, [], ◌∷◌, inl, inr, subst, sym, ⊎_elim, arith}
 use Rattle.std.specs.List.{AllByRecursion}
 use native.Mathlib.Decide.{ℕ_discrete}
+
+-- by cases on a fact that can be decided
+pub by_cases : {A P : Type 0} → Dec A → (A → P) → (¬ A → P) → P
+by_cases (yes a) f g = f a
+by_cases (no n) f g = g n
 
 -- of facts that say the same
 pub dec_map : {A B : Type 0} → (A → B) → (B → A) → Dec A → Dec B
@@ -18,11 +23,7 @@ dec_and (no n) d = no (λ h. n h.0)
 pub dec_or : {A B : Type 0} → Dec A → Dec B → Dec (A ⊎ B)
 dec_or (yes a) d = yes (inl a)
 dec_or (no n) (yes b) = yes (inr b)
-dec_or {A} {B} (no n) (no m) = no neither
-  where
-    neither : A ⊎ B → ⊥
-    neither (inl a) = n a
-    neither (inr b) = m b
+dec_or (no n) (no m) = no (⊎_elim n m)
 
 -- of a denial
 pub dec_not : {A : Type 0} → Dec A → Dec (¬ A)
@@ -37,16 +38,9 @@ decided (no n) f = absurd (f n)
 -- P for each number below n
 pub dec_below : (P : ℕ → Type 0) → ((k : ℕ) → Dec (P k)) → (n : ℕ) → Dec ((k : ℕ) → k < n → P k)
 dec_below P d zero = yes (λ k h. absurd (omega (arith, h)))
-dec_below P d (suc n) = go (d n) (dec_below P d n)
-  where
-    go : Dec (P n) → Dec ((k : ℕ) → k < n → P k) → Dec ((k : ℕ) → k < suc n → P k)
-    go (no m) r = no (λ f. m (f n (omega arith)))
-    go (yes p) (no m) = no (λ f. m (λ k h. f k (omega (arith, h))))
-    go (yes p) (yes f) = yes (λ k h. at_k k h (ℕ_discrete k n))
-      where
-        at_k : (k : ℕ) → k < suc n → Dec (k ≡ n) → P k
-        at_k k h (yes e) = subst P (sym e) p
-        at_k k h (no e) = f k (omega (arith, h, e))
+dec_below P d (suc n) =
+    dec_map (λ h k l. by_cases (ℕ_discrete k n) (λ e. subst P (sym e) h.0) (λ e. h.1 k (omega (arith, l, e)))) (λ f. (f n (omega arith), λ k l. f k (omega (arith, l))))
+    (dec_and (d n) (dec_below P d n))
 
 -- P for each element
 pub dec_all : {X : Type 0} (P : X → Type 0) → ((x : X) → Dec (P x)) → (xs : List X) → Dec (AllByRecursion P xs)

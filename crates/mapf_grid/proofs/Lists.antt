@@ -1,5 +1,6 @@
 -- Lists of all lists, and lists made from an index.
-use Rattle.std.proofs.Common.{◌≡◌, ◌⊎◌, ℕ, zero, suc, ◌<◌, ◌≤◌, List, [], ◌∷◌, ◌++◌, map, length, get_or, inl, inr, subst, sym, refl, ap, ◌∙◌, ⊎_elim, arith, Contains}
+use Rattle.std.proofs.Common.{◌≡◌, ◌≢◌, ◌⊎◌, ℕ, zero, suc, ◌<◌, ◌≤◌, List, [], ◌∷◌, ◌++◌, map, length, get_or, set, get_or-set_same, get_or-set_other, inl, inr, subst, sym, refl, ap, ◌∙◌, ⊎_elim, arith, Contains}
+use native.Mathlib.Decide.{ℕ_discrete}
 use Rattle.std.specs.List.{AllByRecursion, flat_map, sum_by}
 use Rattle.std.proofs.lemmas.Bool.{cases_eq}
 use Rattle.std.proofs.lemmas.List.{length-map, get_or-map}
@@ -79,6 +80,14 @@ module _ {X : Type 0} (d : X) where
   build_or (suc n) R f =
       ⊎_elim (λ x. ⊎_elim (λ r. inl (row_with n R x r)) (λ r. inr (suc r.0, omega (arith, r.1), r.2)) (build_or n (λ i. R (suc i)) (λ i. f (suc i))))
       (λ e. inr (0, omega arith, e)) (f 0)
+
+-- what P says of the elements of a list of which one is replaced
+pub set_cases : {X : Type 0} (P : X → Type 0) (xs : List X) (j i : ℕ) (y d : X) → i < length xs → (j ≡ i → P y) → (j ≢ i → P (get_or xs i d)) → P (get_or (set xs j y) i d)
+set_cases P xs j i y d inside new old = go (ℕ_discrete j i)
+  where
+    go : Dec (j ≡ i) → P (get_or (set xs j y) i d)
+    go (yes e) = subst P (sym (ap (λ k. get_or (set xs k y) i d) e ∙ get_or-set_same xs i y d inside)) (new e)
+    go (no n) = subst P (sym (get_or-set_other xs j i y d (λ e. n (sym e)))) (old n)
 
 -- sums place by place
 pub sum_by-le : {X : Type 0} (f : X → ℕ) (d : X) (xs ys : List X) → length xs ≡ length ys → ((i : ℕ) → i < length xs → f (get_or xs i d) ≤ f (get_or ys i d)) → sum_by f xs ≤ sum_by f ys

@@ -1,5 +1,5 @@
 -- The order of ranks, and the least of what a list holds.
-use Rattle.std.proofs.Common.{◌≡◌, ◌⊎◌, ℕ, ◌≤◌, List, [], ◌∷◌, inl, inr, subst, sym, refl, ap₂, ◌∙◌, ⊎_elim, arith, All, Contains}
+use Rattle.std.proofs.Common.{◌≡◌, ◌≢◌, ◌⊎◌, ℕ, ◌≤◌, List, [], ◌∷◌, inl, inr, subst, sym, refl, ap₂, ◌∙◌, ⊎_elim, arith, All, Contains}
 use Rattle.std.proofs.lemmas.Bool.{cases_order, cases_lt}
 use Rattle.std.proofs.lemmas.List.Elements.{All-nil, All-cons, All-tail, All-contains}
 use Rattle.mapf_grid.specs.Least.{Precedes, IsLeast}
@@ -19,6 +19,10 @@ irreflexive [] h = h
 irreflexive (a ∷ p) (inl h) = omega (arith, h)
 irreflexive (a ∷ p) (inr h) = irreflexive p h.1
 
+-- what precedes is another rank
+pub before_is_other : (p q : List ℕ) → Precedes p q → p ≢ q
+before_is_other p q h e = irreflexive q (subst (λ r. Precedes r q) e h)
+
 -- what precedes a preceding rank precedes
 pub transitive : (p q r : List ℕ) → Precedes p q → Precedes q r → Precedes p r
 transitive [] [] r h k = absurd h
@@ -37,7 +41,7 @@ asymmetric p q h k = irreflexive p (transitive p q p h k)
 
 -- whether a rank precedes another can be decided
 pub dec_precedes : (p q : List ℕ) → Dec (Precedes p q)
-dec_precedes p q = by_compare p q (λ e. no (λ h. irreflexive q (subst (λ x. Precedes x q) e h))) yes (λ h. no (asymmetric q p h))
+dec_precedes p q = by_compare p q (λ e. no (λ h. before_is_other p q h e)) yes (λ h. no (asymmetric q p h))
 
 -- p is at most q, which is before r
 pub le_before : (p q r : List ℕ) → ¬ Precedes q p → Precedes q r → Precedes p r
@@ -81,15 +85,11 @@ module _ {A : Type 0} (rank : A → List ℕ) (S : A → Type 0) where
   among (x ∷ xs) d = more x xs (d 0 x (omega arith)) (among xs (All-tail (λ y. Dec (S y)) x xs d))
 
   -- so a set whose members a list holds has a least member, or none
-  least_by : (xs : List A) → All (λ x. Dec (S x)) xs → ((y : A) → S y → Contains xs y) → ((x : A) × IsLeast rank S x) ⊎ ((y : A) → ¬ S y)
+  pub least_by : (xs : List A) → All (λ x. Dec (S x)) xs → ((y : A) → S y → Contains xs y) → ((x : A) × IsLeast rank S x) ⊎ ((y : A) → ¬ S y)
   least_by xs d all =
       ⊎_elim (λ b. inl (b.0, record { member = b.1; least = λ y s. All-contains (λ z. S z → ¬ Precedes (rank z) (rank b.0)) xs y b.2 (all y s) s }))
       (λ f. inr (λ y s. All-contains (λ z. ¬ S z) xs y f (all y s) s)) (among xs d)
 
-  -- as a set that is decided
+  -- as a set that is decided everywhere
   pub least_of : ((x : A) → Dec (S x)) → (xs : List A) → ((y : A) → S y → Contains xs y) → ((x : A) × IsLeast rank S x) ⊎ ((y : A) → ¬ S y)
   least_of d xs all = least_by xs (λ k x l. d _) all
-
-  -- and one that is the list
-  pub least_in : (xs : List A) → All S xs → ((y : A) → S y → Contains xs y) → ((x : A) × IsLeast rank S x) ⊎ ((y : A) → ¬ S y)
-  least_in xs a all = least_by xs (λ k x l. yes (a k x l)) all
