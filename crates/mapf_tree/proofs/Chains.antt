@@ -1,16 +1,15 @@
 -- One change more at the end of a chain.
-use Rattle.std.proofs.Common.{◌≡◌, ◌≢◌, ◌⊎◌, ◌↔◌, ℕ, suc, ◌+◌, ◌<◌, ◌≤◌, List, [], ◌∷◌, ◌++◌, length, take, take_all, map, get_or, set, All, Option, Result, Ok, Err, IfOk, replicate, ap₂, inl, inr, refl, sym, ap, ◌∙◌, subst, arith, Contains, get_or-set_same, get_or-set_other}
+use Rattle.std.proofs.Common.{◌≡◌, ◌≢◌, ◌↔◌, ℕ, suc, ◌+◌, ◌<◌, ◌≤◌, List, [], ◌∷◌, ◌++◌, length, take, take_all, map, get_or, set, All, Option, Result, Ok, Err, IfOk, replicate, ap₂, refl, sym, ap, ◌∙◌, subst, arith, Contains}
 use Rattle.std.proofs.Math.Seq.{take-suc}
 use Rattle.std.proofs.lemmas.List.{length-set, length-map, length_push, get_or-map}
 use Rattle.std.proofs.lemmas.List.Elements.{All-push}
-use native.Mathlib.Decide.{ℕ_discrete}
-use Rattle.mapf_grid.proofs.Orders.{In}
+use Rattle.mapf_grid.proofs.Lists.{set_cases}
 use Rattle.mapf_low.specs.declared.constraint.Constraint.{Constraint}
 use Rattle.mapf_plan.specs.Plan.{path_of, plan_cost}
 use Rattle.mapf_plan.specs.declared.conflict.Conflict.{Conflict}
 use Rattle.mapf_tree.specs.declared.side.Side.{Side}
-use Rattle.mapf_tree.specs.Nodes.{Node, node_of, IsConflictOf, AgreesWith, Changed, changed_plan, changed_sets}
-use Rattle.mapf_tree.proofs.Members.{Contains-In, In-Contains}
+use Rattle.mapf_tree.specs.Nodes.{Node, node_of, IsConflictOf, IsSameSet, AgreesWith, Changed, changed_plan, changed_sets}
+use Rattle.mapf_tree.proofs.ConstraintSets.{IsWith, IsWith-cons}
 
 -- the last change is made last
 pub changed_plan-push : (plan : List (List ℕ)) (xs : List Changed) (x : Changed) → changed_plan plan (xs ++ x ∷ []) ≡ set (changed_plan plan xs) x.agent x.path
@@ -40,48 +39,22 @@ taken_more f xs k x inside is =
 -- an agent's path after one change more
 pub path_more : (plan : List (List ℕ)) (xs : List Changed) (x : Changed) (agent : ℕ) (old new : List ℕ) → agent < length plan → old ≡ path_of (changed_plan plan xs) agent →
     (x.agent ≡ agent → new ≡ x.path) → (x.agent ≢ agent → new ≡ old) → new ≡ path_of (changed_plan plan (xs ++ x ∷ [])) agent
-path_more plan xs x agent old new inside is own other = go (ℕ_discrete x.agent agent) ∙ ap (λ p. path_of p agent) (sym (changed_plan-push plan xs x))
-  where
-    within : agent < length (changed_plan plan xs)
-    within = subst (λ n. agent < n) (sym (length-changed_plan plan xs)) inside
-
-    go : Dec (x.agent ≡ agent) → new ≡ path_of (set (changed_plan plan xs) x.agent x.path) agent
-    go (yes e) = own e ∙ sym (ap (λ a. path_of (set (changed_plan plan xs) a x.path) agent) e ∙ get_or-set_same (changed_plan plan xs) agent x.path [] within)
-    go (no n) = other n ∙ is ∙ sym (get_or-set_other (changed_plan plan xs) x.agent agent x.path [] (λ e. n (sym e)))
+path_more plan xs x agent old new inside is own other =
+    let within = subst (λ n. agent < n) (sym (length-changed_plan plan xs)) inside in
+    set_cases (λ q. new ≡ q) (changed_plan plan xs) x.agent agent x.path [] within own (λ n. other n ∙ is)
+    ∙ ap (λ p. path_of p agent) (sym (changed_plan-push plan xs x))
 
 -- an agent's constraints after one change more
 pub sets_more : (sets : List (List Constraint)) (xs : List Changed) (x : Changed) (agent : ℕ) (old new : List Constraint) → agent < length sets →
-    ((c : Constraint) → Contains old c ↔ Contains (get_or (changed_sets sets xs) agent []) c) →
-    (x.agent ≡ agent → (c : Constraint) → Contains new c ↔ ((c ≡ x.constraint) ⊎ Contains old c)) → (x.agent ≢ agent → new ≡ old) →
-    (c : Constraint) → Contains new c ↔ Contains (get_or (changed_sets sets (xs ++ x ∷ [])) agent []) c
-sets_more sets xs x agent old new inside is own other c =
-    subst (λ l. Contains new c ↔ Contains (get_or l agent []) c) (sym (changed_sets-push sets xs x)) (go (ℕ_discrete x.agent agent))
-  where
-    now : List (List Constraint)
-    now = changed_sets sets xs
-
-    within : agent < length now
-    within = subst (λ n. agent < n) (sym (length-changed_sets sets xs)) inside
-
-    more : List Constraint
-    more = x.constraint ∷ get_or now x.agent []
-
-    forth : x.agent ≡ agent → (c ≡ x.constraint) ⊎ Contains old c → Contains (x.constraint ∷ get_or now agent []) c
-    forth e (inl h) = Contains-In (x.constraint ∷ get_or now agent []) c (inl (sym h))
-    forth e (inr h) = Contains-In (x.constraint ∷ get_or now agent []) c (inr (In-Contains (get_or now agent []) c ((is c).0 h)))
-
-    back : x.agent ≡ agent → (x.constraint ≡ c) ⊎ In (get_or now agent []) c → Contains new c
-    back e (inl h) = ((own e) c).1 (inl (sym h))
-    back e (inr h) = ((own e) c).1 (inr ((is c).1 (Contains-In (get_or now agent []) c h)))
-
-    go : Dec (x.agent ≡ agent) → Contains new c ↔ Contains (get_or (set now x.agent more) agent []) c
-    go (yes e) =
-        let same : get_or (set now x.agent more) agent [] ≡ x.constraint ∷ get_or now agent [] = ap (λ a. get_or (set now a (x.constraint ∷ get_or now a [])) agent []) e ∙ get_or-set_same now agent (x.constraint ∷ get_or now agent []) [] within in
-        subst (λ l. Contains new c ↔ Contains l c) (sym same)
-        ((λ h. forth e (((own e) c).0 h)), (λ h. back e (In-Contains (x.constraint ∷ get_or now agent []) c h)))
-    go (no n) =
-        let same : get_or (set now x.agent more) agent [] ≡ get_or now agent [] = get_or-set_other now x.agent agent more [] (λ e. n (sym e)) in
-        subst (λ l. Contains new c ↔ Contains l c) (sym same) (subst (λ s. Contains s c ↔ Contains (get_or now agent []) c) (sym (other n)) (is c))
+    IsSameSet old (get_or (changed_sets sets xs) agent []) → (x.agent ≡ agent → IsWith x.constraint old new) → (x.agent ≢ agent → new ≡ old) →
+    IsSameSet new (get_or (changed_sets sets (xs ++ x ∷ [])) agent [])
+sets_more sets xs x agent old new inside is own other =
+    let now = changed_sets sets xs in
+    let within = subst (λ n. agent < n) (sym (length-changed_sets sets xs)) inside in
+    subst (λ l. IsSameSet new (get_or l agent [])) (sym (changed_sets-push sets xs x))
+    (set_cases (IsSameSet new) now x.agent agent (x.constraint ∷ get_or now x.agent []) [] within
+    (λ e. IsWith-cons x.constraint (get_or now x.agent []) old new (subst (λ a. IsSameSet old (get_or now a [])) (sym e) is) (own e))
+    (λ n. subst (λ s. IsSameSet s (get_or now agent [])) (sym (other n)) is))
 
 -- one more of a chain's front, where the new one is known by its value
 pub chain_more : {X Y : Type 0} (f : X → Y) (xs : List X) (k : ℕ) (x : X) (y : Y) → k < length xs → x ≡ get_or xs k x → y ≡ f x → take (k + 1) (map f xs) ≡ take k (map f xs) ++ y ∷ []

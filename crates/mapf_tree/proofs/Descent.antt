@@ -1,9 +1,10 @@
 -- From a valid plan down the tree to a solution that costs no more: so the answer is an optimum.
-use Rattle.std.proofs.Common.{◌≡◌, ◌⊎◌, ℕ, zero, suc, ◌<◌, ◌≤◌, ◌+◌, List, [], ◌∷◌, map, length, get_or, inl, inr, subst, sym, ◌∙◌, arith, length-append}
+use Rattle.std.proofs.Common.{◌⊎◌, ℕ, zero, suc, ◌<◌, ◌≤◌, ◌+◌, List, [], ◌∷◌, map, length, inl, inr, subst, sym, ◌∙◌, ⊎_elim, arith, length-append}
 use Rattle.std.proofs.lemmas.List.{get_or-replicate}
+use Rattle.std.proofs.lemmas.List.Sums.{get_or-le-sum_by}
 use Rattle.std.proofs.lemmas.Bool.{cases_lt}
-use Rattle.mapf_grid.proofs.Orders.{first_le}
-use Rattle.mapf_grid.proofs.Lists.{build, sum_by-le, part_le_sum_by}
+use Rattle.mapf_grid.proofs.Ranks.{first_le}
+use Rattle.mapf_grid.proofs.Lists.{build, sum_by-le}
 use Rattle.mapf_plan.specs.Path.{cost}
 use Rattle.mapf_plan.specs.declared.conflict.Conflict.{Conflict}
 use Rattle.mapf_plan.specs.Plan.{IsFirstConflict, HasNoConflict, IsValid, path_of, plan_cost}
@@ -21,24 +22,18 @@ use Rattle.mapf_tree.proofs.Plans.{AllowedAt, OwnAt, own_at}
 
 -- a valid plan within the bound that obeys a node puts it in cost, since each of its paths is allowed
 pub obeyed_is_in_cost : ObeyedIsInCost
-obeyed_is_in_cost problem node other valid within obeys = go (build [] (length problem.inst.starts) (OwnAt problem node) own)
+obeyed_is_in_cost problem node other valid within obeys =
+    let w = build [] (length problem.inst.starts) (OwnAt problem node) own in
+    let costs : plan_cost w.0 ≤ plan_cost other = sum_by-le cost [] w.0 other (w.1 ∙ sym valid.agents) (λ i h. let k = subst (λ n. i < n) w.1 h in own_path_costs _ _ _ _ _ _ _ (w.2 i k) (allowed i k)) in
+    (w.0, record { agents = w.1; own = w.2; within = omega (arith, costs, within) }, costs)
   where
     allowed : (i : ℕ) → i < length problem.inst.starts → AllowedAt problem node i (path_of other i)
     allowed i h =
-        let l = part_le_sum_by cost [] other i (subst (λ k. i < k) (sym valid.agents) h) in
+        let l = get_or-le-sum_by cost other i [] (subst (λ k. i < k) (sym valid.agents) h) in
         record { path = valid.paths i h; within = omega (arith, l, within); obeys = obeys i h }
 
     own : (i : ℕ) → i < length problem.inst.starts → (p : List ℕ) × OwnAt problem node i p
-    own i h = pick (own_at problem node i)
-      where
-        pick : ((p : List ℕ) × OwnAt problem node i p) ⊎ ((p : List ℕ) → ¬ AllowedAt problem node i p) → (p : List ℕ) × OwnAt problem node i p
-        pick (inl w) = w
-        pick (inr n) = absurd (n (path_of other i) (allowed i h))
-
-    go : (plan : List (List ℕ)) × (length plan ≡ length problem.inst.starts) × ((i : ℕ) → i < length problem.inst.starts → OwnAt problem node i (get_or plan i [])) → (plan : List (List ℕ)) × HasPlan problem node plan × (plan_cost plan ≤ plan_cost other)
-    go w =
-        let costs : plan_cost w.0 ≤ plan_cost other = sum_by-le cost [] w.0 other (w.1 ∙ sym valid.agents) (λ i h. let k = subst (λ n. i < n) w.1 h in own_path_costs _ _ _ _ _ _ _ (w.2 i k) (allowed i k)) in
-        (w.0, record { agents = w.1; own = w.2; within = omega (arith, costs, within) }, costs)
+    own i h = ⊎_elim (λ w. w) (λ n. absurd (n (path_of other i) (allowed i h))) (own_at problem node i)
 
 module _ (problem : Problem) (other : List (List ℕ)) (valid : IsValid problem.inst other) (within : plan_cost other ≤ problem.bound) where
   -- a solution that costs no more than the valid plan
@@ -59,14 +54,11 @@ module _ (problem : Problem) (other : List (List ℕ)) (valid : IsValid problem.
           let w = obeyed_is_in_cost problem (side_of node c s) other valid within o in
           below (side_of node c s) w.0 (side s inside has first w.1) w.1 w.2 o (omega (arith, deep, length-append node.name (s ∷ [])))
 
-      sides : Below → (c : Conflict) → IsFirstConflict plan c → ObeysNode problem (side_of node c Left) other ⊎ ObeysNode problem (side_of node c Right) other → Cheaper
-      sides below c first (inl o) = on_side below c first Left o
-      sides below c first (inr o) = on_side below c first Right o
-
       found : Below → ((c : Conflict) × IsFirstConflict plan c) ⊎ HasNoConflict plan → Cheaper
       found below (inr none) = ((node, plan), record { planned = record { inside = inside; plan = has }; no_conflict = none }, costs)
       found below (inl w) =
-          sides below w.0 w.1 (obeys_one_side problem node plan other w.0 (grown_all problem node inside).agents has.agents w.1.member valid obeys)
+          ⊎_elim (on_side below w.0 w.1 Left) (on_side below w.0 w.1 Right)
+          (obeys_one_side problem node plan other w.0 (grown_all problem node inside).agents has.agents w.1.member valid obeys)
 
   -- a valid plan within the bound has a solution that costs no more, since every plan obeys the root
   cheaper_solution : (found : PlannedNode) × IsSolution problem found × (plan_cost found.1 ≤ plan_cost other)
@@ -87,12 +79,12 @@ answer_is_optimum problem plan answer =
     record {
       valid = solution_valid problem (answer.0, plan) answer.1.member;
       within = answer.1.member.planned.plan.within;
-      least = λ other valid. go other valid (cases_lt problem.bound (plan_cost other));
+      least = λ other valid.
+          ⊎_elim (λ h. omega (arith, h, answer.1.member.planned.plan.within)) (λ h. omega (arith, cheaper other valid h)) (cases_lt problem.bound (plan_cost other));
     }
   where
-    go : (other : List (List ℕ)) → IsValid problem.inst other → (problem.bound < plan_cost other) ⊎ (plan_cost other ≤ problem.bound) → plan_cost plan ≤ plan_cost other
-    go other valid (inl h) = omega (arith, h, answer.1.member.planned.plan.within)
-    go other valid (inr h) =
+    cheaper : (other : List (List ℕ)) → IsValid problem.inst other → plan_cost other ≤ problem.bound → plan_cost plan ≤ plan_cost other
+    cheaper other valid h =
         let w = cheaper_solution problem other valid h in
         let l : plan_cost plan ≤ plan_cost w.0.1 = first_le (plan_cost plan) (plan_cost w.0.1) (length answer.0.name ∷ map turn answer.0.name) (length w.0.0.name ∷ map turn w.0.0.name) (answer.1.least w.0 w.1) in
         omega (arith, l, w.2)

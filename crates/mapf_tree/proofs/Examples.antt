@@ -2,7 +2,7 @@
 use Rattle.std.proofs.Common.{◌≡◌, ◌≢◌, ◌⊎◌, ℕ, zero, suc, ◌<◌, ◌+◌, List, [], ◌∷◌, get_or, inl, inr, subst, sym, refl, ◌∙◌, arith}
 use Rattle.mapf_grid.specs.Grid.{Grid, IsFree, Next, IsBeside}
 use Rattle.mapf_grid.specs.Least.{Precedes}
-use Rattle.mapf_grid.proofs.Orders.{irreflexive}
+use Rattle.mapf_grid.proofs.Ranks.{irreflexive}
 use Rattle.mapf_plan.specs.Path.{at, IsPath}
 use Rattle.mapf_plan.specs.declared.conflict.Conflict.{Conflict}
 use Rattle.mapf_plan.specs.declared.conflict.Conflict.TheVariants.{Vertex, Swapping}

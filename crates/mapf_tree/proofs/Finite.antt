@@ -1,19 +1,17 @@
 -- The tree is finite: it has as many levels as a name can be long, and each level is a list.
-use Rattle.std.proofs.Common.{◌≡◌, ◌⊎◌, ℕ, zero, suc, ◌≤◌, List, [], ◌∷◌, ◌++◌, length, inl, inr, subst, sym, refl, ap₂, ◌∙◌, arith, length-append}
-use Rattle.std.specs.List.{AllByRecursion}
+use Rattle.std.proofs.Common.{◌≡◌, ◌⊎◌, ℕ, zero, suc, ◌≤◌, List, [], ◌∷◌, ◌++◌, length, inl, inr, subst, sym, refl, ap₂, ◌∙◌, ⊎_elim, arith, length-append, All, Contains}
 use Rattle.std.proofs.lemmas.Bool.{cases_eq}
-use Rattle.mapf_grid.proofs.Orders.{In}
-use Rattle.mapf_grid.proofs.Lists.{In-append_left, In-append_right}
+use Rattle.std.proofs.lemmas.List.Elements.{All-nil, All-cons, All-tail, All-append, All-contains, Contains-append_left, Contains-append_right}
+use Rattle.mapf_grid.proofs.Members.{nowhere, here, there, here_or_there}
 use Rattle.mapf_plan.specs.declared.conflict.Conflict.{Conflict}
 use Rattle.mapf_plan.specs.Plan.{IsConflict, IsFirstConflict, HasNoConflict}
 use Rattle.mapf_plan.proofs.Conflicts.{first_conflict, same_first}
 use Rattle.mapf_tree.specs.Problem.{Problem}
 use Rattle.mapf_tree.specs.declared.side.Side.{Side}
 use Rattle.mapf_tree.specs.declared.side.Side.TheVariants.{Left, Right}
-use Rattle.mapf_tree.specs.Tree.{TreeNode, HasPlan, InTree, root, side, side_of, root_of}
+use Rattle.mapf_tree.specs.Tree.{TreeNode, HasPlan, InTree, root, side, side_of, root_of, PlannedNode, IsMember}
 use Rattle.mapf_tree.specs.Laws.{TreeIsFinite}
 use Rattle.mapf_tree.proofs.Measure.{grown_all, most, depth_most}
-use Rattle.mapf_tree.proofs.Members.{Contains-In, In-Contains, All-append, All-In}
 use Rattle.mapf_tree.proofs.Plans.{InCost, dec_in_cost, same_plan}
 
 module _ (problem : Problem) where
@@ -29,26 +27,26 @@ module _ (problem : Problem) where
 
   -- a list of nodes of the tree that has each node with P
   abbrev Holding : (TreeNode → Type 0) → Type 0
-  Holding P = (ps : List TreeNode) × AllByRecursion (InTree problem) ps × ((p : TreeNode) → P p → In ps p)
+  Holding P = (ps : List TreeNode) × All (InTree problem) ps × ((p : TreeNode) → P p → Contains ps p)
 
   -- no node has P
   nothing : (P : TreeNode → Type 0) → ((p : TreeNode) → ¬ P p) → Holding P
-  nothing P n = ([], tt, λ p h. n p h)
+  nothing P n = ([], All-nil (InTree problem), λ p h. absurd (n p h))
 
   -- each node with R has P or Q
   both : (P Q R : TreeNode → Type 0) → Holding P → Holding Q → ((p : TreeNode) → R p → P p ⊎ Q p) → Holding R
-  both P Q R l r which = (l.0 ++ r.0, All-append (InTree problem) l.0 r.0 l.1 r.1, λ p h. at_either p (which p h))
-    where
-      at_either : (p : TreeNode) → P p ⊎ Q p → In (l.0 ++ r.0) p
-      at_either p (inl h) = In-append_left l.0 r.0 p (l.2 p h)
-      at_either p (inr h) = In-append_right l.0 r.0 p (r.2 p h)
+  both P Q R l r which = (
+    l.0 ++ r.0,
+    All-append (InTree problem) l.0 r.0 l.1 r.1,
+    λ p h. ⊎_elim (λ k. Contains-append_left l.0 r.0 p (l.2 p k)) (λ k. Contains-append_right l.0 r.0 p (r.2 p k)) (which p h),
+  )
 
   -- one node, if it is in cost
   only : (q : TreeNode) → (InCost problem q → InTree problem q) → Holding (λ p. (q ≡ p) × InCost problem p)
   only q into = go (dec_in_cost problem q)
     where
       go : Dec (InCost problem q) → Holding (λ p. (q ≡ p) × InCost problem p)
-      go (yes w) = (q ∷ [], (into w, tt), λ p h. inl h.0)
+      go (yes w) = (q ∷ [], All-cons (InTree problem) q [] (into w) (All-nil (InTree problem)), λ p h. here [] h.0)
       go (no n) = nothing (λ p. (q ≡ p) × InCost problem p) (λ p h. n (subst (λ x. InCost problem x) (sym h.0) h.1))
 
   -- the sides of a node
@@ -84,16 +82,14 @@ module _ (problem : Problem) where
 
   -- the sides of all nodes of a list
   abbrev IsSideOfSome : List TreeNode → TreeNode → Type 0
-  IsSideOfSome ps q = (p : TreeNode) × In ps p × IsSideOf p q
+  IsSideOfSome ps q = (p : TreeNode) × Contains ps p × IsSideOf p q
 
   -- they are a list
-  all_sides : (ps : List TreeNode) → AllByRecursion (InTree problem) ps → Holding (IsSideOfSome ps)
-  all_sides [] a = nothing (IsSideOfSome []) (λ q s. s.1)
-  all_sides (p ∷ ps) a = both (IsSideOf p) (IsSideOfSome ps) (IsSideOfSome (p ∷ ps)) (sides p a.0) (all_sides ps a.1) which
-    where
-      which : (q : TreeNode) → IsSideOfSome (p ∷ ps) q → IsSideOf p q ⊎ IsSideOfSome ps q
-      which q (x, inl e, s) = inl (subst (λ y. IsSideOf y q) (sym e) s)
-      which q (x, inr i, s) = inr (x, i, s)
+  all_sides : (ps : List TreeNode) → All (InTree problem) ps → Holding (IsSideOfSome ps)
+  all_sides [] a = nothing (IsSideOfSome []) (λ q s. nowhere s.1)
+  all_sides (p ∷ ps) a =
+      both (IsSideOf p) (IsSideOfSome ps) (IsSideOfSome (p ∷ ps)) (sides p (a 0 p (omega arith))) (all_sides ps (All-tail (InTree problem) p ps a))
+      (λ q s. ⊎_elim (λ e. inl (subst (λ y. IsSideOf y q) (sym e) s.2)) (λ i. inr (s.0, i, s.2)) (here_or_there ps s.1))
 
   -- the nodes of the tree whose names have n turns
   abbrev AtDepth : ℕ → TreeNode → Type 0
@@ -123,18 +119,36 @@ module _ (problem : Problem) where
   -- they are a list
   levels : (n : ℕ) → Holding (UpToDepth n)
   levels zero = let l = level zero in (l.0, l.1, λ p h. l.2 p (h.0, omega (arith, h.1)))
-  levels (suc n) = both (AtDepth (suc n)) (UpToDepth n) (UpToDepth (suc n)) (level (suc n)) (levels n) (λ p h. which p h (cases_eq (length p.name) (suc n)))
-    where
-      which : (p : TreeNode) → UpToDepth (suc n) p → (length p.name ≡ suc n) ⊎ (length p.name ≡ suc n → ⊥) → AtDepth (suc n) p ⊎ UpToDepth n p
-      which p h (inl e) = inl (h.0, e)
-      which p h (inr e) = inr (h.0, omega (arith, h.1, e))
+  levels (suc n) =
+      both (AtDepth (suc n)) (UpToDepth n) (UpToDepth (suc n)) (level (suc n)) (levels n)
+      (λ p h. ⊎_elim (λ e. inl (h.0, e)) (λ e. inr (h.0, omega (arith, h.1, e))) (cases_eq (length p.name) (suc n)))
 
   -- the whole tree
-  pub tree : (ps : List TreeNode) × AllByRecursion (InTree problem) ps × ((p : TreeNode) → InTree problem p → In ps p)
+  tree : Holding (InTree problem)
   tree = let l = levels (most problem) in (l.0, l.1, λ p i. l.2 p (i, depth_most problem p (grown_all problem p i)))
 
--- said of std's membership
+  -- a node of the tree has a plan
+  plan_of : (p : TreeNode) → InTree problem p → InCost problem p
+  plan_of _ (root {plan = plan} h) = (plan, h)
+  plan_of _ (side {plan' = plan} s i h f k) = (plan, k)
+
+  -- nodes of the tree, with their plans
+  planned : (ps : List TreeNode) → All (InTree problem) ps →
+      (ms : List PlannedNode) × All (IsMember problem) ms × ((m : PlannedNode) → IsMember problem m → Contains ps m.0 → Contains ms m)
+  planned [] a = ([], All-nil (IsMember problem), λ m h i. absurd (nowhere i))
+  planned (p ∷ ps) a =
+      let inside = a 0 p (omega arith) in
+      let w = plan_of p inside in
+      let r = planned ps (All-tail (InTree problem) p ps a) in (
+        (p, w.0) ∷ r.0,
+        All-cons (IsMember problem) (p, w.0) r.0 (record { inside = inside; plan = w.1 }) r.1,
+        λ m h i. ⊎_elim (λ e. here r.0 (λ j. (e j, same_plan problem m.0 w.0 m.1 (subst (λ q. HasPlan problem q w.0) e w.1) h.plan j))) (λ k. there r.0 (r.2 m h k)) (here_or_there ps i),
+      )
+
+  -- so the tree's nodes with their plans are a list
+  pub members : (ms : List PlannedNode) × All (IsMember problem) ms × ((m : PlannedNode) → IsMember problem m → Contains ms m)
+  members = let r = planned tree.0 tree.1 in (r.0, r.1, λ m h. r.2 m h (tree.2 m.0 h.inside))
+
+-- as the law says it
 pub tree_is_finite : TreeIsFinite
-tree_is_finite problem =
-    let t = tree problem in
-    (t.0, λ p. ((λ i. Contains-In t.0 p (t.2 p i)), (λ c. All-In (InTree problem) t.0 p t.1 (In-Contains t.0 p c))))
+tree_is_finite problem = let t = tree problem in (t.0, λ p. (t.2 p, All-contains (InTree problem) t.0 p t.1))

@@ -1,8 +1,8 @@
 -- A search over many turns, and its answer.
-use Rattle.std.proofs.Common.{◌≡◌, ◌⊎◌, ℕ, ◌+◌, ◌<◌, ◌≤◌, List, [], ◌∷◌, Option, Some, None, Result, Ok, Err, IfOk, inl, inr, subst, sym, refl, ◌∙◌, arith, Contains}
+use Rattle.std.proofs.Common.{◌≡◌, ◌⊎◌, ℕ, ◌+◌, ◌<◌, ◌≤◌, List, [], ◌∷◌, Option, Some, None, Result, Ok, Err, IfOk, inl, inr, subst, sym, refl, ◌∙◌, ⊎_elim, arith, Contains}
 use Rattle.std.specs.Option.{ok_or}
 use Rattle.mapf_grid.specs.declared.fault.NoMemory.{NoMemory}
-use Rattle.mapf_grid.proofs.Orders.{In}
+use Rattle.mapf_grid.proofs.Members.{nowhere, here, there, here_or_there}
 use Rattle.mapf_plan.specs.declared.answer.Answer.{Answer}
 use Rattle.mapf_tree.specs.declared.progress.Progress.{Progress}
 use Rattle.mapf_tree.specs.declared.progress.Progress.TheVariants.{Working, Finished}
@@ -12,7 +12,6 @@ use Rattle.mapf_tree.specs.Search.{IsReached, Searched, IsSearch, IsLawful, Take
 use Rattle.mapf_tree.specs.Answered.{IsAnswerOf, IsBestAnswer}
 use Rattle.mapf_tree.specs.Turns.{TakesOne, IsStep}
 use Rattle.mapf_tree.proofs.Descent.{answer_is_optimum, none_is_none}
-use Rattle.mapf_tree.proofs.Members.{Contains-In, In-Contains}
 
 -- a search that has taken n nodes above a key, and has no answer yet
 pub record GoesOn (p : Problem) (from : Option (List ℕ)) (now : Searched) (n : ℕ) : Type 0 where
@@ -24,7 +23,7 @@ pub record GoesOn (p : Problem) (from : Option (List ℕ)) (now : Searched) (n :
 
 -- no node is taken between a key and itself
 pub takes_none : (p : Problem) (last : Option (List ℕ)) → TakesBetween p last last 0
-takes_none p last = ([], tt, refl, λ m. ((λ c. absurd (In-Contains [] m c)), (λ k. absurd (k.2 k.1))))
+takes_none p last = ([], tt, refl, λ m. ((λ c. absurd (nowhere c)), (λ k. absurd (k.2 k.1))))
 
 -- at first none
 pub goes_first : (s : Searched) → IsSearch s → s.outcome ≡ Ok None → GoesOn s.problem s.last s 0
@@ -34,18 +33,19 @@ goes_first s h e =
 -- one node more
 took_more : (p : Problem) (from : Option (List ℕ)) (now new : Searched) (n : ℕ) → GoesOn p from now n → TakesOne p now.last new.last → TakesBetween p from new.last (n + 1)
 took_more p from now new n g one =
-    (one.0 ∷ g.took.0, (fresh, g.took.1), omega (arith, g.took.2), λ m. ((λ c. forth m (In-Contains (one.0 ∷ g.took.0) m c)), (λ k. Contains-In (one.0 ∷ g.took.0) m (back m k.0 k.2 ((one.3 m k.0).0 k.1)))))
+    (one.0 ∷ g.took.0, (fresh, g.took.1), omega (arith, g.took.2), λ m. ((λ c. ⊎_elim (last m) (early m) (here_or_there g.took.0 c)), (λ k. back m k)))
   where
     fresh : ¬ Contains g.took.0 one.0
     fresh c = one.2 ((g.took.3 one.0).0 c).1
 
-    forth : (m : PlannedNode) → (one.0 ≡ m) ⊎ In g.took.0 m → IsMember p m × IsReached new.last m × ¬ IsReached from m
-    forth m (inl e) = subst (λ y. IsMember p y × IsReached new.last y × ¬ IsReached from y) e (one.1, (one.3 one.0 one.1).1 (inr refl), λ r. one.2 (g.further one.0 one.1 r))
-    forth m (inr i) = let k = (g.took.3 m).0 (Contains-In g.took.0 m i) in (k.0, (one.3 m k.0).1 (inl k.1), k.2)
+    last : (m : PlannedNode) → one.0 ≡ m → IsMember p m × IsReached new.last m × ¬ IsReached from m
+    last m e = subst (λ y. IsMember p y × IsReached new.last y × ¬ IsReached from y) e (one.1, (one.3 one.0 one.1).1 (inr refl), λ r. one.2 (g.further one.0 one.1 r))
 
-    back : (m : PlannedNode) → IsMember p m → ¬ IsReached from m → IsReached now.last m ⊎ (m ≡ one.0) → (one.0 ≡ m) ⊎ In g.took.0 m
-    back m i k (inl r) = inr (In-Contains g.took.0 m ((g.took.3 m).1 (i, r, k)))
-    back m i k (inr e) = inl (sym e)
+    early : (m : PlannedNode) → Contains g.took.0 m → IsMember p m × IsReached new.last m × ¬ IsReached from m
+    early m i = let k = (g.took.3 m).0 i in (k.0, (one.3 m k.0).1 (inl k.1), k.2)
+
+    back : (m : PlannedNode) → IsMember p m × IsReached new.last m × ¬ IsReached from m → Contains (one.0 ∷ g.took.0) m
+    back m k = ⊎_elim (λ r. there g.took.0 ((g.took.3 m).1 (k.0, r, k.2))) (λ e. here g.took.0 (sym e)) ((one.3 m k.0).0 k.1)
 
 -- and one more with each step
 pub goes_more : (p : Problem) (from : Option (List ℕ)) (now new : Searched) (n : ℕ) → GoesOn p from now n → new.problem ≡ now.problem → IsSearch new → IsStep now new (Ok Working) → GoesOn p from new (n + 1)

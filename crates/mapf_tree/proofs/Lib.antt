@@ -1,4 +1,4 @@
-pub mod Members
+pub mod ConstraintSets
 pub mod Distinct
 pub mod Universe
 pub mod Branch

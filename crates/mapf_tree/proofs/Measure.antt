@@ -1,13 +1,12 @@
 -- Each side's constraint is new, and there are so many constraints at most: so no name is long.
-use Rattle.std.proofs.Common.{◌≡◌, ◌≢◌, ℕ, ◌<◌, ◌≤◌, ◌+◌, ◌-◌, ◌*◌, List, [], ◌∷◌, length, get_or, inl, inr, subst, subst₂, sym, ap, ◌∙◌, arith, length-set, length-append, get_or-set_same, get_or-set_other}
+use Rattle.std.proofs.Common.{◌≡◌, ◌≢◌, ℕ, ◌<◌, ◌≤◌, ◌+◌, ◌-◌, ◌*◌, List, [], ◌∷◌, length, get_or, subst, subst₂, sym, ◌∙◌, arith, length-set, length-append, All}
 use Rattle.std.specs.List.{sum_by}
 use Rattle.std.proofs.lemmas.List.{length-replicate, get_or-replicate}
 use Rattle.std.proofs.lemmas.List.Sums.{sum_by-set, sum_by-le}
 use Rattle.std.proofs.lemmas.List.Folds.{sum_by-replicate}
-use Rattle.std.proofs.lemmas.List.Elements.{All-from_get_or}
-use native.Mathlib.Decide.{ℕ_discrete}
+use Rattle.std.proofs.lemmas.List.Elements.{All-nil, All-cons, All-contains, All-from_recursion, All-from_get_or}
 use Rattle.mapf_grid.specs.Grid.{IsFree, Next}
-use Rattle.mapf_grid.proofs.Orders.{In}
+use Rattle.mapf_grid.proofs.Lists.{set_cases}
 use Rattle.mapf_plan.specs.Path.{IsPath}
 use Rattle.mapf_plan.specs.declared.conflict.Conflict.{Conflict}
 use Rattle.mapf_plan.specs.declared.conflict.Conflict.TheVariants.{Vertex, Swapping}
@@ -15,7 +14,7 @@ use Rattle.mapf_plan.specs.Plan.{IsConflict, IsFirstConflict, path_of, place, co
 use Rattle.mapf_plan.proofs.Paths.{place_free, moves}
 use Rattle.mapf_plan.proofs.Conflicts.{first_early}
 use Rattle.mapf_low.specs.declared.constraint.Constraint.{Constraint}
-use Rattle.mapf_low.specs.Constraints.{Obeys, Breaks}
+use Rattle.mapf_low.specs.Constraints.{Breaks}
 use Rattle.mapf_tree.specs.Problem.{Problem}
 use Rattle.mapf_tree.specs.declared.side.Side.{Side}
 use Rattle.mapf_tree.specs.declared.side.Side.TheVariants.{Left, Right}
@@ -23,15 +22,14 @@ use Rattle.mapf_tree.specs.Tree.{TreeNode, HasPlan, InTree, root, side, side_of,
 use Rattle.mapf_tree.specs.Laws.{ConstraintIsNew, ConstraintIsEarly, HoldsGrid}
 use Rattle.mapf_tree.proofs.Branch.{agent_below}
 use Rattle.mapf_tree.proofs.Distinct.{Distinct, distinct_le}
-use Rattle.mapf_tree.proofs.Members.{In-Contains}
 use Rattle.mapf_tree.proofs.Plans.{plan_costs}
-use Rattle.mapf_tree.proofs.Universe.{universe, Fits, In-universe, length-universe, fits_early, cells_of, edges_of, holds_all}
+use Rattle.mapf_tree.proofs.Universe.{universe, Fits, Contains-universe, length-universe, fits_early, cells_of, edges_of, holds_all}
 
 -- what holds along the tree
 pub record Grown (problem : Problem) (node : TreeNode) : Type 0 where
   pub agents : length node.constraints ≡ length problem.inst.starts
   pub distinct : (i : ℕ) → i < length problem.inst.starts → Distinct (constraints_of node i)
-  pub fits : (i : ℕ) → i < length problem.inst.starts → (c : Constraint) → In (constraints_of node i) c → Fits problem.inst.grid problem.bound c
+  pub fits : (i : ℕ) → i < length problem.inst.starts → All (Fits problem.inst.grid problem.bound) (constraints_of node i)
   pub depth : length node.name ≡ sum_by (λ cs. length cs) node.constraints
 
 -- the root has no constraint
@@ -40,7 +38,7 @@ grown_root problem =
     record {
       agents = length-replicate (length problem.inst.starts) [];
       distinct = λ i h. subst (λ cs. Distinct cs) (sym (none i h)) tt;
-      fits = λ i h c k. absurd (subst (λ cs. In cs c) (none i h) k);
+      fits = λ i h. subst (All (Fits problem.inst.grid problem.bound)) (sym (none i h)) (All-nil (Fits problem.inst.grid problem.bound));
       depth = sym (sum_by-replicate (λ cs. length cs) (length problem.inst.starts) [] ∙ zeros);
     }
   where
@@ -57,17 +55,13 @@ broke plan (Vertex i j v t) Right h = h.3
 broke plan (Swapping i j u v t) Left h = (h.2, h.4, h.5)
 broke plan (Swapping i j u v t) Right h = (h.2, h.6, h.7)
 
--- an obeyed set has no constraint that the path breaks
-unbroken : (cs : List Constraint) (p : List ℕ) (c : Constraint) → Obeys cs p → In cs c → ¬ Breaks p c
-unbroken [] p c o i b = i
-unbroken (d ∷ cs) p c o (inl e) b = o.0 (subst (λ x. Breaks p x) (sym e) b)
-unbroken (d ∷ cs) p c o (inr i) b = unbroken cs p c o.1 i b
-
--- so it is new to its agent
-is_new : (problem : Problem) (node : TreeNode) (plan : List (List ℕ)) (c : Conflict) (s : Side) → HasPlan problem node plan → IsConflict plan c → ¬ In (constraints_of node (agent_on c s)) (constraint_on c s)
-is_new problem node plan c s has is i =
+-- so it is new to its agent, since the own path obeys the node's constraints
+pub constraint_is_new : ConstraintIsNew
+constraint_is_new problem node plan c s has is i =
     let h : agent_on c s < length problem.inst.starts = subst (λ k. agent_on c s < k) has.agents (agent_below plan c s is) in
-    unbroken (constraints_of node (agent_on c s)) (path_of plan (agent_on c s)) (constraint_on c s) (has.own (agent_on c s) h).member.obeys i (broke plan c s is)
+    let Kept : Constraint → Type 0 = λ x. ¬ Breaks (path_of plan (agent_on c s)) x in
+    let obeys = All-from_recursion Kept (constraints_of node (agent_on c s)) (has.own (agent_on c s) h).member.obeys in
+    All-contains Kept (constraints_of node (agent_on c s)) (constraint_on c s) obeys i (broke plan c s is)
 
 -- it is on cells of the grid, and at most at the bound
 side_fits : (problem : Problem) (node : TreeNode) (plan : List (List ℕ)) (c : Conflict) (s : Side) → HasPlan problem node plan → IsFirstConflict plan c → Fits problem.inst.grid problem.bound (constraint_on c s)
@@ -92,48 +86,25 @@ side_fits problem node plan c s has first = go c s first.member (first_early pla
 -- a side has one constraint more, and all that held of the node holds of it
 grown_side : (problem : Problem) (node : TreeNode) (plan : List (List ℕ)) (c : Conflict) (s : Side) → Grown problem node → HasPlan problem node plan → IsFirstConflict plan c → Grown problem (side_of node c s)
 grown_side problem node plan c s grown has first =
+    let Fit = Fits problem.inst.grid problem.bound in
     record {
       agents = length-set node.constraints a _ ∙ grown.agents;
-      distinct = λ i h. distinct i h (ℕ_discrete i a);
-      fits = λ i h d k. fits i h d (ℕ_discrete i a) k;
-      depth = depth;
+      distinct = λ i h. set_cases (λ cs. Distinct cs) node.constraints a i more [] (omega (arith, h, grown.agents)) (λ _. (constraint_is_new problem node plan c s has first.member, grown.distinct a within)) (λ _. grown.distinct i h);
+      fits = λ i h. set_cases (All Fit) node.constraints a i more [] (omega (arith, h, grown.agents)) (λ _. All-cons Fit (constraint_on c s) (constraints_of node a) (side_fits problem node plan c s has first) (grown.fits a within)) (λ _. grown.fits i h);
+      depth = let e = sum_by-set (λ cs. length cs) node.constraints a more [] inside in omega (arith, e, length-append node.name (s ∷ []), grown.depth);
     }
   where
     a : ℕ
     a = agent_on c s
 
-    x : Constraint
-    x = constraint_on c s
+    more : List Constraint
+    more = constraint_on c s ∷ constraints_of node (agent_on c s)
+
+    within : agent_on c s < length problem.inst.starts
+    within = subst (λ k. agent_on c s < k) has.agents (agent_below plan c s first.member)
 
     inside : agent_on c s < length node.constraints
-    inside = subst (λ k. agent_on c s < k) (has.agents ∙ sym grown.agents) (agent_below plan c s first.member)
-
-    here : (i : ℕ) → i ≡ agent_on c s → constraints_of (side_of node c s) i ≡ constraint_on c s ∷ constraints_of node i
-    here i e =
-        ap (λ k. get_or (side_of node c s).constraints k []) e ∙ get_or-set_same node.constraints (agent_on c s) _ [] inside
-        ∙ ap (λ k. constraint_on c s ∷ constraints_of node k) (sym e)
-
-    other : (i : ℕ) → i ≢ agent_on c s → constraints_of (side_of node c s) i ≡ constraints_of node i
-    other i e = get_or-set_other node.constraints (agent_on c s) i _ [] e
-
-    distinct : (i : ℕ) → i < length problem.inst.starts → Dec (i ≡ agent_on c s) → Distinct (constraints_of (side_of node c s) i)
-    distinct i h (no e) = subst (λ cs. Distinct cs) (sym (other i e)) (grown.distinct i h)
-    distinct i h (yes e) =
-        subst (λ cs. Distinct cs) (sym (here i e))
-        ((λ k. is_new problem node plan c s has first.member (subst (λ n. In (constraints_of node n) (constraint_on c s)) e k)), grown.distinct i h)
-
-    new : (i : ℕ) → i < length problem.inst.starts → (d : Constraint) → In (constraint_on c s ∷ constraints_of node i) d → Fits problem.inst.grid problem.bound d
-    new i h d (inl e) = subst (λ y. Fits problem.inst.grid problem.bound y) e (side_fits problem node plan c s has first)
-    new i h d (inr k) = grown.fits i h d k
-
-    fits : (i : ℕ) → i < length problem.inst.starts → (d : Constraint) → Dec (i ≡ agent_on c s) → In (constraints_of (side_of node c s) i) d → Fits problem.inst.grid problem.bound d
-    fits i h d (no e) k = grown.fits i h d (subst (λ cs. In cs d) (other i e) k)
-    fits i h d (yes e) k = new i h d (subst (λ cs. In cs d) (here i e) k)
-
-    depth : length (side_of node c s).name ≡ sum_by (λ cs. length cs) (side_of node c s).constraints
-    depth =
-        let e = sum_by-set (λ cs. length cs) node.constraints (agent_on c s) (constraint_on c s ∷ constraints_of node (agent_on c s)) [] inside in
-        omega (arith, e, length-append node.name (s ∷ []), grown.depth)
+    inside = subst (λ k. agent_on c s < k) (sym grown.agents) within
 
 -- so it holds of each node of the tree
 pub grown_all : (problem : Problem) (node : TreeNode) → InTree problem node → Grown problem node
@@ -151,7 +122,7 @@ depth_le problem cells edges holds node g =
     one : (i : ℕ) → i < length problem.inst.starts → length (constraints_of node i) ≤ (problem.bound + 1) * (length cells + length edges)
     one i h =
         subst (λ k. length (constraints_of node i) ≤ k) (length-universe cells edges problem.bound)
-        (distinct_le (constraints_of node i) (universe cells edges problem.bound) (g.distinct i h) (λ c k. In-universe problem.inst.grid cells edges problem.bound holds c (g.fits i h c k)))
+        (distinct_le (constraints_of node i) (universe cells edges problem.bound) (g.distinct i h) (λ c k. Contains-universe problem.inst.grid cells edges problem.bound holds c (All-contains (Fits problem.inst.grid problem.bound) (constraints_of node i) c (g.fits i h) k)))
 
 -- some number that no depth exceeds
 pub most : Problem → ℕ
@@ -161,11 +132,6 @@ most problem = length problem.inst.starts * ((problem.bound + 1) * (length (cell
 pub depth_most : (problem : Problem) (node : TreeNode) → Grown problem node → length node.name ≤ most problem
 unfolding most
 depth_most problem node g = depth_le problem (cells_of problem.inst.grid) (edges_of problem.inst.grid) (holds_all problem.inst.grid) node g
-
--- what is said of a recursion, said of std's membership
-pub constraint_is_new : ConstraintIsNew
-constraint_is_new problem node plan c s has is k =
-    is_new problem node plan c s has is (In-Contains (constraints_of node (agent_on c s)) (constraint_on c s) k)
 
 -- a conflict that a plan branches on is at most at the bound
 pub constraint_is_early : ConstraintIsEarly

@@ -1,7 +1,9 @@
 -- Which nodes of the tree a list of nodes stands for, when a node is taken out or put in.
-use Rattle.std.proofs.Common.{◌≡◌, ◌≢◌, ◌⊎◌, ◌↔◌, ℕ, List, ◌∷◌, length, map, Option, Some, None, inl, inr, subst, sym, refl, ap, ap₂, ◌∙◌, Contains}
+use Rattle.std.proofs.Common.{◌≡◌, ◌≢◌, ◌⊎◌, ◌↔◌, ℕ, List, ◌∷◌, length, map, Option, Some, None, inl, inr, subst, sym, refl, ap, ap₂, ◌∙◌, ⊎_elim, Contains}
+use Rattle.std.proofs.lemmas.List.Elements.{All-contains, All-from_recursion}
 use Rattle.mapf_grid.specs.Least.{Precedes, IsLeast}
-use Rattle.mapf_grid.proofs.Orders.{In, compare, irreflexive, transitive}
+use Rattle.mapf_grid.proofs.Members.{here, there, here_or_there}
+use Rattle.mapf_grid.proofs.Ranks.{by_compare, irreflexive, asymmetric, before_is_other}
 use Rattle.mapf_plan.specs.declared.conflict.Conflict.{Conflict}
 use Rattle.mapf_plan.specs.Plan.{plan_cost, HasNoConflict, IsFirstConflict}
 use Rattle.mapf_plan.proofs.Conflicts.{same_first}
@@ -14,7 +16,6 @@ use Rattle.mapf_tree.specs.Nodes.{Node, node_key, StandsFor, IsConflictOf, AllSt
 use Rattle.mapf_tree.specs.Family.{IsRoot, IsSide}
 use Rattle.mapf_tree.specs.OpenList.{IsRising, IsPut, IsPutIfSome}
 use Rattle.mapf_tree.specs.Turns.{IsTurnOf}
-use Rattle.mapf_tree.proofs.Members.{Contains-In, In-Contains, All-In}
 use Rattle.mapf_tree.proofs.Plans.{same_plan}
 use Rattle.mapf_tree.proofs.Unique.{same_member}
 
@@ -26,70 +27,51 @@ key-stands p n m h = ap₂ (λ name plan. plan_cost plan ∷ length name ∷ map
 pub same_stands : (p : Problem) (n k : Node) (a b : PlannedNode) → StandsFor p n a → StandsFor p k b → node_key n ≡ node_key k → a ≡ b
 same_stands p n k a b h g e = same_member p a b h.member g.member (sym (key-stands p n a h) ∙ e ∙ key-stands p k b g)
 
--- the first node is in its list
-first_in : {X : Type 0} (x : X) (xs : List X) → Contains (x ∷ xs) x
-first_in x xs = Contains-In (x ∷ xs) x (inl refl)
-
--- and so are the others
-later_in : {X : Type 0} (x : X) (xs : List X) (y : X) → Contains xs y → Contains (x ∷ xs) y
-later_in x xs y c = Contains-In (x ∷ xs) y (inr (In-Contains xs y c))
-
 module _ (p : Problem) (first : Node) (rest : List Node) (x : PlannedNode) (rising : IsRising (first ∷ rest)) (is : StandsFor p first x) where
   -- each other node stands for a later node
-  later_key : (n : Node) (m : PlannedNode) → In rest n → StandsFor p n m → Precedes (key x) (key m)
+  later_key : (n : Node) (m : PlannedNode) → Contains rest n → StandsFor p n m → Precedes (key x) (key m)
   later_key n m i h =
+      let Later : Node → Type 0 = λ k. Precedes (node_key first) (node_key k) in
       subst (λ r. Precedes (key x) r) (key-stands p n m h)
-      (subst (λ r. Precedes r (node_key n)) (key-stands p first x is) (All-In (λ k. Precedes (node_key first) (node_key k)) rest n rising.0 i))
+      (subst (λ r. Precedes r (node_key n)) (key-stands p first x is) (All-contains Later rest n (All-from_recursion Later rest rising.0) i))
 
   -- the first node stands for the least node
   pub first_is_least : IsLeast key (HasNodeFor p (first ∷ rest)) x
-  first_is_least = record { member = (first, first_in first rest, is); least = λ m s l. go m s.0 s.2 l (In-Contains (first ∷ rest) s.0 s.1) }
-    where
-      go : (m : PlannedNode) (n : Node) → StandsFor p n m → Precedes (key m) (key x) → (first ≡ n) ⊎ In rest n → ⊥
-      go m n h l (inl e) =
-          let same = same_stands p first n x m is h (ap node_key e) in
-          irreflexive (key m) (subst (λ y. Precedes (key m) (key y)) same l)
-      go m n h l (inr i) = irreflexive (key m) (transitive (key m) (key x) (key m) l (later_key n m i h))
+  first_is_least = record {
+    member = (first, here rest refl, is);
+    least = λ m s l.
+        ⊎_elim (λ e. irreflexive (key m) (subst (λ y. Precedes (key m) (key y)) (same_stands p first s.0 x m is s.2 (ap node_key e)) l))
+        (λ i. asymmetric (key m) (key x) l (later_key s.0 m i s.2)) (here_or_there rest s.1);
+  }
 
   -- without it the other nodes are shown
   pub rest_stands : (m : PlannedNode) → HasNodeFor p rest m ↔ (HasNodeFor p (first ∷ rest) m × (m ≢ x))
-  rest_stands m = ((λ s. ((s.0, later_in first rest s.0 s.1, s.2), (λ e. other s.0 s.2 (In-Contains rest s.0 s.1) e))), (λ s. go s.0.0 s.0.2 s.1 (In-Contains (first ∷ rest) s.0.0 s.0.1)))
-    where
-      other : (n : Node) → StandsFor p n m → In rest n → m ≢ x
-      other n h i e = irreflexive (key x) (subst (λ y. Precedes (key x) (key y)) e (later_key n m i h))
-
-      go : (n : Node) → StandsFor p n m → m ≢ x → (first ≡ n) ⊎ In rest n → HasNodeFor p rest m
-      go n h ne (inl e) = absurd (ne (same_stands p n first m x h is (ap node_key (sym e))))
-      go n h ne (inr i) = (n, Contains-In rest n i, h)
+  rest_stands m = (
+    (λ s. ((s.0, there rest s.1, s.2), λ e. irreflexive (key x) (subst (λ y. Precedes (key x) (key y)) e (later_key s.0 m s.1 s.2)))),
+    (λ s. ⊎_elim (λ e. absurd (s.1 (same_stands p s.0.0 first m x s.0.2 is (ap node_key (sym e))))) (λ i. (s.0.0, i, s.0.2)) (here_or_there rest s.0.1)),
+  )
 
 module _ (p : Problem) (old new : List Node) (node : Node) (y : PlannedNode) (all : AllStand p old) (put : IsPut old node new) (is : StandsFor p node y) where
   -- a node that is put in adds its node
   put_shows : (m : PlannedNode) → HasNodeFor p new m ↔ (HasNodeFor p old m ⊎ (m ≡ y))
-  put_shows m = ((λ s. forth s.0 s.2 ((put s.0).0 s.1)), back)
+  put_shows m = ((λ s. forth s.0 s.2 ((put s.0).0 s.1)), ⊎_elim (λ s. still s.0 s.2 s.1) added)
     where
-      here : m ≡ y → HasNodeFor p new m
-      here e = (node, (put node).1 (inl refl), subst (λ z. StandsFor p node z) (sym e) is)
+      added : m ≡ y → HasNodeFor p new m
+      added e = (node, (put node).1 (inl refl), subst (λ z. StandsFor p node z) (sym e) is)
 
       forth : (n : Node) → StandsFor p n m → (n ≡ node) ⊎ (Contains old n × (node_key n ≢ node_key node)) → HasNodeFor p old m ⊎ (m ≡ y)
       forth n h (inl e) = inr (same_stands p n node m y h is (ap node_key e))
       forth n h (inr c) = inl (n, c.0, h)
 
-      still : (n : Node) → StandsFor p n m → Contains old n → (node_key n ≡ node_key node) ⊎ (Precedes (node_key n) (node_key node) ⊎ Precedes (node_key node) (node_key n)) → HasNodeFor p new m
-      still n h c (inl e) = here (same_stands p n node m y h is e)
-      still n h c (inr (inl l)) = (n, (put n).1 (inr (c, λ e. irreflexive (node_key node) (subst (λ r. Precedes r (node_key node)) e l))), h)
-      still n h c (inr (inr l)) = (n, (put n).1 (inr (c, λ e. irreflexive (node_key node) (subst (λ r. Precedes (node_key node) r) e l))), h)
-
-      back : HasNodeFor p old m ⊎ (m ≡ y) → HasNodeFor p new m
-      back (inl s) = still s.0 s.2 s.1 (compare (node_key s.0) (node_key node))
-      back (inr e) = here e
+      still : (n : Node) → StandsFor p n m → Contains old n → HasNodeFor p new m
+      still n h c =
+          let other : node_key n ≢ node_key node → HasNodeFor p new m = λ e. (n, (put n).1 (inr (c, e)), h) in
+          by_compare (node_key n) (node_key node) (λ e. added (same_stands p n node m y h is e))
+          (λ l. other (before_is_other (node_key n) (node_key node) l)) (λ l. other (λ e. before_is_other (node_key node) (node_key n) l (sym e)))
 
   -- and all nodes stand for nodes
   put_all : AllStand p new
-  put_all n c = go ((put n).0 c)
-    where
-      go : (n ≡ node) ⊎ (Contains old n × (node_key n ≢ node_key node)) → (m : PlannedNode) × StandsFor p n m
-      go (inl e) = (y, subst (λ k. StandsFor p k y) (sym e) is)
-      go (inr i) = all n i.0
+  put_all n c = ⊎_elim (λ e. (y, subst (λ k. StandsFor p k y) (sym e) is)) (λ i. all n i.0) ((put n).0 c)
 
 -- what a list shows once the node of a node is put in, if that has one
 pub record AddsSide (p : Problem) (old new : List Node) (side : TreeNode) : Type 0 where
@@ -113,27 +95,25 @@ side_node p x c s (Some node) h = h
 
 -- the node of a node adds that node, if it is in the tree
 pub put_node_adds : (p : Problem) (old new : List Node) (pair : TreeNode) (o : Option Node) → AllStand p old → IsNodeOf p pair o → IsPutIfSome old o new → AddsSide p old new pair
-put_node_adds p old new pair None all none e = record { stand = subst (AllStand p) (sym e) all; shows = λ m. ((λ h. inl (subst (λ ns. HasNodeFor p ns m) e h)), (λ h. back m h)) }
-  where
-    back : (m : PlannedNode) → HasNodeFor p old m ⊎ (IsMember p m × (m.0 ≡ pair)) → HasNodeFor p new m
-    back m (inl h) = subst (λ ns. HasNodeFor p ns m) (sym e) h
-    back m (inr h) = absurd (none m.1 (subst (λ q. HasPlan p q m.1) h.1 h.0.plan))
-put_node_adds p old new pair (Some node) all is put = record { stand = put_all p old new node (pair, is.0) all put is.1; shows = λ m. ((λ h. forth m ((shows m).0 h)), (λ h. (shows m).1 (back m h))) }
-  where
-    shows : (m : PlannedNode) → HasNodeFor p new m ↔ (HasNodeFor p old m ⊎ (m ≡ (pair, is.0)))
-    shows = put_shows p old new node (pair, is.0) all put is.1
-
-    forth : (m : PlannedNode) → HasNodeFor p old m ⊎ (m ≡ (pair, is.0)) → HasNodeFor p old m ⊎ (IsMember p m × (m.0 ≡ pair))
-    forth m (inl h) = inl h
-    forth m (inr e) = inr (subst (λ y. IsMember p y) (sym e) is.1.member, ap (λ y. y.0) e)
-
-    back : (m : PlannedNode) → HasNodeFor p old m ⊎ (IsMember p m × (m.0 ≡ pair)) → HasNodeFor p old m ⊎ (m ≡ (pair, is.0))
-    back m (inl h) = inl h
-    back m (inr h) = inr (λ i. (h.1 i, same_plan p (pair) m.1 is.0 (subst (λ q. HasPlan p q m.1) h.1 h.0.plan) is.1.member.plan i))
+put_node_adds p old new pair None all none e = record {
+  stand = subst (AllStand p) (sym e) all;
+  shows = λ m. (
+    (λ h. inl (subst (λ ns. HasNodeFor p ns m) e h)),
+    ⊎_elim (λ h. subst (λ ns. HasNodeFor p ns m) (sym e) h) (λ h. absurd (none m.1 (subst (λ q. HasPlan p q m.1) h.1 h.0.plan))),
+  );
+}
+put_node_adds p old new pair (Some node) all is put = record {
+  stand = put_all p old new node (pair, is.0) all put is.1;
+  shows = λ m. (
+    (λ h. ⊎_elim inl (λ e. inr (subst (IsMember p) (sym e) is.1.member, ap (λ y. y.0) e)) ((put_shows p old new node (pair, is.0) all put is.1 m).0 h)),
+    (λ h. (put_shows p old new node (pair, is.0) all put is.1 m).1
+        (⊎_elim inl (λ k. inr (λ i. (k.1 i, same_plan p pair m.1 is.0 (subst (λ q. HasPlan p q m.1) k.1 k.0.plan) is.1.member.plan i))) h)),
+  );
+}
 
 -- all but the first still show
 pub tail_stands : (p : Problem) (first : Node) (rest : List Node) → AllStand p (first ∷ rest) → AllStand p rest
-tail_stands p first rest all n c = all n (later_in first rest n c)
+tail_stands p first rest all n c = all n (there rest c)
 
 -- the conflict that a node has is that of its node's plan
 pub conflict_stands : (p : Problem) (n : Node) (m : PlannedNode) (c : Conflict) → StandsFor p n m → n.conflict ≡ Some c → IsFirstConflict m.1 c
@@ -152,11 +132,10 @@ solved_turn p old new first x e rising all is none =
     r = subst IsRising e rising
 
     next : (m : PlannedNode) → HasNodeFor p new m ↔ ((HasNodeFor p old m × (m ≢ x)) ⊎ (IsMember p m × IsChild x m))
-    next m = ((λ s. let h = (rest_stands p first new x r is m).0 s in inl (subst (λ ns. HasNodeFor p ns m) (sym e) h.0, h.1)), back)
-      where
-        back : (HasNodeFor p old m × (m ≢ x)) ⊎ (IsMember p m × IsChild x m) → HasNodeFor p new m
-        back (inl s) = (rest_stands p first new x r is m).1 (subst (λ ns. HasNodeFor p ns m) e s.0, s.1)
-        back (inr s) = absurd (none s.1.conflict s.1.first.member)
+    next m = (
+      (λ s. let h = (rest_stands p first new x r is m).0 s in inl (subst (λ ns. HasNodeFor p ns m) (sym e) h.0, h.1)),
+      ⊎_elim (λ s. (rest_stands p first new x r is m).1 (subst (λ ns. HasNodeFor p ns m) e s.0, s.1)) (λ s. absurd (none s.1.conflict s.1.first.member)),
+    )
 
 -- a node is taken, and its sides are put in
 pub branched_turn : (p : Problem) (old rest mid new : List Node) (first : Node) (x : PlannedNode) (c : Conflict) (l r : Option Node) → old ≡ first ∷ rest → IsRising old → AllStand p old → StandsFor p first x → first.conflict ≡ Some c → IsSide p x c Left l → IsSide p x c Right r → IsPutIfSome rest l mid → IsPutIfSome mid r new → IsTurnOf p old new x

@@ -1,6 +1,7 @@
 -- The plan of a node: there is one at most, and whether there is one can be decided.
-use Rattle.std.proofs.Common.{◌≡◌, ◌⊎◌, ℕ, ◌<◌, ◌≤◌, List, [], length, get_or, inl, inr, subst, sym, ap, ◌∙◌, ext_get_or, arith}
+use Rattle.std.proofs.Common.{◌≡◌, ◌⊎◌, ℕ, ◌<◌, ◌≤◌, List, [], length, get_or, inl, inr, subst, sym, ap, ◌∙◌, ext_get_or, ⊎_elim, arith}
 use native.Mathlib.Decide.{dec_le}
+use Rattle.mapf_grid.proofs.Decide.{dec_map}
 use Rattle.mapf_grid.proofs.Lists.{build_or}
 use Rattle.mapf_plan.specs.Path.{cost}
 use Rattle.mapf_plan.specs.Plan.{path_of, plan_cost}
@@ -45,19 +46,11 @@ dear_plan problem node paths plan n own dear has =
 
 -- whether a node is in cost
 pub dec_in_cost : (problem : Problem) (node : TreeNode) → Dec (InCost problem node)
-dec_in_cost problem node = go (build_or [] (length problem.inst.starts) (OwnAt problem node) own_or_none)
+dec_in_cost problem node =
+    ⊎_elim (λ w. within w.0 w.1 w.2) (λ n. no (λ w. n.2 (path_of w.0 n.0) (w.1.own n.0 n.1)))
+    (build_or [] (length problem.inst.starts) (OwnAt problem node) (λ i. ⊎_elim inl (λ n. inr (λ p h. n p h.member)) (own_at problem node i)))
   where
-    own_or_none : (i : ℕ) → ((p : List ℕ) × OwnAt problem node i p) ⊎ ((p : List ℕ) → ¬ OwnAt problem node i p)
-    own_or_none i = pick (own_at problem node i)
-      where
-        pick : ((p : List ℕ) × OwnAt problem node i p) ⊎ ((p : List ℕ) → ¬ AllowedAt problem node i p) → ((p : List ℕ) × OwnAt problem node i p) ⊎ ((p : List ℕ) → ¬ OwnAt problem node i p)
-        pick (inl w) = inl w
-        pick (inr n) = inr (λ p h. n p h.member)
-
-    within : (plan : List (List ℕ)) → length plan ≡ length problem.inst.starts → ((i : ℕ) → i < length problem.inst.starts → OwnAt problem node i (path_of plan i)) → Dec (plan_cost plan ≤ problem.bound) → Dec (InCost problem node)
-    within plan n own (yes h) = yes (plan, record { agents = n; own = own; within = h })
-    within plan n own (no k) = no (λ w. k (subst (λ p. plan_cost p ≤ problem.bound) (same_paths problem node w.0 plan w.1.agents n w.1.own own) w.1.within))
-
-    go : ((plan : List (List ℕ)) × (length plan ≡ length problem.inst.starts) × ((i : ℕ) → i < length problem.inst.starts → OwnAt problem node i (get_or plan i []))) ⊎ ((i : ℕ) × (i < length problem.inst.starts) × ((p : List ℕ) → ¬ OwnAt problem node i p)) → Dec (InCost problem node)
-    go (inl w) = within w.0 w.1 w.2 (dec_le (plan_cost w.0) problem.bound)
-    go (inr n) = no (λ w. n.2 (path_of w.0 n.0) (w.1.own n.0 n.1))
+    within : (plan : List (List ℕ)) → length plan ≡ length problem.inst.starts → ((i : ℕ) → i < length problem.inst.starts → OwnAt problem node i (path_of plan i)) → Dec (InCost problem node)
+    within plan n own =
+        dec_map (λ h. (plan, record { agents = n; own = own; within = h }))
+        (λ w. subst (λ p. plan_cost p ≤ problem.bound) (same_paths problem node w.0 plan w.1.agents n w.1.own own) w.1.within) (dec_le (plan_cost plan) problem.bound)

@@ -1,34 +1,14 @@
 -- How many nodes of the tree are not taken yet: the measure of a search.
-use Rattle.std.proofs.Common.{◌≡◌, ◌↔◌, ℕ, ◌+◌, ◌<◌, ◌≤◌, List, [], ◌∷◌, length, Option, Some, None, inl, inr, subst, sym, refl, arith, Contains}
-use Rattle.std.specs.List.{AllByRecursion}
-use Rattle.mapf_grid.specs.Least.{Precedes}
-use Rattle.mapf_grid.proofs.Orders.{In, transitive, le_before, dec_precedes}
+use Rattle.std.proofs.Common.{◌≡◌, ◌↔◌, ℕ, ◌+◌, ◌<◌, ◌≤◌, List, [], ◌∷◌, length, Option, Some, None, subst, sym, refl, ⊎_elim, arith, Contains}
+use Rattle.mapf_grid.proofs.Members.{here, nowhere, here_or_there}
+use Rattle.mapf_grid.proofs.Ranks.{transitive, le_before}
 use Rattle.mapf_tree.specs.Problem.{Problem}
-use Rattle.mapf_tree.specs.Tree.{TreeNode, HasPlan, InTree, root, side, key, PlannedNode, IsMember}
+use Rattle.mapf_tree.specs.Tree.{key, PlannedNode, IsMember}
 use Rattle.mapf_tree.specs.Search.{IsReached, TakesBetween}
-use Rattle.mapf_tree.proofs.Finite.{tree}
-use Rattle.mapf_tree.proofs.Members.{Contains-In}
-use Rattle.mapf_tree.proofs.Plans.{InCost, same_plan}
+use Rattle.mapf_tree.proofs.Finite.{members}
 use Rattle.mapf_tree.proofs.SearchLaws.{dec_reached}
 
 module _ (problem : Problem) where
-  -- a node of the tree has a plan
-  plan_of : (p : TreeNode) → InTree problem p → InCost problem p
-  plan_of _ (root {plan = plan} h) = (plan, h)
-  plan_of _ (side {plan' = plan} s i h f k) = (plan, k)
-
-  -- nodes of the tree, with their plans
-  with_plans : (ps : List TreeNode) → AllByRecursion (InTree problem) ps → List PlannedNode
-  with_plans [] a = []
-  with_plans (p ∷ ps) a = (p, (plan_of p a.0).0) ∷ with_plans ps a.1
-
-  -- a member is among those of its node
-  In-with_plans : (ps : List TreeNode) (a : AllByRecursion (InTree problem) ps) (m : PlannedNode) → IsMember problem m → In ps m.0 → In (with_plans ps a) m
-  unfolding with_plans
-  In-with_plans [] a m h i = i
-  In-with_plans (p ∷ ps) a m h (inl e) = inl (λ i. (e i, same_plan problem m.0 (plan_of p a.0).0 m.1 (subst (λ q. HasPlan problem q (plan_of p a.0).0) e (plan_of p a.0).1) h.plan i))
-  In-with_plans (p ∷ ps) a m h (inr i) = inr (In-with_plans ps a.1 m h i)
-
   -- one for what isn't reached
   weight : {A : Type 0} → Dec A → ℕ
   weight (yes h) = 0
@@ -61,27 +41,24 @@ module _ (problem : Problem) where
   count_le from to (m ∷ ms) f = omega (arith, weight_le (dec_reached problem from m) (dec_reached problem to m) (f m), count_le from to ms f)
 
   -- and fewer, where one of them is reached then and wasn't before
-  count_lt : (from to : Option (List ℕ)) (ms : List PlannedNode) (x : PlannedNode) → ((m : PlannedNode) → IsReached from m → IsReached to m) → In ms x → ¬ IsReached from x → IsReached to x → count to ms < count from ms
+  count_lt : (from to : Option (List ℕ)) (ms : List PlannedNode) (x : PlannedNode) → ((m : PlannedNode) → IsReached from m → IsReached to m) → Contains ms x → ¬ IsReached from x → IsReached to x → count to ms < count from ms
   unfolding count
-  count_lt from to [] x f i n r = absurd i
-  count_lt from to (m ∷ ms) x f (inl e) n r =
-      omega (arith, weight_lt (dec_reached problem from m) (dec_reached problem to m) (subst (λ y. ¬ IsReached from y) (sym e) n) (subst (λ y. IsReached to y) (sym e) r), count_le from to ms f)
-  count_lt from to (m ∷ ms) x f (inr i) n r =
-      omega (arith, weight_le (dec_reached problem from m) (dec_reached problem to m) (f m), count_lt from to ms x f i n r)
+  count_lt from to [] x f i n r = absurd (nowhere i)
+  count_lt from to (m ∷ ms) x f i n r =
+      ⊎_elim
+      (λ e. omega (arith, weight_lt (dec_reached problem from m) (dec_reached problem to m) (subst (λ y. ¬ IsReached from y) (sym e) n) (subst (IsReached to) (sym e) r), count_le from to ms f))
+      (λ j. omega (arith, weight_le (dec_reached problem from m) (dec_reached problem to m) (f m), count_lt from to ms x f j n r)) (here_or_there ms i)
 
 -- the nodes of the tree that are not taken
 pub remaining : Problem → Option (List ℕ) → ℕ
-remaining p last = let t = tree p in count p last (with_plans p t.0 t.1)
+remaining p last = count p last (members p).0
 
 -- where one is reached that wasn't, all that was reached still is
 still_reached : (from to : Option (List ℕ)) (x m : PlannedNode) → ¬ IsReached from x → IsReached to x → IsReached from m → IsReached to m
 still_reached None to x m n r k = absurd k
 still_reached (Some a) None x m n r k = absurd r
-still_reached (Some a) (Some b) x m n r k = λ l. go l (dec_precedes a (key x))
-  where
-    go : Precedes b (key m) → Dec (Precedes a (key x)) → ⊥
-    go l (yes h) = k (transitive a (key x) (key m) h (le_before (key x) b (key m) r l))
-    go l (no h) = n h
+still_reached (Some a) (Some b) x m n r k =
+    λ l. n (λ h. k (transitive a (key x) (key m) h (le_before (key x) b (key m) r l)))
 
 -- the count falls with each node that is taken
 pub remaining_falls : (p q : Problem) (from to : Option (List ℕ)) → q ≡ p → TakesBetween q from to 1 → remaining q to < remaining p from
@@ -91,6 +68,5 @@ remaining_falls p q from to e t = subst (λ r. remaining q to < remaining r from
     falls : (taken : List PlannedNode) → length taken ≡ 1 → ((m : PlannedNode) → Contains taken m ↔ (IsMember q m × IsReached to m × ¬ IsReached from m)) → remaining q to < remaining q from
     falls [] l is = absurd (omega (arith, l))
     falls (x ∷ xs) l is =
-        let h = (is x).0 (Contains-In (x ∷ xs) x (inl refl)) in
-        let ps = tree q in
-        count_lt q from to (with_plans q ps.0 ps.1) x (λ m. still_reached from to x m h.2 h.1) (In-with_plans q ps.0 ps.1 x h.0 (ps.2 x.0 h.0.inside)) h.2 h.1
+        let h = (is x).0 (here xs refl) in
+        count_lt q from to (members q).0 x (λ m. still_reached from to x m h.2 h.1) ((members q).2 x h.0) h.2 h.1

@@ -1,17 +1,18 @@
 -- Nodes in strict order by key, and a list of them with one node put in.
-use Rattle.std.proofs.Common.{◌≡◌, ◌≢◌, ◌⊎◌, ◌↔◌, ℕ, List, [], ◌∷◌, Ordering, Less, Equal, Greater, nat_cmp, inl, inr, subst, sym, ap, ◌∙◌, Contains}
+use Rattle.std.proofs.Common.{◌≡◌, ℕ, List, [], ◌∷◌, Ordering, Less, Equal, Greater, nat_cmp, inl, inr, subst, sym, ap, ◌∙◌, ⊎_elim, Contains}
 use Rattle.std.specs.BTreeSet.{replace_key}
 use Rattle.std.specs.Cmp.{IsTotalOrder, nat_cmp_total, tied_itself}
 use Rattle.std.specs.Cmp.Lexicographic.{slice_cmp, lists_total}
 use Rattle.std.specs.List.{AllByRecursion}
 use Rattle.std.specs.List.Sorted.{IsStrictlySortedBy}
 use Rattle.std.specs.Ordering.{on, match_ordering, ordering_reverse}
+use Rattle.std.proofs.lemmas.List.Elements.{All-contains, All-from_recursion}
 use Rattle.mapf_grid.specs.Least.{Precedes}
-use Rattle.mapf_grid.proofs.Orders.{In, compare, irreflexive, transitive}
+use Rattle.mapf_grid.proofs.Members.{nowhere, here, there, here_or_there}
+use Rattle.mapf_grid.proofs.Ranks.{by_compare, before_is_other, transitive}
 use Rattle.mapf_tree.specs.Nodes.{Node, node_key}
 use Rattle.mapf_tree.specs.OpenList.{IsRising, IsPut}
 use Rattle.mapf_tree.proofs.Keyed.{Precedes-slice_cmp}
-use Rattle.mapf_tree.proofs.Members.{Contains-In, In-Contains, All-In}
 
 -- nodes are compared by their keys
 abbrev pub by_key : Node → Node → Ordering
@@ -31,10 +32,6 @@ lesser_rank p q h = (Precedes-slice_cmp p q).1 h
 greater_rank : (p q : List ℕ) → Precedes q p → slice_cmp nat_cmp p q ≡ Greater
 greater_rank p q h = total.antisymm p q ∙ ap ordering_reverse (lesser_rank q p h)
 
--- what comes before is another rank
-before_is_other : (p q : List ℕ) → Precedes p q → p ≢ q
-before_is_other p q h e = irreflexive q (subst (λ r. Precedes r q) e h)
-
 -- nodes that std sorted come before one another
 all_after : (n : Node) (ns : List Node) → AllByRecursion (λ m. by_key n m ≡ Less) ns → AllByRecursion (λ m. Precedes (node_key n) (node_key m)) ns
 all_after n [] a = tt
@@ -46,104 +43,54 @@ unfolding IsStrictlySortedBy
 rises [] s = tt
 rises (n ∷ ns) s = (all_after n ns s.0, rises ns s.1)
 
--- what is in a list with the node k put in
-abbrev PutIn : List Node → Node → List Node → Type 0
-PutIn old k new = (n : Node) → In new n ↔ ((n ≡ k) ⊎ (In old n × (node_key n ≢ node_key k)))
+-- a node that comes before all of a list is put in front
+in_front : (k : Node) (ns : List Node) → ((n : Node) → Contains ns n → Precedes (node_key k) (node_key n)) → IsPut ns k (k ∷ ns)
+in_front k ns all n = (
+  (λ c. ⊎_elim (λ e. inl (sym e)) (λ i. inr (i, λ f. before_is_other (node_key k) (node_key n) (all n i) (sym f))) (here_or_there ns c)),
+  ⊎_elim (λ e. here ns (sym e)) (λ i. there ns i.0),
+)
 
 -- std's replacement puts the node in
-put_in : (ns : List Node) (k : Node) → IsRising ns → PutIn ns k (replace_key by_key ns k)
-put_in [] k r n = ((λ i. forth i), (λ s. back s))
+put_in : (ns : List Node) (k : Node) → IsRising ns → IsPut ns k (replace_key by_key ns k)
+put_in [] k r = in_front k [] (λ n i. absurd (nowhere i))
+put_in (x ∷ xs) k r =
+    by_compare (node_key k) (node_key x)
+    (λ e. subst (λ o. IsPut (x ∷ xs) k (placed o)) (sym (equal_ranks (node_key k) (node_key x) e)) (same e))
+    (λ h. subst (λ o. IsPut (x ∷ xs) k (placed o)) (sym (lesser_rank (node_key k) (node_key x) h)) (less h))
+    (λ h. subst (λ o. IsPut (x ∷ xs) k (placed o)) (sym (greater_rank (node_key k) (node_key x) h)) (more (put_in xs k r.1) h))
   where
-    forth : (k ≡ n) ⊎ ⊥ → (n ≡ k) ⊎ (⊥ × (node_key n ≢ node_key k))
-    forth (inl e) = inl (sym e)
-    forth (inr i) = absurd i
-
-    back : (n ≡ k) ⊎ (⊥ × (node_key n ≢ node_key k)) → (k ≡ n) ⊎ ⊥
-    back (inl e) = inl (sym e)
-    back (inr i) = absurd i.0
-put_in (x ∷ xs) k r n = by (put_in xs k r.1 n) (compare (node_key k) (node_key x))
-  where
-    Goal : List Node → Type 0
-    Goal new = In new n ↔ ((n ≡ k) ⊎ (In (x ∷ xs) n × (node_key n ≢ node_key k)))
-
-    later : In xs n → Precedes (node_key x) (node_key n)
-    later i = All-In (λ m. Precedes (node_key x) (node_key m)) xs n r.0 i
-
-    -- before all
-    less : Precedes (node_key k) (node_key x) → Goal (k ∷ x ∷ xs)
-    less h = (forth, back)
-      where
-        other : (x ≡ n) ⊎ In xs n → node_key n ≢ node_key k
-        other (inl e) f = before_is_other (node_key k) (node_key x) h (sym f ∙ ap node_key (sym e))
-        other (inr i) f = before_is_other (node_key k) (node_key n) (transitive (node_key k) (node_key x) (node_key n) h (later i)) (sym f)
-
-        forth : (k ≡ n) ⊎ ((x ≡ n) ⊎ In xs n) → (n ≡ k) ⊎ (((x ≡ n) ⊎ In xs n) × (node_key n ≢ node_key k))
-        forth (inl e) = inl (sym e)
-        forth (inr i) = inr (i, other i)
-
-        back : (n ≡ k) ⊎ (((x ≡ n) ⊎ In xs n) × (node_key n ≢ node_key k)) → (k ≡ n) ⊎ ((x ≡ n) ⊎ In xs n)
-        back (inl e) = inl (sym e)
-        back (inr i) = inr i.0
-
-    -- in the place of one with its key
-    same : node_key k ≡ node_key x → Goal (k ∷ xs)
-    same h = (forth, back)
-      where
-        forth : (k ≡ n) ⊎ In xs n → (n ≡ k) ⊎ (((x ≡ n) ⊎ In xs n) × (node_key n ≢ node_key k))
-        forth (inl e) = inl (sym e)
-        forth (inr i) = inr (inr i, (λ f. before_is_other (node_key x) (node_key n) (later i) (sym h ∙ sym f)))
-
-        back : (n ≡ k) ⊎ (((x ≡ n) ⊎ In xs n) × (node_key n ≢ node_key k)) → (k ≡ n) ⊎ In xs n
-        back (inl e) = inl (sym e)
-        back (inr (inl e, f)) = absurd (f (ap node_key (sym e) ∙ sym h))
-        back (inr (inr i, f)) = inr i
-
-    -- after the first
-    more : (In (replace_key by_key xs k) n ↔ ((n ≡ k) ⊎ (In xs n × (node_key n ≢ node_key k)))) → Precedes (node_key x) (node_key k) → Goal (x ∷ replace_key by_key xs k)
-    more rest h = (forth, back)
-      where
-        wider : (n ≡ k) ⊎ (In xs n × (node_key n ≢ node_key k)) → (n ≡ k) ⊎ (((x ≡ n) ⊎ In xs n) × (node_key n ≢ node_key k))
-        wider (inl e) = inl e
-        wider (inr i) = inr (inr i.0, i.1)
-
-        forth : (x ≡ n) ⊎ In (replace_key by_key xs k) n → (n ≡ k) ⊎ (((x ≡ n) ⊎ In xs n) × (node_key n ≢ node_key k))
-        forth (inl e) = inr (inl e, (λ f. before_is_other (node_key x) (node_key k) h (ap node_key e ∙ f)))
-        forth (inr i) = wider (rest.0 i)
-
-        back : (n ≡ k) ⊎ (((x ≡ n) ⊎ In xs n) × (node_key n ≢ node_key k)) → (x ≡ n) ⊎ In (replace_key by_key xs k) n
-        back (inl e) = inr (rest.1 (inl e))
-        back (inr (inl e, f)) = inl e
-        back (inr (inr i, f)) = inr (rest.1 (inr (i, f)))
-
     placed : Ordering → List Node
     placed o = match_ordering o (k ∷ x ∷ xs) (k ∷ xs) (x ∷ replace_key by_key xs k)
 
-    by : (In (replace_key by_key xs k) n ↔ ((n ≡ k) ⊎ (In xs n × (node_key n ≢ node_key k)))) → (node_key k ≡ node_key x) ⊎ (Precedes (node_key k) (node_key x) ⊎ Precedes (node_key x) (node_key k)) → Goal (placed (by_key k x))
-    by rest (inl e) = subst (λ o. Goal (placed o)) (sym (equal_ranks (node_key k) (node_key x) e)) (same e)
-    by rest (inr (inl h)) = subst (λ o. Goal (placed o)) (sym (lesser_rank (node_key k) (node_key x) h)) (less h)
-    by rest (inr (inr h)) = subst (λ o. Goal (placed o)) (sym (greater_rank (node_key k) (node_key x) h)) (more rest h)
+    later : (n : Node) → Contains xs n → Precedes (node_key x) (node_key n)
+    later n = All-contains (λ m. Precedes (node_key x) (node_key m)) xs n (All-from_recursion (λ m. Precedes (node_key x) (node_key m)) xs r.0)
 
--- said of std's membership
-pub replace_key-puts : (ns : List Node) (k : Node) → IsRising ns → IsPut ns k (replace_key by_key ns k)
-replace_key-puts ns k r n = ((λ c. forth (is.0 (In-Contains new n c))), (λ s. Contains-In new n (is.1 (back s))))
-  where
-    new : List Node
-    new = replace_key by_key ns k
+    -- before all
+    less : Precedes (node_key k) (node_key x) → IsPut (x ∷ xs) k (k ∷ x ∷ xs)
+    less h = in_front k (x ∷ xs) (λ n i.
+        ⊎_elim (λ e. subst (λ m. Precedes (node_key k) (node_key m)) e h) (λ j. transitive (node_key k) (node_key x) (node_key n) h (later n j)) (here_or_there xs i))
 
-    is : In (replace_key by_key ns k) n ↔ ((n ≡ k) ⊎ (In ns n × (node_key n ≢ node_key k)))
-    is = put_in ns k r n
+    -- in the place of one with its key
+    same : node_key k ≡ node_key x → IsPut (x ∷ xs) k (k ∷ xs)
+    same h n =
+        let put = in_front k xs (λ m j. subst (λ key. Precedes key (node_key m)) (sym h) (later m j)) n in (
+          (λ c. ⊎_elim inl (λ i. inr (there xs i.0, i.1)) (put.0 c)),
+          λ s. put.1 (⊎_elim inl (λ i. ⊎_elim (λ e. absurd (i.1 (ap node_key (sym e) ∙ sym h))) (λ j. inr (j, i.1)) (here_or_there xs i.0)) s),
+        )
 
-    forth : (n ≡ k) ⊎ (In ns n × (node_key n ≢ node_key k)) → (n ≡ k) ⊎ (Contains ns n × (node_key n ≢ node_key k))
-    forth (inl e) = inl e
-    forth (inr i) = inr (Contains-In ns n i.0, i.1)
-
-    back : (n ≡ k) ⊎ (Contains ns n × (node_key n ≢ node_key k)) → (n ≡ k) ⊎ (In ns n × (node_key n ≢ node_key k))
-    back (inl e) = inl e
-    back (inr i) = inr (In-Contains ns n i.0, i.1)
+    -- after the first
+    more : IsPut xs k (replace_key by_key xs k) → Precedes (node_key x) (node_key k) → IsPut (x ∷ xs) k (x ∷ replace_key by_key xs k)
+    more put h n =
+        let new = replace_key by_key xs k in (
+          (λ c.
+              ⊎_elim (λ e. inr (here xs e, λ f. before_is_other (node_key x) (node_key k) h (ap node_key e ∙ f)))
+              (λ i. ⊎_elim inl (λ s. inr (there xs s.0, s.1)) ((put n).0 i)) (here_or_there new c)),
+          ⊎_elim (λ e. there new ((put n).1 (inl e))) (λ s. ⊎_elim (here new) (λ j. there new ((put n).1 (inr (j, s.1)))) (here_or_there xs s.0)),
+        )
 
 -- as the open list does it
 pub put_from : (old keys new : List Node) (k : Node) → keys ≡ old → IsRising keys → new ≡ replace_key by_key keys k → IsPut old k new
-put_from old keys new k e r is = subst (λ xs. IsPut xs k new) e (subst (λ ys. IsPut keys k ys) (sym is) (replace_key-puts keys k r))
+put_from old keys new k e r is = subst (λ xs. IsPut xs k new) e (subst (λ ys. IsPut keys k ys) (sym is) (put_in keys k r))
 
 -- without its first node it still rises
 pub rises-tail : (n : Node) (keys new : List Node) → keys ≡ n ∷ new → IsRising keys → IsRising new

@@ -1,8 +1,9 @@
 -- The turns of a search.
-use Rattle.std.proofs.Common.{◌≡◌, ◌≢◌, ◌⊎◌, ◌↔◌, ℕ, zero, suc, ◌<◌, ◌≤◌, List, [], ◌∷◌, length, get_or, set, Option, Some, None, inl, inr, subst, sym, refl, ap, ◌∙◌, arith, length-append, Contains}
+use Rattle.std.proofs.Common.{◌≡◌, ◌≢◌, ◌⊎◌, ◌↔◌, ℕ, zero, suc, ◌<◌, ◌≤◌, List, [], ◌∷◌, length, get_or, set, Option, Some, None, inl, inr, subst, sym, refl, ap, ◌∙◌, ⊎_elim, arith, length-append, Contains}
 use Rattle.std.proofs.lemmas.Bool.{cases_lt}
 use Rattle.mapf_grid.specs.Least.{Precedes, IsLeast}
-use Rattle.mapf_grid.proofs.Orders.{compare, irreflexive, transitive, dec_precedes, le_before}
+use Rattle.mapf_grid.proofs.Ranks.{by_compare, irreflexive, transitive, dec_precedes, le_before}
+use Rattle.mapf_grid.proofs.Decide.{by_cases, dec_not}
 use Rattle.mapf_grid.proofs.Lists.{sum_by-le}
 use Rattle.mapf_plan.specs.Path.{cost}
 use Rattle.mapf_plan.specs.declared.conflict.Conflict.{Conflict}
@@ -12,7 +13,7 @@ use Rattle.mapf_low.specs.Constraints.{Obeys}
 use Rattle.mapf_low.proofs.OwnPaths.{own_path_costs}
 use Rattle.mapf_tree.specs.Problem.{Problem}
 use Rattle.mapf_tree.specs.declared.side.Side.{Side}
-use Rattle.mapf_tree.specs.Tree.{TreeNode, HasPlan, InTree, root, side, side_of, constraint_on, agent_on, root_of, key, IsSolution, IsFirstSolution, IsAnswer, PlannedNode, IsMember}
+use Rattle.mapf_tree.specs.Tree.{TreeNode, HasPlan, InTree, root, side, side_of, constraint_on, agent_on, root_of, key, IsFirstSolution, IsAnswer, PlannedNode, IsMember}
 use Rattle.mapf_tree.specs.Search.{IsReached, IsChild, IsWaiting}
 use Rattle.mapf_tree.specs.Turns.{IsSearchAt, IsTurn, TurnTakesNext, EndsAtAnswer, SearchStarts}
 use Rattle.mapf_tree.proofs.Plans.{AllowedAt}
@@ -40,26 +41,15 @@ module _ (problem : Problem) where
 
   -- each child comes after its parent
   pub parent_before : (p c : PlannedNode) → IsMember problem p → IsMember problem c → IsChild p c → Precedes (key p) (key c)
-  parent_before p c m n h = go (cases_lt (plan_cost p.1) (plan_cost c.1))
-    where
-      costs : plan_cost p.1 ≤ plan_cost c.1
-      costs = side_costs p.0 h.conflict h.turn p.1 c.1 m.plan (subst (λ x. HasPlan problem x c.1) h.is n.plan)
-
-      deeper : length p.0.name < length c.0.name
-      deeper = omega (arith, ap (λ x. length x.name) h.is, length-append p.0.name (h.turn ∷ []))
-
-      go : (plan_cost p.1 < plan_cost c.1) ⊎ (plan_cost c.1 ≤ plan_cost p.1) → Precedes (key p) (key c)
-      go (inl l) = inl l
-      go (inr l) = inr (omega (arith, l, costs), inl deeper)
+  parent_before p c m n h =
+      let costs = side_costs p.0 h.conflict h.turn p.1 c.1 m.plan (subst (λ x. HasPlan problem x c.1) h.is n.plan) in
+      let deeper : length p.0.name < length c.0.name = omega (arith, ap (λ x. length x.name) h.is, length-append p.0.name (h.turn ∷ [])) in
+      ⊎_elim inl (λ l. inr (omega (arith, l, costs), inl deeper)) (cases_lt (plan_cost p.1) (plan_cost c.1))
 
   -- whether a node was reached can be decided
   pub dec_reached : (last : Option (List ℕ)) (m : PlannedNode) → Dec (IsReached last m)
   dec_reached None m = no (λ h. h)
-  dec_reached (Some l) m = go (dec_precedes l (key m))
-    where
-      go : Dec (Precedes l (key m)) → Dec (¬ Precedes l (key m))
-      go (yes h) = no (λ n. n h)
-      go (no n) = yes n
+  dec_reached (Some l) m = dec_not (dec_precedes l (key m))
 
   -- what isn't reached is at or below one that waits, whose key is at most its own
   waits_above : (last : Option (List ℕ)) (p : TreeNode) (plan : List (List ℕ)) → InTree problem p → HasPlan problem p plan → ¬ IsReached last (p, plan) → (w : PlannedNode) × IsWaiting problem last w × (¬ Precedes (key (p, plan)) (key w))
@@ -100,16 +90,9 @@ module _ (problem : Problem) where
 
     -- what is reached now was reached before, or is x
     pub reached_now : (m : PlannedNode) → IsMember problem m → IsReached (Some (key x)) m → IsReached last m ⊎ (m ≡ x)
-    reached_now m h r = go (dec_reached last m)
-      where
-        equal : ¬ IsReached last m → (key m ≡ key x) ⊎ (Precedes (key m) (key x) ⊎ Precedes (key x) (key m)) → m ≡ x
-        equal n (inl e) = same_member problem m x h x_waits.member e
-        equal n (inr (inl l)) = absurd (none_between m h n l)
-        equal n (inr (inr l)) = absurd (r l)
-
-        go : Dec (IsReached last m) → IsReached last m ⊎ (m ≡ x)
-        go (yes k) = inl k
-        go (no n) = inr (equal n (compare (key m) (key x)))
+    reached_now m h r =
+        by_cases (dec_reached last m) inl (λ n. inr
+        (by_compare (key m) (key x) (same_member problem m x h x_waits.member) (λ l. absurd (none_between m h n l)) (λ l. absurd (r l))))
 
     -- and the other way round
     pub reached_then : (m : PlannedNode) → IsReached last m ⊎ (m ≡ x) → IsReached (Some (key x)) m
@@ -118,66 +101,56 @@ module _ (problem : Problem) where
 
     -- what waits then waited before and isn't x, or is a side of x
     pub next_waits : (Next : PlannedNode → Type 0) → IsTurn problem Waits x Next → (m : PlannedNode) → Next m ↔ IsWaiting problem (Some (key x)) m
-    next_waits Next is m = ((λ c. forth ((is m).0 c)), (λ w. (is m).1 (back w w.from)))
+    next_waits Next is m = ((λ c. ⊎_elim old new ((is m).0 c)), (λ w. (is m).1 (back w)))
       where
-        origin : (m.0 ≡ root_of problem) ⊎ ((p : PlannedNode) × IsMember problem p × IsReached last p × IsChild p m) → (m.0 ≡ root_of problem) ⊎ ((p : PlannedNode) × IsMember problem p × IsReached (Some (key x)) p × IsChild p m)
-        origin (inl e) = inl e
-        origin (inr p) = inr (p.0, p.1, reached_then p.0 (inl p.2), p.3)
-
-        old : IsWaiting problem last m → m ≢ x → IsReached last m ⊎ (m ≡ x) → ⊥
-        old w n (inl r) = w.open_yet r
-        old w n (inr e) = n e
-
-        forth : (Waits m × (m ≢ x)) ⊎ (IsMember problem m × IsChild x m) → IsWaiting problem (Some (key x)) m
-        forth (inl c) =
+        old : Waits m × (m ≢ x) → IsWaiting problem (Some (key x)) m
+        old c =
             let w = (at.waits m).0 c.0 in
-            record { member = w.member; open_yet = λ r. old w c.1 (reached_now m w.member r); from = origin w.from }
-        forth (inr c) =
-            record { member = c.0; open_yet = λ r. r (parent_before x m x_waits.member c.0 c.1); from = inr (x, x_waits.member, reached_then x (inr refl), c.1) }
+            record {
+              member = w.member;
+              open_yet = λ r. ⊎_elim w.open_yet c.1 (reached_now m w.member r);
+              from = ⊎_elim inl (λ p. inr (p.0, p.1, reached_then p.0 (inl p.2), p.3)) w.from;
+            }
 
-        back : IsWaiting problem (Some (key x)) m → (m.0 ≡ root_of problem) ⊎ ((p : PlannedNode) × IsMember problem p × IsReached (Some (key x)) p × IsChild p m) → (Waits m × (m ≢ x)) ⊎ (IsMember problem m × IsChild x m)
-        back w (inl e) = inl ((at.waits m).1 (record { member = w.member; open_yet = λ r. w.open_yet (reached_then m (inl r)); from = inl e }), (λ e. w.open_yet (reached_then m (inr e))))
-        back w (inr p) = by (reached_now p.0 p.1 p.2)
+        new : IsMember problem m × IsChild x m → IsWaiting problem (Some (key x)) m
+        new c = record { member = c.0; open_yet = λ r. r (parent_before x m x_waits.member c.0 c.1); from = inr (x, x_waits.member, reached_then x (inr refl), c.1) }
+
+        back : IsWaiting problem (Some (key x)) m → (Waits m × (m ≢ x)) ⊎ (IsMember problem m × IsChild x m)
+        back w =
+            ⊎_elim (λ e. inl (waited (inl e)))
+            (λ p. ⊎_elim (λ r. inl (waited (inr (p.0, p.1, r, p.3)))) (λ e. inr (w.member, subst (λ y. IsChild y m) e p.3)) (reached_now p.0 p.1 p.2)) w.from
           where
-            by : IsReached last p.0 ⊎ (p.0 ≡ x) → (Waits m × (m ≢ x)) ⊎ (IsMember problem m × IsChild x m)
-            by (inl r) = inl ((at.waits m).1 (record { member = w.member; open_yet = λ r. w.open_yet (reached_then m (inl r)); from = inr (p.0, p.1, r, p.3) }), (λ e. w.open_yet (reached_then m (inr e))))
-            by (inr e) = inr (w.member, subst (λ y. IsChild y m) e p.3)
+            waited : (m.0 ≡ root_of problem) ⊎ ((p : PlannedNode) × IsMember problem p × IsReached last p × IsChild p m) → Waits m × (m ≢ x)
+            waited from = ((at.waits m).1 (record { member = w.member; open_yet = λ r. w.open_yet (reached_then m (inl r)); from = from }), λ e. w.open_yet (reached_then m (inr e)))
 
     -- so the search goes on
     turn_takes_next : (Next : PlannedNode → Type 0) → ¬ HasNoConflict x.1 → IsTurn problem Waits x Next → IsSearchAt problem (Some (key x)) Next
-    turn_takes_next Next conflict is = record { waits = next_waits Next is; none_yet = λ m h r. none m (reached_now m h r) h }
-      where
-        none : (m : PlannedNode) → IsReached last m ⊎ (m ≡ x) → IsMember problem m → ¬ HasNoConflict m.1
-        none m (inl r) h = at.none_yet m h r
-        none m (inr e) h = λ n. conflict (subst (λ y. HasNoConflict y.1) e n)
+    turn_takes_next Next conflict is =
+        record { waits = next_waits Next is; none_yet = λ m h r. ⊎_elim (at.none_yet m h) (λ e n. conflict (subst (λ y. HasNoConflict y.1) e n)) (reached_now m h r) }
 
     -- all that comes before x is reached, and no solution
     pub ends_at_first : HasNoConflict x.1 → IsFirstSolution problem x
     ends_at_first none =
         record {
           member = record { planned = x_waits.member; no_conflict = none };
-          least = λ y s l. go y s l (dec_reached last y);
+          least = λ y s l. by_cases (dec_reached last y) (λ r. at.none_yet y s.planned r s.no_conflict) (λ n. none_between y s.planned n l);
         }
-      where
-        go : (y : PlannedNode) → IsSolution problem y → Precedes (key y) (key x) → Dec (IsReached last y) → ⊥
-        go y s l (yes r) = at.none_yet y s.planned r s.no_conflict
-        go y s l (no n) = none_between y s.planned n l
 
   -- if none waits, all of the tree is reached
   pub ends_at_none : (last : Option (List ℕ)) (Waits : PlannedNode → Type 0) → IsSearchAt problem last Waits → ((x : PlannedNode) → ¬ Waits x) → IsAnswer problem None
-  ends_at_none last Waits at empty y s = go (dec_reached last y)
-    where
-      go : Dec (IsReached last y) → ⊥
-      go (yes r) = at.none_yet y s.planned r s.no_conflict
-      go (no n) = let w = waits_above last y.0 y.1 s.planned.inside s.planned.plan n in empty w.0 ((at.waits w.0).1 w.1)
+  ends_at_none last Waits at empty y s =
+      by_cases (dec_reached last y) (λ r. at.none_yet y s.planned r s.no_conflict)
+      (λ n. let w = waits_above last y.0 y.1 s.planned.inside s.planned.plan n in empty w.0 ((at.waits w.0).1 w.1))
 
   -- nothing is reached, so the root alone waits
   pub starts : (Waits : PlannedNode → Type 0) → ((m : PlannedNode) → Waits m ↔ (IsMember problem m × (m.0 ≡ root_of problem))) → IsSearchAt problem None Waits
-  starts Waits is = record { waits = λ m. ((λ c. let h = (is m).0 c in record { member = h.0; open_yet = λ r. r; from = inl h.1 }), (λ w. (is m).1 (w.member, at_root m w.from))); none_yet = λ m h r. absurd r }
-    where
-      at_root : (m : PlannedNode) → (m.0 ≡ root_of problem) ⊎ ((p : PlannedNode) × IsMember problem p × ⊥ × IsChild p m) → m.0 ≡ root_of problem
-      at_root m (inl e) = e
-      at_root m (inr p) = absurd p.2
+  starts Waits is = record {
+    waits = λ m. (
+      (λ c. let h = (is m).0 c in record { member = h.0; open_yet = λ r. r; from = inl h.1 }),
+      (λ w. (is m).1 (w.member, ⊎_elim (λ e. e) (λ p. absurd p.2) w.from)),
+    );
+    none_yet = λ m h r. absurd r;
+  }
 
 -- a turn takes the next node
 pub turn_law : TurnTakesNext

@@ -1,8 +1,7 @@
 -- From a search for the agent of one side of a node's conflict to that side of the tree.
-use Rattle.std.proofs.Common.{◌≡◌, ◌⊎◌, ◌↔◌, ℕ, ◌+◌, ◌<◌, ◌≤◌, List, [], ◌∷◌, ◌++◌, length, get_or, set, Option, Some, None, inl, inr, subst, sym, ap, ◌∙◌, arith, Contains, get_or-set_same, get_or-set_other}
+use Rattle.std.proofs.Common.{◌≡◌, ℕ, ◌+◌, ◌<◌, ◌≤◌, List, [], ◌∷◌, ◌++◌, length, get_or, set, Option, Some, None, subst, subst₂, sym, ap, ◌∙◌, arith, get_or-set_same, get_or-set_other}
 use Rattle.std.proofs.lemmas.List.{length-set}
 use Rattle.std.proofs.lemmas.List.Sums.{sum_by-set, get_or-le-sum_by}
-use native.Mathlib.Decide.{ℕ_discrete}
 use Rattle.mapf_plan.specs.declared.conflict.Conflict.{Conflict}
 use Rattle.mapf_plan.specs.Path.{cost}
 use Rattle.mapf_plan.specs.Plan.{IsFirstConflict, path_of, plan_cost}
@@ -15,51 +14,11 @@ use Rattle.mapf_tree.specs.Tree.{IsOwnPathOf, TreeNode, HasPlan, side, side_of, 
 use Rattle.mapf_tree.specs.Nodes.{Changed, AreChanges, turned, Node, StandsFor, IsConflictOf, IsSameSet}
 use Rattle.mapf_tree.specs.Family.{IsSide, IsOwn, IsOwnWithin, Leaves}
 use Rattle.mapf_tree.specs.Laws.{NoneIsDearer}
-use Rattle.mapf_grid.proofs.Orders.{In}
+use Rattle.mapf_grid.proofs.Lists.{set_cases}
 use Rattle.mapf_tree.proofs.Branch.{agent_below}
 use Rattle.mapf_tree.proofs.Measure.{grown_all}
-use Rattle.mapf_tree.proofs.Members.{Contains-In, In-Contains}
+use Rattle.mapf_tree.proofs.ConstraintSets.{IsWith, with_front, IsWith-cons}
 use Rattle.mapf_tree.proofs.Plans.{OwnAt, same_paths}
-
--- what one set more holds
-abbrev pub IsWith : Constraint → List Constraint → List Constraint → Type 0
-IsWith k old more = (x : Constraint) → Contains more x ↔ ((x ≡ k) ⊎ Contains old x)
-
--- a list with one element in front is the set with that element more
-IsWith-cons : (k : Constraint) (cs old more : List Constraint) → IsSameSet old cs → IsWith k old more → IsSameSet more (k ∷ cs)
-IsWith-cons k cs old more same is x = ((λ h. forth ((is x).0 h)), (λ h. back (In-Contains (k ∷ cs) x h)))
-  where
-    forth : (x ≡ k) ⊎ Contains old x → Contains (k ∷ cs) x
-    forth (inl e) = Contains-In (k ∷ cs) x (inl (sym e))
-    forth (inr h) = Contains-In (k ∷ cs) x (inr (In-Contains cs x ((same x).0 h)))
-
-    back : (k ≡ x) ⊎ In cs x → Contains more x
-    back (inl e) = (is x).1 (inl (sym e))
-    back (inr h) = (is x).1 (inr ((same x).1 (Contains-In cs x h)))
-
--- a set with one constraint more in front is one with it more
-with_front : (k : Constraint) (old : List Constraint) → IsWith k old (k ∷ old)
-with_front k old x = ((λ h. forth (In-Contains (k ∷ old) x h)), back)
-  where
-    forth : (k ≡ x) ⊎ In old x → (x ≡ k) ⊎ Contains old x
-    forth (inl e) = inl (sym e)
-    forth (inr h) = inr (Contains-In old x h)
-
-    back : (x ≡ k) ⊎ Contains old x → Contains (k ∷ old) x
-    back (inl e) = Contains-In (k ∷ old) x (inl (sym e))
-    back (inr h) = Contains-In (k ∷ old) x (inr (In-Contains old x h))
-
--- one constraint more than a set of the same constraints has
-pub with_same : (k : Constraint) (old same more : List Constraint) → IsSameSet old same → IsWith k old more → IsWith k same more
-with_same k old same more is after x = ((λ h. forth ((after x).0 h)), (λ h. (after x).1 (back h)))
-  where
-    forth : (x ≡ k) ⊎ Contains old x → (x ≡ k) ⊎ Contains same x
-    forth (inl e) = inl e
-    forth (inr h) = inr ((is x).0 h)
-
-    back : (x ≡ k) ⊎ Contains same x → (x ≡ k) ⊎ Contains old x
-    back (inl e) = inl e
-    back (inr h) = inr ((is x).1 h)
 
 -- what was searched: agent a under one constraint k more than it had at the node
 pub record IsSearched (p : Problem) (node : Node) (c : Conflict) (s : Side) (a limit : ℕ) (k : Constraint) (more : List Constraint) (found : Option (List ℕ)) : Type 0 where
@@ -118,21 +77,11 @@ module _ (p : Problem) (node : Node) (m : PlannedNode) (c : Conflict) (s : Side)
 
   -- with that path the plan has the own path of every agent on this side
   own_there : (path : List ℕ) → IsOwn p (agent_on c s) (constraints_of there (agent_on c s)) (Some path) → (i : ℕ) → i < length p.inst.starts → OwnAt p there i (path_of (set node.plan (agent_on c s) path) i)
-  own_there path own i h = go (ℕ_discrete i (agent_on c s))
-    where
-      At : ℕ → List Constraint → List ℕ → Type 0
-      At j cs q = IsOwnPathOf p j cs q
-
-      go : Dec (i ≡ agent_on c s) → OwnAt p there i (path_of (set node.plan (agent_on c s) path) i)
-      go (yes e) =
-          let new : path_of (set node.plan (agent_on c s) path) (agent_on c s) ≡ path = get_or-set_same node.plan (agent_on c s) path [] in_plan in
-          subst (λ j. OwnAt p there j (path_of (set node.plan (agent_on c s) path) j)) (sym e)
-          (subst (At (agent_on c s) (constraints_of there (agent_on c s))) (sym new) own)
-      go (no ne) =
-          let cs : constraints_of there i ≡ constraints_of m.0 i = get_or-set_other m.0.constraints (agent_on c s) i _ [] ne in
-          let q : path_of (set node.plan (agent_on c s) path) i ≡ path_of m.1 i = get_or-set_other node.plan (agent_on c s) i path [] ne ∙ ap (λ l. path_of l i) shows.plan in
-          subst (λ l. At i l (path_of (set node.plan (agent_on c s) path) i)) (sym cs)
-          (subst (At i (constraints_of m.0 i)) (sym q) (shows.member.plan.own i h))
+  own_there path own i h =
+      let inside : i < length node.plan = subst (λ n. i < n) (sym (ap length shows.plan ∙ shows.member.plan.agents)) h in
+      set_cases (OwnAt p there i) node.plan (agent_on c s) i path [] inside (λ e. subst (λ j. OwnAt p there j path) e own)
+      (λ ne. subst₂ (λ cs q. IsOwnPathOf p i cs q) (sym (get_or-set_other m.0.constraints (agent_on c s) i _ [] (λ e. ne (sym e))))
+      (ap (λ l. path_of l i) (sym shows.plan)) (shows.member.plan.own i h))
 
   -- what a path may cost, and what the plan costs with it
   costs_with : (limit : ℕ) (path : List ℕ) → Leaves p node.plan (agent_on c s) limit → plan_cost (set node.plan (agent_on c s) path) + limit ≡ p.bound + cost path
@@ -195,7 +144,7 @@ module _ (p : Problem) (node : Node) (m : PlannedNode) (c : Conflict) (s : Side)
         changes = subst (AreChanges p there plan) (sym (changes ∙ ap (λ x. node.changes ++ x ∷ []) change)) (turned s shows.changes first has);
         plan = stand;
         agents = ap length constraints ∙ length-set node.constraints a _ ∙ shows.agents;
-        sets = λ i h. subst (λ l. IsSameSet (get_or l i []) (constraints_of there i)) (sym renamed) (sets i h (ℕ_discrete i (agent_on c s)));
+        sets = λ i h. subst (λ l. IsSameSet (get_or l i []) (constraints_of there i)) (sym renamed) (sets i h);
         conflict = subst (λ q. IsConflictOf q new.conflict) (sym stand) conflict;
       },
     )
@@ -217,17 +166,8 @@ module _ (p : Problem) (node : Node) (m : PlannedNode) (c : Conflict) (s : Side)
         renamed : new.constraints ≡ set node.constraints (agent_on c s) own_set
         renamed = constraints ∙ ap (λ j. set node.constraints j (k ∷ get_or node.constraints j [])) searched.agent ∙ ap (λ x. set node.constraints (agent_on c s) (x ∷ get_or node.constraints (agent_on c s) [])) searched.forbidden
 
-        at_agent : get_or (set node.constraints (agent_on c s) own_set) (agent_on c s) [] ≡ own_set
-        at_agent = get_or-set_same node.constraints (agent_on c s) own_set [] (omega (arith, agent_inside, shows.agents))
-
-        same : IsSameSet own_set (constraints_of there (agent_on c s))
-        same = set_there own_set (with_front (constraint_on c s) (get_or node.constraints (agent_on c s) []))
-
-        sets : (i : ℕ) → i < length p.inst.starts → Dec (i ≡ agent_on c s) → IsSameSet (get_or (set node.constraints (agent_on c s) own_set) i []) (constraints_of there i)
-        sets i h (yes e) =
-            subst (λ j. IsSameSet (get_or (set node.constraints (agent_on c s) own_set) j []) (constraints_of there j)) (sym e)
-            (subst (λ l. IsSameSet l (constraints_of there (agent_on c s))) (sym at_agent) same)
-        sets i h (no ne) =
-            let now : get_or (set node.constraints (agent_on c s) own_set) i [] ≡ get_or node.constraints i [] = get_or-set_other node.constraints (agent_on c s) i own_set [] ne in
-            let cs : constraints_of there i ≡ constraints_of m.0 i = get_or-set_other m.0.constraints (agent_on c s) i _ [] ne in
-            subst (λ l. IsSameSet l (constraints_of there i)) (sym now) (subst (IsSameSet (get_or node.constraints i [])) (sym cs) (shows.sets i h))
+        sets : (i : ℕ) → i < length p.inst.starts → IsSameSet (get_or (set node.constraints (agent_on c s) own_set) i []) (constraints_of there i)
+        sets i h =
+            set_cases (λ l. IsSameSet l (constraints_of there i)) node.constraints (agent_on c s) i own_set [] (omega (arith, h, shows.agents))
+            (λ e. subst (λ j. IsSameSet own_set (constraints_of there j)) e (set_there own_set (with_front (constraint_on c s) (get_or node.constraints (agent_on c s) []))))
+            (λ ne. subst (IsSameSet (get_or node.constraints i [])) (sym (get_or-set_other m.0.constraints (agent_on c s) i _ [] (λ e. ne (sym e)))) (shows.sets i h))

@@ -1,5 +1,5 @@
 -- One turn of a search over nodes.
-use Rattle.std.proofs.Common.{◌≡◌, ◌⊎◌, ℕ, List, [], ◌∷◌, Bool, true, false, Option, Some, None, is_some, IsSome, not, Result, Ok, inl, inr, subst, sym, refl, ap, ◌∙◌, Contains}
+use Rattle.std.proofs.Common.{◌≡◌, ◌⊎◌, ℕ, List, [], ◌∷◌, Bool, true, false, Option, Some, None, is_some, IsSome, not, Result, Ok, inl, inr, subst, sym, refl, ap, ◌∙◌, ⊎_elim, Contains}
 use Rattle.mapf_grid.specs.declared.fault.NoMemory.{NoMemory}
 use Rattle.mapf_plan.specs.Plan.{plan_cost, HasNoConflict}
 use Rattle.mapf_plan.specs.declared.conflict.Conflict.{Conflict}
@@ -15,7 +15,7 @@ use Rattle.mapf_tree.specs.Problem.{Problem}
 use Rattle.mapf_tree.specs.Search.{IsReached, IsWaiting, IsTakenTo, NoneSolves, IsLawful}
 use Rattle.mapf_tree.specs.Turns.{IsSearchAt, IsTurnOf, IsTurned, TakesOne}
 use Rattle.mapf_tree.specs.Nodes.{Node, node_key, AllStand, HasNodeFor}
-use Rattle.mapf_tree.proofs.Members.{Contains-In, In-Contains}
+use Rattle.mapf_grid.proofs.Members.{nowhere, here}
 use Rattle.mapf_tree.proofs.SearchLaws.{reached_now, reached_then, next_waits, ends_at_first, ends_at_none, starts}
 use Rattle.mapf_tree.proofs.OpenNodes.{key-stands, none_stands, conflict_stands, solved_turn, branched_turn, root_node, put_node_adds, AddsSide}
 
@@ -26,7 +26,7 @@ module _ (p : Problem) (last : Option (List ℕ)) (old : List Node) (taken : IsT
 
   -- if nothing waits, there is no solution
   pub none_left : old ≡ [] → IsAnswer p None
-  none_left e = ends_at_none p last (HasNodeFor p old) at (λ x s. In-Contains [] s.0 (subst (λ ns. Contains ns s.0) e s.1))
+  none_left e = ends_at_none p last (HasNodeFor p old) at (λ x s. nowhere (subst (λ ns. Contains ns s.0) e s.1))
 
   module _ (new : List Node) (x : PlannedNode) (turn : IsTurnOf p old new x) where
     -- x waited
@@ -50,22 +50,14 @@ module _ (p : Problem) (last : Option (List ℕ)) (old : List Node) (taken : IsT
     taken_to =
         record {
           greatest = (x, waited.member, refl);
-          none_before = λ m h r n. go m h n (now_or_before m h r);
+          none_before = λ m h r n. ⊎_elim (λ s. absurd (none m h s n)) (λ e. ap (λ y. Some (key y)) (sym e)) (now_or_before m h r);
           stand = turn.stand;
           waits = next_waits p last (HasNodeFor p old) x at turn.least (HasNodeFor p new) turn.next;
         }
-      where
-        go : (m : PlannedNode) → IsMember p m → HasNoConflict m.1 → IsReached last m ⊎ (m ≡ x) → Some (key x) ≡ Some (key m)
-        go m h n (inl r) = absurd (none m h r n)
-        go m h n (inr e) = ap (λ y. Some (key y)) (sym e)
 
     -- if the plan of x has a conflict, there is no solution yet
     pub none_solves : ¬ HasNoConflict x.1 → NoneSolves p (Some (key x))
-    none_solves conflict m h r n = go (now_or_before m h r)
-      where
-        go : IsReached last m ⊎ (m ≡ x) → ⊥
-        go (inl s) = none m h s n
-        go (inr e) = conflict (subst (λ y. HasNoConflict y.1) e n)
+    none_solves conflict m h r n = ⊎_elim (λ s. none m h s n) (λ e. conflict (subst (λ y. HasNoConflict y.1) e n)) (now_or_before m h r)
 
     -- and if it has none, it is the answer
     pub solves : HasNoConflict x.1 → IsAnswer p (Some x.1)
@@ -79,19 +71,15 @@ root_waits p o old new none is given = (record { greatest = tt; none_before = λ
     put = subst (λ ns. IsPutIfSome ns o new) none given
 
     adds : AddsSide p [] new (root_of p)
-    adds = put_node_adds p [] new (root_of p) o (λ n c. absurd (In-Contains [] n c)) (root_node p o is) put
-
-    forth : (m : PlannedNode) → HasNodeFor p [] m ⊎ (IsMember p m × (m.0 ≡ root_of p)) → IsMember p m × (m.0 ≡ root_of p)
-    forth m (inl s) = absurd (In-Contains [] s.0 s.1)
-    forth m (inr h) = h
+    adds = put_node_adds p [] new (root_of p) o (λ n c. absurd (nowhere c)) (root_node p o is) put
 
     at : IsSearchAt p None (HasNodeFor p new)
-    at = starts p (HasNodeFor p new) (λ m. ((λ s. forth m ((adds.shows m).0 s)), (λ h. (adds.shows m).1 (inr h))))
+    at = starts p (HasNodeFor p new) (λ m. ((λ s. ⊎_elim (λ k. absurd (nowhere k.1)) (λ h. h) ((adds.shows m).0 s)), (λ h. (adds.shows m).1 (inr h))))
 
 -- a turn that takes a node whose plan has no conflict
 pub solved_case : (p : Problem) (old new : List Node) (first : Node) (k : Key) (plan : List (List ℕ)) → old ≡ first ∷ new → IsRising old → AllStand p old → first.conflict ≡ None → key_rank k ≡ node_key first → plan ≡ first.plan → k.cost ≡ plan_cost first.plan → IsTurned p old new (variant.Solved k plan)
 solved_case p old new first k plan e rising all none rank is cost =
-    let x = all first (subst (λ ns. Contains ns first) (sym e) (Contains-In (first ∷ new) first (inl refl))) in
+    let x = all first (subst (λ ns. Contains ns first) (sym e) (here new refl)) in
     let free = none_stands p first x.0 x.1 none in
     (x.0, solved_turn p old new first x.0 e rising all x.1 free, free, rank ∙ key-stands p first x.0 x.1, is ∙ x.1.plan, cost ∙ ap plan_cost (sym is))
 
@@ -112,13 +100,13 @@ conflict_absent o (Some c) b e s t = let k : true ≡ false = sym (ap is_some s)
 -- the taken node branches, if it has a conflict
 pub branches : (p : Problem) (old rest : List Node) (first : Node) → old ≡ first ∷ rest → AllStand p old → IsSome first.conflict → IsBranching p first
 branches p old rest first e all some =
-    let x = all first (subst (λ ns. Contains ns first) (sym e) (Contains-In (first ∷ rest) first (inl refl))) in
+    let x = all first (subst (λ ns. Contains ns first) (sym e) (here rest refl)) in
     record { of = x.0; stands = x.1; conflict = some }
 
 -- a turn that takes a node whose plan has a conflict
 pub branched_case : (p : Problem) (old rest mid new : List Node) (first : Node) (k : Key) (l r : Option Node) → old ≡ first ∷ rest → IsRising old → AllStand p old → ((c : Conflict) × (first.conflict ≡ Some c)) → IsChildOf p first Left l → IsChildOf p first Right r → IsPutIfSome rest l mid → IsPutIfSome mid r new → key_rank k ≡ node_key first → IsTurned p old new (variant.Branched k)
 branched_case p old rest mid new first k l r e rising all c left right put put' rank =
-    let x = all first (subst (λ ns. Contains ns first) (sym e) (Contains-In (first ∷ rest) first (inl refl))) in
+    let x = all first (subst (λ ns. Contains ns first) (sym e) (here rest refl)) in
     let f = conflict_stands p first x.0 c.0 x.1 c.1 in
     (x.0, branched_turn p old rest mid new first x.0 c.0 l r e rising all x.1 c.1 (left x.0 c.0 x.1 c.1) (right x.0 c.0 x.1 c.1) put put', (λ n. n c.0 f.member), rank ∙ key-stands p first x.0 x.1)
 

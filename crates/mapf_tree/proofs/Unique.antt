@@ -1,7 +1,7 @@
 -- Pairs of the tree are determined by their names, and the answer by the instance.
 use Rattle.std.proofs.Common.{◌≡◌, List, [], ◌∷◌, map, length, Some, None, subst, refl, ap, ap₂, ◌∙◌, arith, length-append}
 use Rattle.std.proofs.lemmas.List.{same_from_push}
-use Rattle.mapf_grid.proofs.Orders.{same_rank}
+use Rattle.mapf_grid.proofs.Ranks.{same_rank}
 use Rattle.mapf_plan.specs.Plan.{IsFirstConflict}
 use Rattle.mapf_plan.proofs.Conflicts.{same_first}
 use Rattle.mapf_tree.specs.Problem.{Problem}

@@ -1,16 +1,15 @@
 -- The constraints that a tree can have are so many at most.
-use Rattle.std.proofs.Common.{◌≡◌, ◌≢◌, ℕ, zero, suc, ◌≤◌, ◌+◌, ◌*◌, List, [], ◌∷◌, ◌++◌, map, length, true, refl, ap, ap₂, ◌∙◌, arith, length-append}
+use Rattle.std.proofs.Common.{◌≡◌, ◌≢◌, ℕ, zero, suc, ◌≤◌, ◌+◌, ◌*◌, List, [], ◌∷◌, ◌++◌, map, length, true, refl, ap, ap₂, ◌∙◌, arith, length-append, Contains}
 use Rattle.std.specs.List.{flat_map}
 use Rattle.std.proofs.lemmas.List.{length-map}
+use Rattle.std.proofs.lemmas.List.Elements.{Contains-append_left, Contains-append_right}
 use Rattle.std.proofs.lemmas.Option.{slice_get_within}
 use Rattle.mapf_grid.specs.Grid.{Grid, IsFree, Next}
-use Rattle.mapf_grid.proofs.Orders.{In}
-use Rattle.mapf_grid.proofs.Lists.{below, In-below, In-map, In-flat_map, In-append_left, In-append_right}
+use Rattle.mapf_grid.proofs.Lists.{below, Contains-below, Contains-map, Contains-flat_map}
 use Rattle.mapf_low.specs.declared.constraint.Constraint.{Constraint}
 use Rattle.mapf_low.specs.declared.constraint.Constraint.TheVariants.{Vertex, Edge}
 use Rattle.mapf_low.specs.Times.{time_of}
 use Rattle.mapf_tree.specs.Laws.{HoldsGrid}
-use Rattle.mapf_tree.proofs.Members.{Contains-In, In-Contains}
 
 -- every constraint on these cells and edges at times up to b
 at_time : List ℕ → List (ℕ × ℕ) → ℕ → List Constraint
@@ -26,15 +25,15 @@ Fits g b (Vertex c t) = IsFree g c × (t ≤ b)
 Fits g b (Edge u v t) = Next g u v × (u ≢ v) × (t ≤ b)
 
 -- a constraint that fits is one of them
-pub In-universe : (g : Grid) (cells : List ℕ) (edges : List (ℕ × ℕ)) (b : ℕ) → HoldsGrid g cells edges → (c : Constraint) → Fits g b c → In (universe cells edges b) c
+pub Contains-universe : (g : Grid) (cells : List ℕ) (edges : List (ℕ × ℕ)) (b : ℕ) → HoldsGrid g cells edges → (c : Constraint) → Fits g b c → Contains (universe cells edges b) c
 unfolding universe at_time
-In-universe g cells edges b all (Vertex c t) h =
-    In-flat_map (λ t. at_time cells edges t) (below (b + 1)) t (Vertex c t) (In-below (b + 1) t (omega (arith, h.1)))
-    (In-append_left (map (λ c. Vertex c t) cells) _ (Vertex c t) (In-map (λ c. Vertex c t) cells c (In-Contains cells c (all.all_cells c h.0))))
-In-universe g cells edges b all (Edge u v t) h =
-    In-flat_map (λ t. at_time cells edges t) (below (b + 1)) t (Edge u v t) (In-below (b + 1) t (omega (arith, h.2)))
-    (In-append_right (map (λ c. Vertex c t) cells) _ (Edge u v t)
-    (In-map (λ e. Edge e.0 e.1 t) edges (u, v) (In-Contains edges (u, v) (all.all_edges u v h.0 h.1))))
+Contains-universe g cells edges b all (Vertex c t) h =
+    Contains-flat_map (λ t. at_time cells edges t) (below (b + 1)) t (Vertex c t) (Contains-below (b + 1) t (omega (arith, h.1)))
+    (Contains-append_left (map (λ c. Vertex c t) cells) _ (Vertex c t) (Contains-map (λ c. Vertex c t) cells c (all.all_cells c h.0)))
+Contains-universe g cells edges b all (Edge u v t) h =
+    Contains-flat_map (λ t. at_time cells edges t) (below (b + 1)) t (Edge u v t) (Contains-below (b + 1) t (omega (arith, h.2)))
+    (Contains-append_right (map (λ c. Vertex c t) cells) _ (Edge u v t)
+    (Contains-map (λ e. Edge e.0 e.1 t) edges (u, v) (all.all_edges u v h.0 h.1)))
 
 -- lists of one length put together
 length-flat_map : {X Y : Type 0} (f : X → List Y) (n : ℕ) → ((x : X) → length (f x) ≡ n) → (xs : List X) → length (flat_map f xs) ≡ length xs * n
@@ -78,6 +77,6 @@ pub holds_all : (g : Grid) → HoldsGrid g (cells_of g) (edges_of g)
 unfolding cells_of edges_of
 holds_all g =
     record {
-      all_cells = λ c h. Contains-In _ c (In-below (length g.free) c (slice_get_within g.free c true h));
-      all_edges = λ u v h n. Contains-In _ (u, v) (In-flat_map (λ u. map (λ v. (u, v)) (below (length g.free))) (below (length g.free)) u (u, v) (In-below (length g.free) u (slice_get_within g.free u true h.0)) (In-map (λ v. (u, v)) (below (length g.free)) v (In-below (length g.free) v (slice_get_within g.free v true h.1))));
+      all_cells = λ c h. Contains-below (length g.free) c (slice_get_within g.free c true h);
+      all_edges = λ u v h n. Contains-flat_map (λ u. map (λ v. (u, v)) (below (length g.free))) (below (length g.free)) u (u, v) (Contains-below (length g.free) u (slice_get_within g.free u true h.0)) (Contains-map (λ v. (u, v)) (below (length g.free)) v (Contains-below (length g.free) v (slice_get_within g.free v true h.1)));
     }

@@ -2,7 +2,8 @@ use Rattle.std.proofs.Common.{◌≡◌, [], ◌<◌, length, get_or, set, Some,
 use Rattle.mapf_tree.specs.Tree.{agent_on, constraint_on}
 use Rattle.mapf_tree.specs.Nodes.{IsConflictOf}
 use Rattle.mapf_tree.specs.Family.{IsOwnWithin}
-use Rattle.mapf_tree.proofs.SideNodes.{with_same, within_bound, no_side, side_stands}
+use Rattle.mapf_tree.proofs.ConstraintSets.{with_same}
+use Rattle.mapf_tree.proofs.SideNodes.{within_bound, no_side, side_stands}
 use Rattle.mapf_tree.proofs.Branch.{agent_below}
 use Rattle.mapf_tree.proofs.family.child.Goals as goal
 
