@@ -1,39 +1,25 @@
--- Lists that a round makes of its workers' lists.
-use Rattle.std.proofs.Common.{◌≡◌, ◌<◌, ℕ, Bool, true, false, List, [], ◌∷◌, ◌++◌, All, Contains, length, map, sym, refl, ap, ◌∙◌, subst, arith, flat_map, if◌then◌else◌, get_or}
+-- Lists that a round makes of its workers' lists, and places beside orders.
+use Rattle.std.proofs.Common.{◌≡◌, ◌⊎◌, inl, inr, ◌<◌, ℕ, zero, suc, Bool, true, false, List, [], ◌∷◌, ◌++◌, All, Contains, Option, Some, None, IfSome, length, map, set, refl, sym, ap, ◌∙◌, subst, arith, if◌then◌else◌, get_or}
+use Rattle.std.specs.List.{AllZip}
+use Rattle.std.specs.Prelude.{slice_get}
 use Rattle.std.proofs.lemmas.List.{get_or-map, length-map}
-use Rattle.std.proofs.lemmas.List.Elements.{All-append, All-cons, All-contains}
-use Rattle.std.proofs.lemmas.List.Concat.{flat_map-append}
-use mathlib.Core.List.{append_assoc, append-nil, map-append}
+use Rattle.std.proofs.lemmas.Option.{IfSome_then, none-some, same_Some, slice_get-get_or}
+use Rattle.std.proofs.lemmas.List.Elements.{All-cons, All-contains}
+use mathlib.Core.List.{append_assoc, append-nil}
+use Rattle.mapf_board.specs.Rounds.{ArePlacesOf, IsNumbered}
 use Rattle.mapf_board.proofs.Sums.{All_more, All_first, All_rest}
 
-module _ {A : Type 0} where
-  -- what holds of each item of a list, and of one that may be added
-  pub All_if_more : (P : A → Type 0) (b : Bool) (old new : List A) (x : A) → new ≡ if b then old ++ x ∷ [] else old → All P old → P x → All P new
-  All_if_more P true old new x e all one = All_more P old new x e all one
-  All_if_more P false old new x e all one = subst (λ (l : List A). All P l) (sym e) all
+-- what holds of each item of a list, and of one that may be added
+pub All_if_more : {A : Type 0} (P : A → Type 0) (b : Bool) (old new : List A) (x : A) → new ≡ if b then old ++ x ∷ [] else old → All P old → P x → All P new
+All_if_more P true old new x e all one = All_more P old new x e all one
+All_if_more P false old new x e all one = subst (λ (l : List _). All P l) (sym e) all
 
+module _ {A : Type 0} where
   -- one item goes from the rest of a list to what was taken of it
   pub one_taken : (whole done old new : List A) (x : A) → old ≡ x ∷ new → done ++ old ≡ whole → (done ++ x ∷ []) ++ new ≡ whole
   one_taken whole done old new x e all = append_assoc done (x ∷ []) new ∙ ap (λ l. done ++ l) (sym e) ∙ all
 
 module _ {A B : Type 0} where
-  -- what is made of an item that was read at a place of a list is one of those that are made of the list's
-  pub one_of : (f : A → B) (l : List A) (n : ℕ) (x : A) (y : B) → n < length l → x ≡ get_or l n x → y ≡ f x → Contains (map f l) y
-  one_of f l n x y low at same = (n, subst (λ k. n < k) (sym (length-map l f)) low, get_or-map f l n x y low ∙ ap f (sym at) ∙ sym same)
-
-  -- a list that shows another's items shows also one more that is added to both
-  pub map_more : (f : A → B) (l : List A) (old new : List B) (x : A) → old ≡ map f l → new ≡ old ++ f x ∷ [] → new ≡ map f (l ++ x ∷ [])
-  map_more f l old new x is e = e ∙ ap (λ m. m ++ f x ∷ []) is ∙ sym (map-append f l (x ∷ []))
-
-  -- lists joined, and one more joined to them
-  pub flat_map_more : (f : A → List B) (l : List A) (old new : List B) (x : A) → old ≡ flat_map f l → new ≡ old ++ f x → new ≡ flat_map f (l ++ x ∷ [])
-  flat_map_more f l old new x is e = e ∙ ap (λ m. m ++ f x) is ∙ ap (λ m. flat_map f l ++ m) (sym (append-nil (f x))) ∙ sym (flat_map-append f l (x ∷ []))
-
-  -- what holds of each item of each of the lists holds of each item of them joined
-  pub All-flat_map : (P : B → Type 0) (f : A → List B) (l : List A) → All (λ a. All P (f a)) l → All P (flat_map f l)
-  All-flat_map P f [] all = λ k d low. absurd (omega (arith, low))
-  All-flat_map P f (x ∷ xs) all = All-append P (f x) (flat_map f xs) (All_first (λ a. All P (f a)) (x ∷ xs) xs x refl all) (All-flat_map P f xs (All_rest (λ a. All P (f a)) (x ∷ xs) xs x refl all))
-
   -- what holds of the shown item at a place of a list that shows another's items
   pub All-from_map : (P : B → Type 0) (f : A → B) (l : List A) (m : List B) → map f l ≡ m → All P m → All (λ a. P (f a)) l
   All-from_map P f [] m e all = λ k d low. absurd (omega (arith, low))
@@ -42,7 +28,66 @@ module _ {A B : Type 0} where
       let rest = All-from_map P f xs (map f xs) refl (All_rest P (f x ∷ map f xs) (map f xs) (f x) refl each) in
       All-cons (λ a. P (f a)) x xs (All_first P (f x ∷ map f xs) (map f xs) (f x) refl each) rest
 
-module _ {J X : Type 0} where
-  -- what holds of each job holds of the job of each pair that was made for one of them
-  pub All_of_jobs : (P : J → Type 0) (job : X → J) (jobs : List J) (pairs : List X) → All P jobs → All (λ p. Contains jobs (job p)) pairs → All (λ p. P (job p)) pairs
-  All_of_jobs P job jobs pairs all each = λ k d low. All-contains P jobs (job (get_or pairs k d)) all (each k d low)
+-- what is made of an item that was read at a place of a list stands there among those that are made of the list's
+pub made_at : {A B : Type 0} (f : A → B) (l : List A) (n : ℕ) (x : A) (y : B) → n < length l → x ≡ get_or l n x → y ≡ f x → slice_get (map f l) n ≡ Some y
+made_at f l n x y low at same =
+    slice_get-get_or (map f l) n y (subst (λ k. n < k) (sym (length-map l f)) low) ∙ ap Some (get_or-map f l n x y low ∙ ap f (sym at) ∙ sym same)
+
+module _ {J A : Type 0} where
+  -- places that are all empty may stand beside any jobs
+  pub all_empty : (jobs : List J) (places : List (Option (J × A))) → length places ≡ length jobs → All (λ place. place ≡ None) places → ArePlacesOf jobs places
+  all_empty [] [] each empty = tt
+  all_empty [] (p ∷ places) each empty = absurd (omega (arith, each))
+  all_empty (j ∷ jobs) [] each empty = absurd (omega (arith, each))
+  all_empty (j ∷ jobs) (p ∷ places) each empty = (
+    subst (λ place. IfSome place (λ pair. pair.0 ≡ j)) (sym (All_first (λ place. place ≡ None) (p ∷ places) places p refl empty)) tt,
+    all_empty jobs places (omega (arith, each)) (All_rest (λ place. place ≡ None) (p ∷ places) places p refl empty),
+  )
+
+  -- a pair put in the place of its number
+  pub put_at : (jobs : List J) (places : List (Option (J × A))) (n : ℕ) (pair : J × A) → IsNumbered jobs (n, pair) → ArePlacesOf jobs places → ArePlacesOf jobs (set places n (Some pair))
+  put_at [] places n pair at all = absurd (none-some pair.0 at)
+  put_at (j ∷ jobs) [] n pair at all = absurd all
+  put_at (j ∷ jobs) (p ∷ places) zero pair at all = (sym (same_Some j pair.0 at), all.1)
+  put_at (j ∷ jobs) (p ∷ places) (suc n) pair at all = (all.0, put_at jobs places n pair at all.1)
+
+  -- the first job has the first place, and the others have the others
+  pub next_place : (left fewer : List J) (places others : List (Option (J × A))) (job : J) (place : Option (J × A)) → left ≡ job ∷ fewer → places ≡ place ∷ others → ArePlacesOf left places
+      → IfSome place (λ pair. pair.0 ≡ job) × ArePlacesOf fewer others
+  next_place left fewer places others job place e f all = subst (λ l. ArePlacesOf l (place ∷ others)) e (subst (ArePlacesOf left) f all)
+
+  -- where no place is left no job is, and the other way round
+  pub none_left : (jobs : List J) (places : List (Option (J × A))) → ArePlacesOf jobs places → (jobs ≡ []) ⊎ (places ≡ []) → jobs ≡ []
+  none_left jobs places all (inl none) = none
+  none_left [] places all (inr none) = refl
+  none_left (j ∷ jobs) places all (inr none) = absurd (subst (ArePlacesOf (j ∷ jobs)) none all)
+
+  -- the pair in a place has the job of that place
+  of_place : (jobs : List J) (places : List (Option (J × A))) (k : ℕ) (d : Option (J × A)) → ArePlacesOf jobs places → k < length places → IfSome (get_or places k d) (λ pair. Contains jobs pair.0)
+  of_place [] [] k d all low = absurd (omega (arith, low))
+  of_place [] (p ∷ places) k d all low = absurd all
+  of_place (j ∷ jobs) [] k d all low = absurd all
+  of_place (j ∷ jobs) (p ∷ places) zero d all low = IfSome_then p all.0 (λ pair is. (0, omega arith, sym is))
+  of_place (j ∷ jobs) (p ∷ places) (suc k) d all low = IfSome_then (get_or places k d) (of_place jobs places k d all.1 (omega (arith, low))) (λ pair at. (suc at.0, omega (arith, at.1), at.2))
+
+  -- so each pair is of one of the jobs
+  pub of_jobs : (jobs : List J) (places : List (Option (J × A))) → ArePlacesOf jobs places → All (λ place. IfSome place (λ pair. Contains jobs pair.0)) places
+  of_jobs jobs places all = λ k d low. of_place jobs places k d all low
+
+  -- what holds of each job holds of the job of each pair that is of one of them
+  pub All_of_jobs : (P : J → Type 0) (jobs : List J) (places : List (Option (J × A))) → All P jobs → All (λ place. IfSome place (λ pair. Contains jobs pair.0)) places → All (λ place. IfSome place (λ pair. P pair.0)) places
+  All_of_jobs P jobs places all each = λ k d low. IfSome_then (get_or places k d) (each k d low) (λ pair at. All-contains P jobs pair.0 all at)
+
+module _ {J B : Type 0} (R : J → B → Type 0) where
+  -- the answers so far: what answers the jobs that are left answers, after them, all jobs
+  abbrev pub AreAnswered : List J → List J → List B → Type 0
+  AreAnswered jobs left answers = (more : List B) → AllZip R left more → AllZip R jobs (answers ++ more)
+
+  -- one answer more
+  pub answered_more : (jobs left fewer : List J) (old new : List B) (job : J) (answer : B) → left ≡ job ∷ fewer → new ≡ old ++ answer ∷ [] → R job answer → AreAnswered jobs left old → AreAnswered jobs fewer new
+  answered_more jobs left fewer old new job answer e is one all more rest =
+      subst (λ l. AllZip R jobs l) (sym (append_assoc old (answer ∷ []) more) ∙ ap (λ l. l ++ more) (sym is)) (all (answer ∷ more) (subst (λ l. AllZip R l (answer ∷ more)) (sym e) (one, rest)))
+
+  -- where no job is left, all are answered
+  pub answered_all : (jobs left : List J) (answers : List B) → left ≡ [] → AreAnswered jobs left answers → AllZip R jobs answers
+  answered_all jobs left answers none all = subst (λ l. AllZip R jobs l) (append-nil answers) (all [] (subst (λ l. AllZip R l []) (sym none) tt))

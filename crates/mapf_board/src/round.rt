@@ -1,10 +1,12 @@
 //! A round: workers in threads draw the numbers of orders, do the jobs that are ordered, and are joined.
 
-ghost use Rattle.std.specs.Prelude.{◌≡◌, [], ◌<◌, ◌≤◌, All, Contains, IfOk, IfSome, flat_map, length, map};
+ghost use Rattle.std.specs.Prelude.{◌≡◌, [], ◌<◌, ◌≤◌, All, IfOk, length, map};
+ghost use Rattle.std.specs.List.{AllZip};
+ghost use Rattle.mapf_board.specs.Rounds.{ArePlacesOf, IsNumbered};
 ghost use Rattle.mapf_board.specs.Seats.{IsSeatOf, count_of};
 ghost use Rattle.mapf_board.specs.declared.limits.TheConstants.{MOST_TICKETS, MOST_WORKERS};
 
-use crate::gate::Gate;
+use crate::gate::{Gate, NoGate};
 use crate::no_memory::NoMemory;
 use crate::tickets::{TicketSeat, Tickets};
 use crate::work::{Pair, Task, Work};
@@ -26,12 +28,42 @@ pub trait Order<W: Task> {
     fn number(&self) -> u64;
 }
 
+/// The answers to at most 1,000 orders, in their order: the jobs are done in a round by 1 to 64 workers. What the round
+/// left undone, for want of memory, is done alone by the caller, through no gate. An error is that memory ran out there
+/// too.
+pub fn answer_all<R: Threads + Sync, W: Work, O: Order<W> + Sync, G: Gate>(
+    rt: &R,
+    alloc: Global,
+    work: &W,
+    orders: &[O],
+    gate: &G,
+    workers: usize,
+) -> Result<Vec<W::Answer>, NoMemory>
+    requires orders { length orders.now ≤ MOST_TICKETS }
+    requires workers { (0 < workers) × (workers ≤ MOST_WORKERS) }
+    ensures { IfOk result (λ answers. AllZip W.fits (map O.ordered orders.now) answers.items) }
+{
+    let places = match run_round(rt, alloc, work, orders, gate, workers) {
+        Ok(places) => places,
+        Err(_) => empty_places(alloc, orders)?,
+    };
+    let mut answers = Vec::with_capacity(alloc, orders.len())?;
+    for (order, place) in orders.iter().zip(places) {
+        let pair = match place {
+            Some(pair) => pair,
+            None => do_order(alloc, work, order, &NoGate)?,
+        };
+        answers.push(pair.parts().1)?;
+    }
+    Ok(answers)
+}
+
 /// Does the jobs of at most 1,000 orders by 1 to 64 workers, and no more than there are orders, and returns when all of
 /// them have ended.
 ///
-/// Each pair is of a job that was ordered. An order whose job found no memory, when it was made, done or kept, has no
-/// pair. An error is that memory ran out for the round as a whole (its tickets, its threads, or the list of all pairs); the
-/// pairs that were made are lost then, and the orders stand as they were.
+/// There is a place for each order, in the orders' order, which holds the pair of its job. It is empty where the job found
+/// no memory, when it was made, done or kept. An error is that memory ran out for the round as a whole (its tickets, its
+/// threads, or the list of all places); the pairs that were made are lost then, and the orders stand as they were.
 pub fn run_round<R: Threads + Sync, W: Work, O: Order<W> + Sync, G: Gate>(
     rt: &R,
     alloc: Global,
@@ -39,41 +71,45 @@ pub fn run_round<R: Threads + Sync, W: Work, O: Order<W> + Sync, G: Gate>(
     orders: &[O],
     gate: &G,
     workers: usize,
-) -> Result<Vec<Pair<W>>, NoMemory>
+) -> Result<Vec<Option<Pair<W>>>, NoMemory>
     requires orders { length orders.now ≤ MOST_TICKETS }
     requires workers { (0 < workers) × (workers ≤ MOST_WORKERS) }
-    ensures { IfOk result (λ pairs. All (λ p. Contains (map O.ordered orders.now) p.0) pairs.items) }
+    ensures { IfOk result (λ places. ArePlacesOf (map O.ordered orders.now) places.items) }
 {
+    let mut places = empty_places(alloc, orders)?;
     if orders.is_empty() {
-        return Ok(Vec::new(alloc));
+        return Ok(places);
     }
     let (tickets, seats) = Tickets::new(alloc, orders.len(), workers.min(orders.len()))?;
     let begun = with_room(alloc, seats, orders.len())?;
-    let ended = thread::map_vec(
+    let made = thread::map_vec(
         rt,
         begun,
         &|begun|
             requires seat { IsSeatOf tickets begun.0 }
-            requires pairs { All (λ p. Contains (map O.ordered orders.now) p.0) begun.1.items }
+            requires pairs { begun.1.items ≡ [] }
             requires count { count_of tickets ≡ length orders.now }
-            ensures seat { IsSeatOf tickets result.0 }
-            ensures pairs { All (λ p. Contains (map O.ordered orders.entry.now) p.0) result.1.items }
+            ensures { All (IsNumbered (map O.ordered orders.entry.now)) result.items }
         { do_orders(alloc, &tickets, begun, work, orders, gate) },
     )?;
-    let (seats, pairs) = seats_and_pairs(alloc, ended)?;
-    tickets.close(seats);
-    Ok(pairs)
+    for pairs in made {
+        put_all(orders, pairs, &mut places);
+    }
+    Ok(places)
 }
 
-/// What a worker has: its seat, and the pairs that it made.
-type SeatAndPairs<W> = (TicketSeat, Vec<Pair<W>>);
+/// A pair, and the number that a worker drew for its order.
+type Numbered<W> = (usize, Pair<W>);
 
-/// Each seat with no pair yet, and room for so many.
+/// What a worker begins with: its seat, and an empty list for its pairs.
+type Begun<W> = (TicketSeat, Vec<Numbered<W>>);
+
+/// Each seat with an empty list that has room for so many pairs.
 fn with_room<W: Work>(
     alloc: Global,
     seats: Vec<TicketSeat>,
     room: usize,
-) -> Result<Vec<SeatAndPairs<W>>, NoMemory>
+) -> Result<Vec<Begun<W>>, NoMemory>
     ensures seats { IfOk result (λ r. map (λ s. s.0) r.items ≡ seats.items) }
     ensures pairs { IfOk result (λ r. All (λ s. s.1.items ≡ []) r.items) }
 {
@@ -89,56 +125,67 @@ fn with_room<W: Work>(
 fn do_orders<W: Work, O: Order<W>, G: Gate>(
     alloc: Global,
     tickets: &Tickets,
-    begun: SeatAndPairs<W>,
+    begun: Begun<W>,
     work: &W,
     orders: &[O],
     gate: &G,
-) -> SeatAndPairs<W>
+) -> Vec<Numbered<W>>
     requires seat { IsSeatOf tickets.now begun.0 }
-    requires pairs { All (λ p. Contains (map O.ordered orders.now) p.0) begun.1.items }
+    requires pairs { begun.1.items ≡ [] }
     requires count { count_of tickets.now ≡ length orders.now }
-    ensures seat { IsSeatOf tickets.now result.0 }
-    ensures pairs { All (λ p. Contains (map O.ordered orders.now) p.0) result.1.items }
+    ensures { All (IsNumbered (map O.ordered orders.now)) result.items }
 {
     let (mut seat, mut pairs) = begun;
     while let Some(n) = tickets.draw(&mut seat) {
-        if let Some(pair) = do_order(alloc, work, &orders[n], gate) {
-            let _ = pairs.push(pair);
+        if let Ok(pair) = do_order(alloc, work, &orders[n], gate) {
+            let _ = pairs.push((n, pair));
         }
     }
-    (seat, pairs)
+    pairs
 }
 
-/// One job made and done, through the gate; none when memory runs out.
+/// One job made and done, through the gate.
 fn do_order<W: Work, O: Order<W>, G: Gate>(
     alloc: Global,
     work: &W,
     order: &O,
     gate: &G,
-) -> Option<Pair<W>>
-    ensures { IfSome result (λ p. p.0 ≡ O.ordered order.now) }
+) -> Result<Pair<W>, NoMemory>
+    ensures { IfOk result (λ p. p.0 ≡ O.ordered order.now) }
 {
-    let job = order.job(alloc).ok()?;
+    let job = order.job(alloc)?;
     let number = order.number();
     gate.enter(number);
     let pair = work.perform(job);
     gate.leave(number);
-    pair.ok()
+    pair.map_err(|_| NoMemory)
 }
 
-/// The seats, and the pairs of all workers in one list.
-fn seats_and_pairs<W: Work>(
+/// An empty place for each order.
+fn empty_places<W: Work, O: Order<W>>(
     alloc: Global,
-    ended: Vec<SeatAndPairs<W>>,
-) -> Result<(Vec<TicketSeat>, Vec<Pair<W>>), NoMemory>
-    ensures seats { IfOk result (λ r. r.0.items ≡ map (λ s. s.0) ended.items) }
-    ensures pairs { IfOk result (λ r. r.1.items ≡ flat_map (λ s. s.1.items) ended.items) }
+    orders: &[O],
+) -> Result<Vec<Option<Pair<W>>>, NoMemory>
+    ensures { IfOk result (λ places. ArePlacesOf (map O.ordered orders.now) places.items) }
 {
-    let mut seats = Vec::with_capacity(alloc, ended.len())?;
-    let mut pairs = Vec::new(alloc);
-    for (seat, some) in ended {
-        seats.push(seat)?;
-        pairs.extend(some)?;
+    let mut places = Vec::with_capacity(alloc, orders.len())?;
+    for _ in orders {
+        places.push(None)?;
     }
-    Ok((seats, pairs))
+    Ok(places)
+}
+
+/// Puts each pair in the place of its order.
+fn put_all<W: Work, O: Order<W>>(
+    orders: &[O],
+    pairs: Vec<Numbered<W>>,
+    places: &mut Vec<Option<Pair<W>>>,
+)
+    requires pairs { All (IsNumbered (map O.ordered orders.now)) pairs.items }
+    requires places { ArePlacesOf (map O.ordered orders.now) places.old.items }
+    ensures { ArePlacesOf (map O.ordered orders.now) places.new.items }
+{
+    for (n, pair) in pairs {
+        places[n] = Some(pair);
+    }
 }

@@ -1,4 +1,5 @@
-use Rattle.std.proofs.Common.{◌-◌, All, Contains, map}
+use Rattle.std.proofs.Common.{◌-◌, All, map}
+use Rattle.mapf_board.specs.Rounds.{IsNumbered}
 use Rattle.mapf_board.specs.Seats.{IsSeatOf, count_of, drawn_by}
 use Rattle.mapf_board.proofs.Ends.{next_of}
 use Rattle.mapf_board.proofs.round.do_orders.Given as goal
@@ -6,7 +7,7 @@ use Rattle.mapf_board.proofs.round.do_orders.Given as goal
 abbrev pub invariant-loop-n : goal.invariant-loop-n
 invariant-loop-n g l = record {
   own : IsSeatOf l.tickets l.seat;
-  pairs : All (λ p. Contains (map g.O.Order.ordered l.orders) p.0) l.pairs.items;
+  pairs : All (IsNumbered (map g.O.Order.ordered l.orders)) l.pairs.items;
 }
 
 abbrev pub decreases-loop-n : goal.decreases-loop-n
