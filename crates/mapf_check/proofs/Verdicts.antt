@@ -8,7 +8,7 @@ use native.Mathlib.Decide.{ℕ_discrete}
 use Rattle.mapf_grid.proofs.Decide.{dec_map, decided}
 use Rattle.mapf_grid.proofs.Firsts.{NoneAt, none_before-next}
 use Rattle.mapf_grid.proofs.Steps.{dec_next}
-use Rattle.mapf_grid.proofs.Orders.{same_rank}
+use Rattle.mapf_grid.proofs.Ranks.{same_rank}
 use Rattle.mapf_grid.specs.Grid.{Next, cells}
 use Rattle.mapf_grid.specs.Instance.{Instance}
 use Rattle.mapf_grid.specs.InstanceLaws.{IsSound}
