@@ -4,7 +4,6 @@
 mod owner;
 mod share;
 mod square;
-mod worker;
 
 use share::squares;
 use std::alloc::AllocError;

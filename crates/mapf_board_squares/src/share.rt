@@ -1,32 +1,32 @@
 //! Numbers shared by workers and the owner of a board.
 ghost use Rattle.std.specs.Prelude.{◌≡◌, ◌*◌, ◌<◌, ◌≤◌, All, IfOk, length, map, vec_len};
-ghost use Rattle.mapf_board.specs.Workers.{IsWorkerOf, IsIdle, size_of};
+ghost use Rattle.mapf_board.specs.Workers.{IsWorkerOf, IsIdle};
 ghost use Rattle.mapf_board.specs.declared.limits.TheConstants.{MOST_SLOTS};
 
 use crate::owner::{post_all, square_all};
 use crate::square::Squares;
-use crate::worker::work;
 use mapf_board::{Live, NoMemory, WorkerSeat};
 use std::alloc::{AllocError, Global};
 use std::thread::{Threads, join, map_vec};
 
 const WORKERS: usize = 2;
 
+/// More turns than a worker takes before the board is shut.
+const TURNS: u64 = 1_000_000_000;
+
 /// Each worker in a thread of its own.
 fn work_all<R: Threads + Sync>(
     rt: &R,
     live: &Live<Squares>,
-    slots: usize,
     seats: Vec<WorkerSeat<Squares>>,
 ) -> Result<Vec<WorkerSeat<Squares>>, AllocError>
-    requires slots { (0 < slots) × (size_of live.now ≡ slots) }
     requires workers { All (IsWorkerOf live.now) seats.items }
     requires idle { All IsIdle seats.items }
     ensures all { IfOk result (λ back. vec_len back ≡ vec_len seats) }
     ensures workers { IfOk result (λ back. All (IsWorkerOf live.now) back.items) }
     ensures idle { IfOk result (λ back. All IsIdle back.items) }
 {
-    map_vec(rt, seats, &|seat| work(live, slots, seat))
+    map_vec(rt, seats, &|seat| live.take_turns(&Squares, seat, TURNS))
 }
 
 /// The squares of 1 to 64 numbers, in their order, by two workers and the owner of a board.
@@ -46,13 +46,12 @@ pub fn squares<R: Threads + Sync>(
         rt,
         || square_all(board, owner, numbers, room),
         || -> Result<Vec<WorkerSeat<Squares>>, AllocError>
-            requires slots { (0 < length numbers.now) × (size_of board.now ≡ length numbers.now) }
             requires workers { All (IsWorkerOf board.now) seats.items }
             requires idle { All IsIdle seats.items }
             ensures all { IfOk result (λ back. vec_len back ≡ vec_len seats) }
             ensures workers { IfOk result (λ back. All (IsWorkerOf board.entry.now) back.items) }
             ensures idle { IfOk result (λ back. All IsIdle back.items) }
-        { work_all(rt, board, numbers.len(), seats) },
+        { work_all(rt, board, seats) },
     );
     // what a worker was still at when the owner came by is dropped
     live.close(alloc, owner, seats?).ok();

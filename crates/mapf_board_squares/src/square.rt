@@ -1,7 +1,7 @@
 //! What is asked and answered: a number, and its square.
 ghost use Rattle.std.specs.Prelude.{◌≡◌, ◌*◌};
 
-use mapf_board::Task;
+use mapf_board::{Pair, Task, Work};
 
 /// What is the square of a number?
 pub struct Squares;
@@ -12,6 +12,12 @@ impl Task for Squares {
     type Answer = u64;
 
     ghost fits = { λ number square. square ≡ number * number };
+}
+
+impl Work for Squares {
+    fn perform(&self, number: u32) -> Result<Pair<Squares>, u32> {
+        Ok(Pair::of(number, square_of(number)))
+    }
 }
 
 /// The square, which a `u64` holds.

@@ -1,0 +1,49 @@
+//! A worker's turns at a board.
+ghost use Rattle.std.specs.Prelude.{◌≡◌};
+
+use super::Live;
+use super::left::Left;
+use super::worker::WorkerSeat;
+use crate::work::Work;
+
+impl<W: Work> Live<W> {
+    ghost use Rattle.mapf_board.specs.Workers.{IsWorkerOf, IsIdle, HoldsJob};
+
+    /// A worker's part of the board's jobs, in so many turns at most; it ends at the first look that finds the board shut.
+    ///
+    /// A turn is one look at the flag and one claim. The slots are claimed in a ring, from the worker's number on; a
+    /// job that was claimed is performed, and what becomes of it is left in its slot: the job with its answer, or the
+    /// job, where memory ran out.
+    pub fn take_turns(&self, work: &W, mut seat: WorkerSeat<W>, turns: u64) -> WorkerSeat<W>
+        requires worker { IsWorkerOf self.now seat }
+        requires idle { IsIdle seat }
+        ensures worker { IsWorkerOf self.now result }
+        ensures idle { IsIdle result }
+    {
+        let mut slot = seat.number % self.size;
+        for _ in 0..turns {
+            if !self.is_open(&mut seat) {
+                break;
+            }
+            if self.claim(&mut seat, slot).is_ok() {
+                self.work_off(work, &mut seat);
+            }
+            slot = (slot + 1) % self.size;
+        }
+        seat
+    }
+
+    /// Performs the job of the claim, and leaves what becomes of it.
+    pub fn work_off(&self, work: &W, seat: &mut WorkerSeat<W>)
+        requires worker { IsWorkerOf self.now seat.old }
+        requires claim { (job : W.Job) × HoldsJob seat.old job }
+        ensures worker { IsWorkerOf self.now seat.new }
+        ensures idle { IsIdle seat.new }
+    {
+        let job = self.job_of(seat);
+        match work.perform(job) {
+            Ok(pair) => self.finish(seat, Left::Answer(pair)),
+            Err(job) => self.finish(seat, Left::Job(job)),
+        }
+    }
+}
