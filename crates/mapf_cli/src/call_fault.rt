@@ -27,10 +27,10 @@ pub(crate) enum CallFault {
     CannotOpen(FileName),
     /// The run of the solver ended with a fault.
     #[error(transparent)]
-    Run(RunFault),
+    Run(#[from] RunFault),
     /// The check ended with a fault.
     #[error(transparent)]
-    Check(CheckFault),
+    Check(#[from] CheckFault),
 }
 
 impl CallFault {
@@ -69,17 +69,5 @@ impl From<AllocError> for CallFault {
 impl From<DeviceFault> for CallFault {
     fn from(fault: DeviceFault) -> CallFault {
         CallFault::Run(RunFault::from(fault))
-    }
-}
-
-impl From<RunFault> for CallFault {
-    fn from(fault: RunFault) -> CallFault {
-        CallFault::Run(fault)
-    }
-}
-
-impl From<CheckFault> for CallFault {
-    fn from(fault: CheckFault) -> CallFault {
-        CallFault::Check(fault)
     }
 }
