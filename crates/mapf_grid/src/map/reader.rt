@@ -71,7 +71,8 @@ fn read_rows(alloc: Global, bytes: &[u8]) -> Result<Rows<'_>, MapFault>
         (λ e. e ≢ MapFault.NoMemory → IsMapFault (lines_of bytes.now) e) }
 {
     let header = read_header(bytes)?;
-    let mut free = Vec::new(alloc);
+    let cells = header.height as usize * header.width as usize;
+    let mut free = Vec::with_capacity(alloc, cells).map_err(|_| MapFault::NoMemory)?;
     let mut rest = header.rest;
     for y in 0..header.height {
         let line = HEADER_LINES + 1 + y as usize;
