@@ -1,5 +1,5 @@
 -- Decisions.
-use Rattle.std.proofs.Common.{◌⊎◌, ℕ, zero, suc, ◌<◌, List, [], ◌∷◌, inl, inr, subst, sym, ⊎_elim, arith}
+use Rattle.std.proofs.Common.{◌⊎◌, ℕ, zero, suc, ◌+◌, ◌<◌, List, [], ◌∷◌, inl, inr, subst, ⊎_elim, arith}
 use Rattle.std.specs.List.{AllByRecursion}
 use native.Mathlib.Decide.{ℕ_discrete}
 
@@ -35,11 +35,15 @@ pub decided : {A : Type 0} → Dec A → ¬ (¬ A) → A
 decided (yes a) f = a
 decided (no n) f = absurd (f n)
 
+-- what holds below n and at n holds up to n
+pub up_to : (P : ℕ → Type 0) (n k : ℕ) → k < n + 1 → (k < n → P k) → P n → P k
+up_to P n k l below here = by_cases (ℕ_discrete n k) (λ e. subst P e here) (λ e. below (omega (arith, l, e)))
+
 -- P for each number below n
 pub dec_below : (P : ℕ → Type 0) → ((k : ℕ) → Dec (P k)) → (n : ℕ) → Dec ((k : ℕ) → k < n → P k)
 dec_below P d zero = yes (λ k h. absurd (omega (arith, h)))
 dec_below P d (suc n) =
-    dec_map (λ h k l. by_cases (ℕ_discrete k n) (λ e. subst P (sym e) h.0) (λ e. h.1 k (omega (arith, l, e)))) (λ f. (f n (omega arith), λ k l. f k (omega (arith, l))))
+    dec_map (λ h k l. up_to P n k (omega (arith, l)) (h.1 k) h.0) (λ f. (f n (omega arith), λ k l. f k (omega (arith, l))))
     (dec_and (d n) (dec_below P d n))
 
 -- P for each element

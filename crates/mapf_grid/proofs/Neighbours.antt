@@ -1,5 +1,5 @@
 -- The list of a cell's free sides, side by side.
-use Rattle.std.proofs.Common.{◌≡◌, ◌≢◌, ◌⊎◌, ◌↔◌, ℕ, ◌+◌, ◌<◌, ◌≤◌, ◌/◌, List, [], ◌∷◌, ◌++◌, length, Option, Some, inl, inr, subst, sym, ◌∙◌, ap, arith, div-one, get_or, length-append}
+use Rattle.std.proofs.Common.{◌≡◌, ◌≢◌, ◌⊎◌, ◌↔◌, ℕ, ◌+◌, ◌<◌, ◌≤◌, ◌/◌, List, [], ◌∷◌, ◌++◌, length, Option, Some, inl, inr, subst, sym, ◌∙◌, ap, ⊎_elim, arith, div-one, get_or, length-append}
 use Rattle.std.specs.List.{Contains}
 use Rattle.std.specs.List.Sorted.{IsStrictlyIncreasing}
 use Rattle.std.proofs.lemmas.Bool.{cases_order, cases_lt}
@@ -40,11 +40,7 @@ holds_push g P side old new h (inl (c, is, free, e)) larger =
     })
   where
     to : (v : ℕ) → Contains (old ++ c ∷ []) v → P v ⊎ ((side ≡ Some v) × IsFree g v)
-    to v i = go (Contains-push_cases old c v i)
-      where
-        go : Contains old v ⊎ (c ≡ v) → P v ⊎ ((side ≡ Some v) × IsFree g v)
-        go (inl i) = inl ((h.cells v).0 i)
-        go (inr e) = inr (is ∙ ap Some e, subst (IsFree g) e free)
+    to v i = ⊎_elim (λ i. inl ((h.cells v).0 i)) (λ e. inr (is ∙ ap Some e, subst (IsFree g) e free)) (Contains-push_cases old c v i)
 
     from : (v : ℕ) → P v ⊎ ((side ≡ Some v) × IsFree g v) → Contains (old ++ c ∷ []) v
     from v (inl p) = Contains-append_left old (c ∷ []) v ((h.cells v).1 p)

@@ -1,5 +1,5 @@
 -- When a path may end on the goal.
-use Rattle.std.proofs.Common.{◌⊎◌, ℕ, ◌<◌, ◌≤◌, List, Option, Some, None, IsTrue, Contains, inl, inr, refl, ◌∙◌, arith}
+use Rattle.std.proofs.Common.{ℕ, List, Option, Some, None, IsTrue, Contains, refl, ◌∙◌, ⊎_elim, arith}
 use borrow.Author.Tests.{ltb-true, lt-ltb}
 use Rattle.std.proofs.lemmas.Bool.{cases_lt}
 use Rattle.mapf_low.specs.Query.{Query, MayEnd}
@@ -17,11 +17,7 @@ past_may_end query t (Some m) h p s l i = omega (arith, l, h.1 s i, ltb-true m t
 -- and only then
 pub may_end_past : (query : Query) (t : ℕ) (last : Option ℕ) → IsGreatest (λ s. Contains query.constraints (Vertex query.goal s)) last → MayEnd query t → IsTrue (is_past last t)
 may_end_past query t None h p = refl
-may_end_past query t (Some m) h p = go (cases_lt m t)
-  where
-    go : (m < t) ⊎ (t ≤ m) → IsTrue (is_past (Some m) t)
-    go (inl l) = lt-ltb m t l
-    go (inr l) = absurd (p m l h.0)
+may_end_past query t (Some m) h p = ⊎_elim (λ l. lt-ltb m t l) (λ l. absurd (p m l h.0)) (cases_lt m t)
 
 -- a path within the limit ends when nothing forbids the goal any more
 pub ends_by_limit : (query : Query) (p : List ℕ) → IsAllowed query.grid query.start query.goal query.limit query.constraints p → MayEnd query query.limit

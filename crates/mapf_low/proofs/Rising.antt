@@ -1,5 +1,5 @@
 -- Layers as rising lists, and what the cells of a layer are.
-use Rattle.std.proofs.Common.{◌≡◌, ◌⊎◌, ◌↔◌, ℕ, ◌<◌, ◌≤◌, Bool, true, false, List, [], ◌∷◌, ◌++◌, length, get_or, take, Result, Ok, Err, MatchResult, Option, IsTrue, Contains, IsPermutation, eqb, inl, inr, subst, sym, ap, ◌∙◌, arith}
+use Rattle.std.proofs.Common.{◌≡◌, ◌⊎◌, ◌↔◌, ℕ, ◌<◌, ◌≤◌, Bool, true, false, List, [], ◌∷◌, ◌++◌, length, get_or, take, Result, Ok, Err, MatchResult, Option, IsTrue, Contains, IsPermutation, eqb, inl, inr, subst, sym, ap, ◌∙◌, ⊎_elim, arith}
 use Rattle.std.specs.Result.{is_ok}
 use Rattle.std.specs.Ordering.{nat_cmp}
 use Rattle.std.specs.List.{dedup}
@@ -22,11 +22,9 @@ pub rising_has : (xs : List ℕ) (x : ℕ) (r : Result ℕ ℕ) (b : Bool) → I
 rising_has xs x r b up e p = go r e (searched xs x r p weakly)
   where
     weakly : (i j : ℕ) → i ≤ j → j < length xs → get_or xs i 0 ≤ get_or xs j 0
-    weakly i j h l = pick (cases_lt i j)
-      where
-        pick : (i < j) ⊎ (j ≤ i) → get_or xs i 0 ≤ get_or xs j 0
-        pick (inl m) = let less : get_or xs i 0 < get_or xs j 0 = AllPairs-from_increasing xs up i j 0 m l in omega (arith, less)
-        pick (inr m) = let same : get_or xs i 0 ≡ get_or xs j 0 = ap (λ k. get_or xs k 0) (let n : i ≡ j = omega (arith, h, m) in n) in omega (arith, same)
+    weakly i j h l =
+        ⊎_elim (λ m. let less : get_or xs i 0 < get_or xs j 0 = AllPairs-from_increasing xs up i j 0 m l in omega (arith, less))
+        (λ m. let same : get_or xs i 0 ≡ get_or xs j 0 = ap (λ k. get_or xs k 0) (let n : i ≡ j = omega (arith, h, m) in n) in omega (arith, same)) (cases_lt i j)
 
     go : (r : Result ℕ ℕ) → b ≡ is_ok r → MatchResult r (λ i. (i < length xs) × (get_or xs i 0 ≡ x)) (λ i. (i ≤ length xs) × ((k : ℕ) → k < i → get_or xs k 0 < x) × ((k : ℕ) → i ≤ k → k < length xs → x < get_or xs k 0)) → IsTrue b ↔ Contains xs x
     go (Ok i) e f = ((λ _. (i, f.0, sym (get_or_default xs i 0 x f.0) ∙ f.1)), (λ _. e))
@@ -56,11 +54,7 @@ pub first_open : (fits : ℕ → Type 0) (layer cells : List ℕ) (start : ℕ) 
 first_open fits layer cells start h e o v = (λ i. to ((h v).0 i), λ p. (h v).1 (from p))
   where
     to : Contains cells v → (v ≡ start) × fits v
-    to i = go ((members_push [] start v).0 (subst (λ xs. Contains xs v) e i))
-      where
-        go : Contains [] v ⊎ (start ≡ v) → (v ≡ start) × fits v
-        go (inl i) = absurd (omega (arith, i.1))
-        go (inr s) = (sym s, subst fits s o)
+    to i = ⊎_elim (λ i. absurd (omega (arith, i.1))) (λ s. (sym s, subst fits s o)) ((members_push [] start v).0 (subst (λ xs. Contains xs v) e i))
 
     from : (v ≡ start) × fits v → Contains cells v
     from p = subst (λ xs. Contains xs v) (sym e) ((members_push [] start v).1 (inr (sym p.0)))

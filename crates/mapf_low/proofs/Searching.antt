@@ -1,7 +1,8 @@
 -- A search by classes of one sum, class by class.
-use Rattle.std.proofs.Common.{◌≡◌, ◌⊎◌, ◌↔◌, ℕ, ◌+◌, ◌<◌, ◌≤◌, List, Contains, inl, inr, subst, sym, refl, arith}
+use Rattle.std.proofs.Common.{◌≡◌, ◌⊎◌, ◌↔◌, ℕ, ◌+◌, ◌<◌, ◌≤◌, List, Contains, inl, inr, subst, sym, refl, ⊎_elim, arith}
 use Rattle.std.proofs.lemmas.Bool.{cases_lt, cases_order}
 use Rattle.mapf_grid.specs.Grid.{IsFree, cells}
+use Rattle.mapf_grid.proofs.Decide.{up_to}
 use Rattle.mapf_low.specs.Query.{Query, MayEnd}
 use Rattle.mapf_low.specs.declared.constraint.Constraint.TheVariants.{Vertex}
 use Rattle.mapf_low.specs.Classes.{IsWithin, Leads, SomeLeads, Closes, ArePlaced}
@@ -33,14 +34,7 @@ module _ (query : Query) (nearest K : ℕ) (C D : ℕ → ℕ → Type 0) (old n
     (ground : Ground query nearest) (s : IsSearching query nearest K C) (c : IsClosed query nearest K old new C D) where
   -- what was reached stays, up to this class
   stays : (k v : ℕ) → k < K + 1 → C k v → D k v
-  stays k v l i = go (cases_lt k K)
-    where
-      go : (k < K) ⊎ (K ≤ k) → D k v
-      go (inl m) = (c.lower k v m).1 i
-      go (inr m) =
-          let e : K ≡ k = omega (arith, l, m) in
-          let was : C K v = subst (λ n. C n v) (sym e) i in
-          subst (λ n. D n v) e ((c.is v).1 (c.closes.keeps v ((c.was v).0 was)))
+  stays k v l = up_to (λ n. C n v → D n v) K k l (λ m. (c.lower k v m).1) (λ i. (c.is v).1 (c.closes.keeps v ((c.was v).0 i)))
 
   origin_stays : (k v : ℕ) → k < K + 1 → Origin query nearest C k v → Origin query nearest D k v
   origin_stays k v l (begins is zero free) = begins is zero free
@@ -52,37 +46,25 @@ module _ (query : Query) (nearest K : ℕ) (C D : ℕ → ℕ → Type 0) (old n
 
   -- each cell up to this class comes from somewhere
   sound : (k v : ℕ) → k < K + 1 → D k v → Origin query nearest D k v
-  sound k v l i = go (cases_lt k K)
-    where
-      go : (k < K) ⊎ (K ≤ k) → Origin query nearest D k v
-      go (inl m) = origin_stays k v l (s.sound k v ((c.lower k v m).0 i))
-      go (inr m) =
-          let e : K ≡ k = omega (arith, l, m) in
-          let here : Contains new v = (c.is v).0 (subst (λ n. D n v) (sym e) i) in
-          subst (λ n. Origin query nearest D n v) e (sound_here v (c.closes.sound v here))
+  sound k v l =
+      up_to (λ n. D n v → Origin query nearest D n v) K k l
+      (λ m i. origin_stays k v l (s.sound k v ((c.lower k v m).0 i))) (λ i. sound_here v (c.closes.sound v ((c.is v).0 i)))
 
   placed : ArePlaced query (nearest + K) new → (k v : ℕ) → k < K + 1 → D k v → IsFree query.grid v × (v < cells query.grid) × IsWithin query (nearest + k) v
-  placed h k v l i = go (cases_lt k K)
-    where
-      go : (k < K) ⊎ (K ≤ k) → IsFree query.grid v × (v < cells query.grid) × IsWithin query (nearest + k) v
-      go (inl m) = s.placed k v ((c.lower k v m).0 i)
-      go (inr m) =
-          let e : K ≡ k = omega (arith, l, m) in
-          subst (λ n. IsFree query.grid v × (v < cells query.grid) × IsWithin query (nearest + n) v) e (h v ((c.is v).0 (subst (λ n. D n v) (sym e) i)))
+  placed h k v l =
+      up_to (λ n. D n v → IsFree query.grid v × (v < cells query.grid) × IsWithin query (nearest + n) v) K k l
+      (λ m i. s.placed k v ((c.lower k v m).0 i)) (λ i. h v ((c.is v).0 i))
 
   -- steps that stay within this class
   closed_here : (k more u v : ℕ) → more ≤ 2 → k + more < K + 1 → D k u → Leads query (nearest + k) more u v → D (k + more) v
-  closed_here k more u v few l i leads = go (cases_lt k K)
-    where
-      go : (k < K) ⊎ (K ≤ k) → D (k + more) v
-      go (inl m) = stays (k + more) v l (s.closed k more u v few m ((c.lower k u m).0 i) leads)
-      go (inr m) =
-          let e : K ≡ k = omega (arith, l, m) in
-          let z : 0 ≡ more = omega (arith, l, m) in
-          let last : K ≡ k + more = omega (arith, l, m) in
-          let here : Contains new u = (c.is u).0 (subst (λ n. D n u) (sym e) i) in
-          let same : Leads query (nearest + K) 0 u v = subst (λ n. Leads query (nearest + n) 0 u v) (sym e) (subst (λ n. Leads query (nearest + k) n u v) (sym z) leads) in
-          subst (λ n. D n v) last ((c.is v).1 (c.closes.closed v (u, here, same)))
+  closed_here k more u v few l =
+      up_to (λ n. n + more < K + 1 → D n u → Leads query (nearest + n) more u v → D (n + more) v) K k (omega (arith, l))
+      (λ m l i leads. stays (k + more) v l (s.closed k more u v few m ((c.lower k u m).0 i) leads))
+      (λ l i leads.
+      let z : more ≡ 0 = omega (arith, l) in
+      let last : K ≡ K + more = omega (arith, l) in
+      subst (λ n. D n v) last ((c.is v).1 (c.closes.closed v (u, (c.is u).0 i, subst (λ n. Leads query (nearest + K) n u v) z leads))))
+      l
 
   first : (¬ Contains query.constraints (Vertex query.start 0)) → D 0 query.start
   first free = stays 0 query.start (omega arith) (s.first free)
@@ -98,11 +80,7 @@ module _ (query : Query) (nearest K : ℕ) (C D : ℕ → ℕ → Type 0) (old n
   }
     where
       within : (k v : ℕ) → D k v → k < K + 1
-      within k v i = go (cases_lt K k)
-        where
-          go : (K < k) ⊎ (k ≤ K) → k < K + 1
-          go (inl m) = absurd (none k v m i)
-          go (inr m) = omega (arith, m)
+      within k v i = ⊎_elim (λ m. absurd (none k v m i)) (λ m. omega (arith, m)) (cases_lt K k)
 
   -- one class more
   module _ (p : IsSpilled query nearest K new C D) where
@@ -121,19 +99,9 @@ module _ (query : Query) (nearest K : ℕ) (C D : ℕ → ℕ → Type 0) (old n
 
     -- what was reached stays, in all classes that there are
     stays_on : (k v : ℕ) → k ≤ K + 2 → C k v → D k v
-    stays_on k v l i = go (cases_lt k (K + 1))
-      where
-        beyond : (k < K + 2) ⊎ (K + 2 ≤ k) → K + 1 ≤ k → D k v
-        beyond (inl a) b =
-            let e : K + 1 ≡ k = omega (arith, a, b) in
-            subst (λ n. D n v) e ((p.next v).1 (inl (subst (λ n. C n v) (sym e) i)))
-        beyond (inr a) b =
-            let e : K + 2 ≡ k = omega (arith, a, l) in
-            subst (λ n. D n v) e ((p.after v).1 (inl (subst (λ n. C n v) (sym e) i)))
-
-        go : (k < K + 1) ⊎ (K + 1 ≤ k) → D k v
-        go (inl m) = stays k v m i
-        go (inr m) = beyond (cases_lt k (K + 2)) m
+    stays_on k v l =
+        up_to (λ n. C n v → D n v) (K + 2) k (omega (arith, l))
+        (λ m. up_to (λ n. C n v → D n v) (K + 1) k (omega (arith, m)) (stays k v) (λ i. (p.next v).1 (inl i))) (λ i. (p.after v).1 (inl i))
 
     origin_on : (k v : ℕ) → k ≤ K + 2 → Origin query nearest C k v → Origin query nearest D k v
     origin_on k v l (begins is zero free) = begins is zero free
@@ -150,66 +118,35 @@ module _ (query : Query) (nearest K : ℕ) (C D : ℕ → ℕ → Type 0) (old n
         let e : nearest + K + more ≡ nearest + (K + more) = omega arith in
         (q.0, q.1, subst (λ n. IsWithin query n v) e q.2)
 
-    -- each class, as this one, the next, the one after, or a lower one
+    -- each class is this one, the next, the one after, or a lower one
+    in_all : (P : ℕ → Type 0) (v : ℕ) → ((k : ℕ) → k < K + 1 → D k v → P k) → (D (K + 1) v → P (K + 1)) → (D (K + 2) v → P (K + 2)) → (k : ℕ) → D k v → P k
+    in_all P v lower next after k i =
+        let within : k < K + 2 + 1 = ⊎_elim (λ m. absurd (p.past k v m i)) (λ m. omega (arith, m)) (cases_lt (K + 2) k) in
+        up_to (λ n. D n v → P n) (K + 2) k within (λ m. up_to (λ n. D n v → P n) (K + 1) k (omega (arith, m)) (lower k) next) after i
+
+    -- so the search goes on
     pub goes_on : ArePlaced query (nearest + K) new → (Contains new query.goal → ¬ MayEnd query (nearest + K)) → IsSearching query nearest (K + 1) D
     goes_on h none = record { placed = λ k v i. all_placed k v i; sound = λ k v i. all_sound k v i; closed = closed; first = first; before = before }
       where
         all_sound : (k v : ℕ) → D k v → Origin query nearest D k v
-        all_sound k v i = go (cases_lt k (K + 1))
-          where
-            third : (k < K + 3) ⊎ (K + 3 ≤ k) → K + 2 ≤ k → Origin query nearest D k v
-            third (inl a) b =
-                let e : K + 2 ≡ k = omega (arith, a, b) in
-                subst (λ n. Origin query nearest D n v) e (sound_later 2 v (omega arith) ((p.after v).0 (subst (λ n. D n v) (sym e) i)))
-            third (inr a) b = absurd (p.past k v (omega (arith, a)) i)
-
-            second : (k < K + 2) ⊎ (K + 2 ≤ k) → K + 1 ≤ k → Origin query nearest D k v
-            second (inl a) b =
-                let e : K + 1 ≡ k = omega (arith, a, b) in
-                subst (λ n. Origin query nearest D n v) e (sound_later 1 v (omega arith) ((p.next v).0 (subst (λ n. D n v) (sym e) i)))
-            second (inr a) b = third (cases_lt k (K + 3)) a
-
-            go : (k < K + 1) ⊎ (K + 1 ≤ k) → Origin query nearest D k v
-            go (inl m) = sound k v m i
-            go (inr m) = second (cases_lt k (K + 2)) m
+        all_sound k v =
+            in_all (λ n. Origin query nearest D n v) v (λ k. sound k v)
+            (λ i. sound_later 1 v (omega arith) ((p.next v).0 i)) (λ i. sound_later 2 v (omega arith) ((p.after v).0 i)) k
 
         all_placed : (k v : ℕ) → D k v → IsFree query.grid v × (v < cells query.grid) × IsWithin query (nearest + k) v
-        all_placed k v i = go (cases_lt k (K + 1))
-          where
-            third : (k < K + 3) ⊎ (K + 3 ≤ k) → K + 2 ≤ k → IsFree query.grid v × (v < cells query.grid) × IsWithin query (nearest + k) v
-            third (inl a) b =
-                let e : K + 2 ≡ k = omega (arith, a, b) in
-                subst (λ n. IsFree query.grid v × (v < cells query.grid) × IsWithin query (nearest + n) v) e (placed_later h 2 v ((p.after v).0 (subst (λ n. D n v) (sym e) i)))
-            third (inr a) b = absurd (p.past k v (omega (arith, a)) i)
-
-            second : (k < K + 2) ⊎ (K + 2 ≤ k) → K + 1 ≤ k → IsFree query.grid v × (v < cells query.grid) × IsWithin query (nearest + k) v
-            second (inl a) b =
-                let e : K + 1 ≡ k = omega (arith, a, b) in
-                subst (λ n. IsFree query.grid v × (v < cells query.grid) × IsWithin query (nearest + n) v) e (placed_later h 1 v ((p.next v).0 (subst (λ n. D n v) (sym e) i)))
-            second (inr a) b = third (cases_lt k (K + 3)) a
-
-            go : (k < K + 1) ⊎ (K + 1 ≤ k) → IsFree query.grid v × (v < cells query.grid) × IsWithin query (nearest + k) v
-            go (inl m) = placed h k v m i
-            go (inr m) = second (cases_lt k (K + 2)) m
+        all_placed k v =
+            in_all (λ n. IsFree query.grid v × (v < cells query.grid) × IsWithin query (nearest + n) v) v (λ k. placed h k v)
+            (λ i. placed_later h 1 v ((p.next v).0 i)) (λ i. placed_later h 2 v ((p.after v).0 i)) k
 
         closed : (k more u v : ℕ) → more ≤ 2 → k < K + 1 → D k u → Leads query (nearest + k) more u v → D (k + more) v
-        closed k more u v few l i leads = go (cases_lt k K)
-          where
-            go : (k < K) ⊎ (K ≤ k) → D (k + more) v
-            go (inl m) = stays_on (k + more) v (omega (arith, m, few)) (s.closed k more u v few m ((c.lower k u m).0 i) leads)
-            go (inr m) =
-                let e : K ≡ k = omega (arith, l, m) in
-                let here : Contains new u = (c.is u).0 (subst (λ n. D n u) (sym e) i) in
-                subst (λ n. D (n + more) v) e (later more u v few here (subst (λ n. Leads query (nearest + n) more u v) (sym e) leads))
+        closed k more u v few l =
+            up_to (λ n. D n u → Leads query (nearest + n) more u v → D (n + more) v) K k l
+            (λ m i leads. stays_on (k + more) v (omega (arith, m, few)) (s.closed k more u v few m ((c.lower k u m).0 i) leads))
+            (λ i leads. later more u v few ((c.is u).0 i) leads)
 
         before : (k : ℕ) → k < K + 1 → D k query.goal → ¬ MayEnd query (nearest + k)
-        before k l i = go (cases_lt k K)
-          where
-            go : (k < K) ⊎ (K ≤ k) → ¬ MayEnd query (nearest + k)
-            go (inl m) = s.before k m ((c.lower k query.goal m).0 i)
-            go (inr m) =
-                let e : K ≡ k = omega (arith, l, m) in
-                subst (λ n. ¬ MayEnd query (nearest + n)) e (none ((c.is query.goal).0 (subst (λ n. D n query.goal) (sym e) i)))
+        before k l =
+            up_to (λ n. D n query.goal → ¬ MayEnd query (nearest + n)) K k l (λ m i. s.before k m ((c.lower k query.goal m).0 i)) (λ i. none ((c.is query.goal).0 i))
 
 -- where no class is left, those that there are have all that may be reached
 pub all_classes : (query : Query) (nearest K limit : ℕ) (C D : ℕ → ℕ → Type 0) → IsSearching query nearest K C → nearest + K ≤ limit + 1 →
@@ -223,18 +160,10 @@ all_classes query nearest K limit C D s l lower none over = record {
 }
   where
     within : (k v : ℕ) → D k v → k < K
-    within k v i = go (cases_lt k K)
-      where
-        go : (k < K) ⊎ (K ≤ k) → k < K
-        go (inl m) = m
-        go (inr m) = absurd (none k v m i)
+    within k v i = ⊎_elim (λ m. m) (λ m. absurd (none k v m i)) (cases_lt k K)
 
     stays : (k v : ℕ) → nearest + k ≤ limit → C k v → D k v
-    stays k v m i = go (cases_lt k K)
-      where
-        go : (k < K) ⊎ (K ≤ k) → D k v
-        go (inl a) = (lower k v a).1 i
-        go (inr a) = absurd (over k v a m i)
+    stays k v m i = ⊎_elim (λ a. (lower k v a).1 i) (λ a. absurd (over k v a m i)) (cases_lt k K)
 
     origin : (k v : ℕ) → k < K → Origin query nearest C k v → Origin query nearest D k v
     origin k v m (begins is zero free) = begins is zero free

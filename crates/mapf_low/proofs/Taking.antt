@@ -1,5 +1,5 @@
 -- The states that a search takes, listed class by class.
-use Rattle.std.proofs.Common.{◌≡◌, ◌≢◌, ◌⊎◌, ℕ, ◌+◌, ◌-◌, ◌<◌, ◌≤◌, false, true, eqb, List, [], ◌∷◌, ◌++◌, length, take, get_or, Option, Some, None, Contains, inl, inr, subst, sym, refl, ap, ◌∙◌, arith}
+use Rattle.std.proofs.Common.{◌≡◌, ◌≢◌, ◌⊎◌, ℕ, ◌+◌, ◌-◌, ◌<◌, ◌≤◌, false, true, eqb, List, [], ◌∷◌, ◌++◌, length, take, get_or, Option, Some, None, Contains, inl, inr, subst, sym, refl, ap, ◌∙◌, ⊎_elim, arith}
 use Rattle.std.specs.Option.{unwrap_or, option_map}
 use Rattle.std.specs.List.{IsDistinct, AllPairs}
 use Rattle.std.proofs.lemmas.Bool.{cases_lt, eq-eqb}
@@ -158,11 +158,7 @@ all_taken query nearest classes end found states count posed searched own ends w
         h.complete (t + n.0 - nearest) (v, t) (omega (arith, inside, whole)) p.1 (match_to (distance_at query.table v) n.0 (λ m. t + m ≡ nearest + (t + n.0 - nearest)) n.1 (omega (arith, p.0)))
       where
         is_inside : (k v : ℕ) → Contains (class_at classes k) v → k < length classes
-        is_inside k v i = go (cases_lt k (length classes))
-          where
-            go : (k < length classes) ⊎ (length classes ≤ k) → k < length classes
-            go (inl l) = l
-            go (inr l) = absurd (Rattle.mapf_low.proofs.ClassLists.past_all classes k v l i)
+        is_inside k v i = ⊎_elim (λ l. l) (λ l. absurd (Rattle.mapf_low.proofs.ClassLists.past_all classes k v l i)) (cases_lt k (length classes))
 
     path : (p : List ℕ) → IsOwnPath query.grid query.start query.goal query.limit query.constraints p → (t : ℕ) → t ≤ cost p → Contains states (at p t, t)
     path p mine t l =

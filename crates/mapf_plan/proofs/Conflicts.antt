@@ -44,9 +44,16 @@ IsEarly plan b c =
     (conflict_time c ≤ b) ⊎ ((d : Conflict) × IsConflictOfPair plan (first_agent c) (second_agent c) d × (conflict_time d ≡ b) × (conflict_time d < conflict_time c))
 
 -- it is, where both paths end by the bound
-early_of : (plan : List (List ℕ)) (b : ℕ) (c : Conflict) → cost (path_of plan (first_agent c)) ≤ b → cost (path_of plan (second_agent c)) ≤ b → IsConflict plan c → IsEarly plan b c
+early_of : (plan : List (List ℕ)) (b : ℕ) (c : Conflict) → cost (path_of plan (first_agent c)) ≤ b → cost (path_of plan (second_agent c)) ≤ b →
+    IsConflict plan c → IsEarly plan b c
 early_of plan b (Vertex i j v t) hi hj h =
-    ⊎_elim (λ l. inr (Vertex i j v b, ((h.0, h.1, same_place plan b i b t hi (omega arith) (omega (arith, l)) ∙ h.2, same_place plan b j b t hj (omega arith) (omega (arith, l)) ∙ h.3), refl, refl), refl, l))
+    ⊎_elim
+    (λ l. inr (
+      Vertex i j v b,
+      ((h.0, h.1, same_place plan b i b t hi (omega arith) (omega (arith, l)) ∙ h.2, same_place plan b j b t hj (omega arith) (omega (arith, l)) ∙ h.3), refl, refl),
+      refl,
+      l,
+    ))
     inl (cases_lt b t)
 early_of plan b (Swapping i j u v t) hi hj h =
     ⊎_elim (λ l. absurd (h.3 (sym h.4 ∙ same_place plan b i (t - 1) t hi (omega (arith, l)) (omega (arith, l)) ∙ h.5))) inl (cases_lt b t)
@@ -107,7 +114,14 @@ module _ (plan : List (List ℕ)) where
 pub first_conflict : (plan : List (List ℕ)) → ((c : Conflict) × IsFirstConflict plan c) ⊎ HasNoConflict plan
 first_conflict plan =
     ⊎_elim
-    (λ w. inl (w.0, record { member = w.1.member.0; least = λ d k. ⊎_elim (λ h. w.1.least d (k, h)) (λ e. not_before w.0 d (omega (arith, w.1.member.1, e.2, e.3))) (by_end d k) }))
+    (λ w. inl (
+      w.0,
+      record {
+        member = w.1.member.0;
+        least = λ d k.
+            ⊎_elim (λ h. w.1.least d (k, h)) (λ e. not_before w.0 d (omega (arith, w.1.member.1, e.2, e.3))) (by_end d k);
+      },
+    ))
     (λ f. inr (λ d k. ⊎_elim (λ h. f d (k, h)) (λ e. f e.0 (e.1.0, omega (arith, e.2))) (by_end d k)))
     (least_of conflict_rank (λ c. IsConflict plan c × (conflict_time c ≤ plan_cost plan)) (λ c. dec_and (dec_conflict plan c) (dec_le (conflict_time c) (plan_cost plan)))
     (candidates plan (plan_cost plan)) (covers plan (plan_cost plan)))
@@ -181,8 +195,16 @@ others_stand plan agent path (Vertex i j v t) is =
     let same = other_place plan agent path in
     (is.0.0, omega (arith, is.0.1, length-set plan agent path), same i t is.1 ∙ is.0.2, same j t is.2 ∙ is.0.3)
 others_stand plan agent path (Swapping i j u v t) is =
-    let same = other_place plan agent path in
-    (is.0.0, omega (arith, is.0.1, length-set plan agent path), is.0.2, is.0.3, same i (t - 1) is.1 ∙ is.0.4, same i t is.1 ∙ is.0.5, same j (t - 1) is.2 ∙ is.0.6, same j t is.2 ∙ is.0.7)
+    let same = other_place plan agent path in (
+      is.0.0,
+      omega (arith, is.0.1, length-set plan agent path),
+      is.0.2,
+      is.0.3,
+      same i (t - 1) is.1 ∙ is.0.4,
+      same i t is.1 ∙ is.0.5,
+      same j (t - 1) is.2 ∙ is.0.6,
+      same j t is.2 ∙ is.0.7,
+    )
 
 -- so they have none before the time of the plan's first conflict
 pub none_without : (plan : List (List ℕ)) (agent : ℕ) (path : List ℕ) (c : Conflict) → agent < length plan → IsFirstConflict plan c → NoneBefore conflict_rank (IsConflictWithout (set plan agent path) agent) (conflict_time c ∷ [])

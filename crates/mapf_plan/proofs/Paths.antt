@@ -1,5 +1,5 @@
 -- Facts of one path, and that it can be decided whether a list is one.
-use Rattle.std.proofs.Common.{◌≡◌, ◌≢◌, ◌⊎◌, ℕ, zero, suc, ◌<◌, ◌≤◌, ◌+◌, min, true, List, length, get_or, slice_index, inl, inr, subst, sym, ap, ◌∙◌, arith}
+use Rattle.std.proofs.Common.{◌≡◌, ◌≢◌, ℕ, zero, suc, ◌<◌, ◌≤◌, ◌+◌, min, true, List, length, get_or, slice_index, subst, sym, ap, ◌∙◌, ⊎_elim, arith}
 use Rattle.std.specs.List.{AllByRecursion}
 use Rattle.std.proofs.lemmas.List.Elements.{recursion_from_All}
 use Rattle.std.proofs.lemmas.List.{get_or_default}
@@ -55,16 +55,12 @@ cells_below g s e p h =
 
 -- it is always on a free cell
 pub place_free : (g : Grid) (s e : ℕ) (p : List ℕ) → IsPath g s e p → (t : ℕ) → IsFree g (at p t)
-place_free g s e p h t = go (cases_lt t (length p))
-  where
-    go : (t < length p) ⊎ (length p ≤ t) → IsFree g (at p t)
-    go (inl l) = cell_free g s e p h t l
-    go (inr l) = subst (λ c. IsFree g c) (sym (at_past p t (omega (arith, l)))) (cell_free g s e p h (cost p) (omega (arith, h.some)))
+place_free g s e p h t =
+    ⊎_elim (λ l. cell_free g s e p h t l)
+    (λ l. subst (λ c. IsFree g c) (sym (at_past p t (omega (arith, l)))) (cell_free g s e p h (cost p) (omega (arith, h.some)))) (cases_lt t (length p))
 
 -- where it changes its place, it makes a step of the grid
 pub moves : (g : Grid) (s e : ℕ) (p : List ℕ) → IsPath g s e p → (k t : ℕ) → k + 1 ≡ t → at p k ≢ at p t → Next g (at p k) (at p t)
-moves g s e p h k t n ne = go (cases_lt k (cost p))
-  where
-    go : (k < cost p) ⊎ (cost p ≤ k) → Next g (at p k) (at p t)
-    go (inl l) = subst (λ m. Next g (at p k) (at p m)) n (h.steps k l)
-    go (inr l) = absurd (ne (at_past p k l ∙ sym (at_past p t (omega (arith, l, n)))))
+moves g s e p h k t n ne =
+    ⊎_elim (λ l. subst (λ m. Next g (at p k) (at p m)) n (h.steps k l))
+    (λ l. absurd (ne (at_past p k l ∙ sym (at_past p t (omega (arith, l, n)))))) (cases_lt k (cost p))

@@ -24,7 +24,8 @@ use Rattle.mapf_tree.proofs.Plans.{AllowedAt, OwnAt, own_at}
 pub obeyed_is_in_cost : ObeyedIsInCost
 obeyed_is_in_cost problem node other valid within obeys =
     let w = build [] (length problem.inst.starts) (OwnAt problem node) own in
-    let costs : plan_cost w.0 ≤ plan_cost other = sum_by-le cost [] w.0 other (w.1 ∙ sym valid.agents) (λ i h. let k = subst (λ n. i < n) w.1 h in own_path_costs _ _ _ _ _ _ _ (w.2 i k) (allowed i k)) in
+    let costs : plan_cost w.0 ≤ plan_cost other = sum_by-le cost [] w.0 other (w.1 ∙ sym valid.agents)
+    (λ i h. let k = subst (λ n. i < n) w.1 h in own_path_costs _ _ _ _ _ _ _ (w.2 i k) (allowed i k)) in
     (w.0, record { agents = w.1; own = w.2; within = omega (arith, costs, within) }, costs)
   where
     allowed : (i : ℕ) → i < length problem.inst.starts → AllowedAt problem node i (path_of other i)

@@ -142,7 +142,8 @@ module _ (problem : Problem) where
       let r = planned ps (All-tail (InTree problem) p ps a) in (
         (p, w.0) ∷ r.0,
         All-cons (IsMember problem) (p, w.0) r.0 (record { inside = inside; plan = w.1 }) r.1,
-        λ m h i. ⊎_elim (λ e. here r.0 (λ j. (e j, same_plan problem m.0 w.0 m.1 (subst (λ q. HasPlan problem q w.0) e w.1) h.plan j))) (λ k. there r.0 (r.2 m h k)) (here_or_there ps i),
+        λ m h i.
+            ⊎_elim (λ e. here r.0 (λ j. (e j, same_plan problem m.0 w.0 m.1 (subst (λ q. HasPlan problem q w.0) e w.1) h.plan j))) (λ k. there r.0 (r.2 m h k)) (here_or_there ps i),
       )
 
   -- so the tree's nodes with their plans are a list

@@ -89,8 +89,12 @@ grown_side problem node plan c s grown has first =
     let Fit = Fits problem.inst.grid problem.bound in
     record {
       agents = length-set node.constraints a _ ∙ grown.agents;
-      distinct = λ i h. set_cases (λ cs. Distinct cs) node.constraints a i more [] (omega (arith, h, grown.agents)) (λ _. (constraint_is_new problem node plan c s has first.member, grown.distinct a within)) (λ _. grown.distinct i h);
-      fits = λ i h. set_cases (All Fit) node.constraints a i more [] (omega (arith, h, grown.agents)) (λ _. All-cons Fit (constraint_on c s) (constraints_of node a) (side_fits problem node plan c s has first) (grown.fits a within)) (λ _. grown.fits i h);
+      distinct = λ i h.
+          set_cases (λ cs. Distinct cs) node.constraints a i more [] (omega (arith, h, grown.agents))
+          (λ _. (constraint_is_new problem node plan c s has first.member, grown.distinct a within)) (λ _. grown.distinct i h);
+      fits = λ i h.
+          set_cases (All Fit) node.constraints a i more [] (omega (arith, h, grown.agents))
+          (λ _. All-cons Fit (constraint_on c s) (constraints_of node a) (side_fits problem node plan c s has first) (grown.fits a within)) (λ _. grown.fits i h);
       depth = let e = sum_by-set (λ cs. length cs) node.constraints a more [] inside in omega (arith, e, length-append node.name (s ∷ []), grown.depth);
     }
   where
@@ -122,7 +126,8 @@ depth_le problem cells edges holds node g =
     one : (i : ℕ) → i < length problem.inst.starts → length (constraints_of node i) ≤ (problem.bound + 1) * (length cells + length edges)
     one i h =
         subst (λ k. length (constraints_of node i) ≤ k) (length-universe cells edges problem.bound)
-        (distinct_le (constraints_of node i) (universe cells edges problem.bound) (g.distinct i h) (λ c k. Contains-universe problem.inst.grid cells edges problem.bound holds c (All-contains (Fits problem.inst.grid problem.bound) (constraints_of node i) c (g.fits i h) k)))
+        (distinct_le (constraints_of node i) (universe cells edges problem.bound) (g.distinct i h)
+        (λ c k. Contains-universe problem.inst.grid cells edges problem.bound holds c (All-contains (Fits problem.inst.grid problem.bound) (constraints_of node i) c (g.fits i h) k)))
 
 -- some number that no depth exceeds
 pub most : Problem → ℕ

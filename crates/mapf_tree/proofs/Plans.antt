@@ -50,7 +50,8 @@ dec_in_cost problem node =
     ⊎_elim (λ w. within w.0 w.1 w.2) (λ n. no (λ w. n.2 (path_of w.0 n.0) (w.1.own n.0 n.1)))
     (build_or [] (length problem.inst.starts) (OwnAt problem node) (λ i. ⊎_elim inl (λ n. inr (λ p h. n p h.member)) (own_at problem node i)))
   where
-    within : (plan : List (List ℕ)) → length plan ≡ length problem.inst.starts → ((i : ℕ) → i < length problem.inst.starts → OwnAt problem node i (path_of plan i)) → Dec (InCost problem node)
+    within : (plan : List (List ℕ)) → length plan ≡ length problem.inst.starts →
+        ((i : ℕ) → i < length problem.inst.starts → OwnAt problem node i (path_of plan i)) → Dec (InCost problem node)
     within plan n own =
         dec_map (λ h. (plan, record { agents = n; own = own; within = h }))
         (λ w. subst (λ p. plan_cost p ≤ problem.bound) (same_paths problem node w.0 plan w.1.agents n w.1.own own) w.1.within) (dec_le (plan_cost plan) problem.bound)

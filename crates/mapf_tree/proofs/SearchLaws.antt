@@ -121,7 +121,8 @@ module _ (problem : Problem) where
             (λ p. ⊎_elim (λ r. inl (waited (inr (p.0, p.1, r, p.3)))) (λ e. inr (w.member, subst (λ y. IsChild y m) e p.3)) (reached_now p.0 p.1 p.2)) w.from
           where
             waited : (m.0 ≡ root_of problem) ⊎ ((p : PlannedNode) × IsMember problem p × IsReached last p × IsChild p m) → Waits m × (m ≢ x)
-            waited from = ((at.waits m).1 (record { member = w.member; open_yet = λ r. w.open_yet (reached_then m (inl r)); from = from }), λ e. w.open_yet (reached_then m (inr e)))
+            waited from =
+                ((at.waits m).1 (record { member = w.member; open_yet = λ r. w.open_yet (reached_then m (inl r)); from = from }), λ e. w.open_yet (reached_then m (inr e)))
 
     -- so the search goes on
     turn_takes_next : (Next : PlannedNode → Type 0) → ¬ HasNoConflict x.1 → IsTurn problem Waits x Next → IsSearchAt problem (Some (key x)) Next

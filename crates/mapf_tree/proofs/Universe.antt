@@ -78,5 +78,7 @@ unfolding cells_of edges_of
 holds_all g =
     record {
       all_cells = λ c h. Contains-below (length g.free) c (slice_get_within g.free c true h);
-      all_edges = λ u v h n. Contains-flat_map (λ u. map (λ v. (u, v)) (below (length g.free))) (below (length g.free)) u (u, v) (Contains-below (length g.free) u (slice_get_within g.free u true h.0)) (Contains-map (λ v. (u, v)) (below (length g.free)) v (Contains-below (length g.free) v (slice_get_within g.free v true h.1)));
+      all_edges = λ u v h n.
+          Contains-flat_map (λ u. map (λ v. (u, v)) (below (length g.free))) (below (length g.free)) u (u, v) (Contains-below (length g.free) u (slice_get_within g.free u true h.0))
+          (Contains-map (λ v. (u, v)) (below (length g.free)) v (Contains-below (length g.free) v (slice_get_within g.free v true h.1)));
     }
