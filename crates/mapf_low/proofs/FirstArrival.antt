@@ -1,8 +1,10 @@
 -- The path that is read back is an agent's own path.
-use Rattle.std.proofs.Common.{◌≡◌, ◌≢◌, ◌⊎◌, ℕ, zero, suc, ◌<◌, ◌≤◌, ◌+◌, ◌-◌, List, length, slice_index, slice_index_or, Option, Some, None, MatchOption, Contains, inl, inr, subst, subst₂, sym, refl, ap, ◌∙◌, arith}
+use Rattle.std.proofs.Common.{◌≡◌, ◌≢◌, ◌⊎◌, ℕ, zero, suc, ◌<◌, ◌≤◌, ◌+◌, ◌-◌, List, length, slice_index, slice_index_or, Option, Some, None, MatchOption, Contains, inl, inr, subst, subst₂, sym, refl, ap, ◌∙◌, ⊎_elim, arith}
 use Rattle.std.proofs.lemmas.Bool.{cases_lt}
 use Rattle.std.proofs.lemmas.List.Elements.{All-contains}
+use native.Mathlib.Decide.{ℕ_discrete}
 use Rattle.mapf_grid.specs.Least.{Precedes}
+use Rattle.mapf_grid.proofs.Decide.{by_cases, up_to}
 use Rattle.mapf_plan.specs.Path.{cost, at, IsPath}
 use Rattle.mapf_plan.proofs.Paths.{at_inside, at_past, place_free}
 use Rattle.mapf_low.specs.Query.{Query, IsPosed, MayEnd}
@@ -61,13 +63,12 @@ module _ (query : Query) (limit : ℕ) (At : ℕ → ℕ → Type 0) (count : �
 
   -- so no allowed path costs less than the first arrival
   pub no_cheaper : (end : ℕ) → ((t : ℕ) → t < end → ¬ EndsAt query At t) → end ≤ count → (p : List ℕ) → Allowed p → end ≤ cost p
-  no_cheaper end none long p a = go (cases_lt (cost p) end)
-    where
-      go : (cost p < end) ⊎ (end ≤ cost p) → end ≤ cost p
-      go (inr l) = l
-      go (inl l) =
-          let here : At (cost p) (at p (cost p)) = reached p a (cost p) (omega arith) (omega (arith, l, long)) in
-          absurd (none (cost p) l (subst (λ c. At (cost p) c) a.path.ends here, may_end p a))
+  no_cheaper end none long p a =
+      ⊎_elim
+      (λ l.
+      let here : At (cost p) (at p (cost p)) = reached p a (cost p) (omega arith) (omega (arith, l, long)) in
+      absurd (none (cost p) l (subst (λ c. At (cost p) c) a.path.ends here, may_end p a)))
+      (λ l. l) (cases_lt (cost p) end)
 
   -- nothing that is reached is forbidden at its time
   open_in : (t v : ℕ) → t < count → At t v → ¬ Contains query.constraints (Vertex v t)
@@ -89,13 +90,9 @@ module _ (query : Query) (limit : ℕ) (At : ℕ → ℕ → Type 0) (count : �
 
     -- its places are reached
     placed : (t : ℕ) → t ≤ end → At t (at q t)
-    placed t l = go (cases_lt t end)
-      where
-        go : (t < end) ⊎ (end ≤ t) → At t (at q t)
-        go (inl m) = subst (λ c. At t c) (sym (at_q t l)) (read.back t (omega arith) m).comes.0
-        go (inr m) =
-            let n : end ≡ t = omega (arith, l, m) in
-            subst (λ k. At k (at q k)) n (subst (λ c. At end c) (sym ends) arrives.0)
+    placed t l =
+        up_to (λ k. At k (at q k)) end t (omega (arith, l))
+        (λ m. subst (λ c. At t c) (sym (at_q t l)) (read.back t (omega arith) m).comes.0) (subst (λ c. At end c) (sym ends) arrives.0)
 
     stepped : (t : ℕ) → t < end → MayStep query (t + 1) (at q t) (at q (t + 1))
     stepped t l = subst₂ (λ u v. MayStep query (t + 1) u v) (sym (at_q t (omega (arith, l)))) (sym (at_q (t + 1) (omega (arith, l)))) (read.back t (omega arith) l).comes.1
@@ -108,13 +105,10 @@ module _ (query : Query) (limit : ℕ) (At : ℕ → ℕ → Type 0) (count : �
         here = subst (λ c. At t c) there (placed t (omega (arith, e, costs)))
 
         free : MayEnd query t
-        free s l = go (cases_lt t s)
-          where
-            go : (t < s) ⊎ (s ≤ t) → ¬ Contains query.constraints (Vertex query.goal s)
-            go (inl m) = arrives.1 s (omega (arith, m, e, costs))
-            go (inr m) =
-                let n : t ≡ s = omega (arith, l, m) in
-                subst (λ k. ¬ Contains query.constraints (Vertex query.goal k)) n (open_in t query.goal (omega (arith, e, costs, long)) here)
+        free s l =
+            by_cases (ℕ_discrete t s)
+            (λ same. subst (λ k. ¬ Contains query.constraints (Vertex query.goal k)) same (open_in t query.goal (omega (arith, e, costs, long)) here))
+            (λ other. arrives.1 s (omega (arith, l, other, e, costs)))
 
     is_path : IsPath query.grid query.start query.goal q
     is_path = record {

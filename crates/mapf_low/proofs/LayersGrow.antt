@@ -1,7 +1,7 @@
 -- Layers, one more at a time.
-use Rattle.std.proofs.Common.{◌≡◌, ◌⊎◌, ℕ, ◌+◌, ◌<◌, ◌≤◌, List, [], ◌∷◌, ◌++◌, length, Contains, inl, inr, subst, subst₂, sym, ap, arith}
-use Rattle.std.proofs.lemmas.Bool.{cases_lt}
+use Rattle.std.proofs.Common.{◌≡◌, ℕ, ◌+◌, ◌<◌, List, [], ◌∷◌, ◌++◌, length, Contains, subst, subst₂, sym, ap, arith}
 use Rattle.std.proofs.lemmas.List.{get_or_append_left, get_or_at, length-append}
+use Rattle.mapf_grid.proofs.Decide.{up_to}
 use Rattle.mapf_low.specs.Query.{Query}
 use Rattle.mapf_low.specs.Layers.{IsFirstLayer, IsNextLayer, InLayers, layer_at}
 use Rattle.mapf_low.specs.Reached.{EndsAt}
@@ -25,27 +25,15 @@ module _ (query : Query) where
   layers_push layers next time h long n = record { first = subst (IsFirstLayer query) (sym (layer_kept layers next 0 (omega (arith, long)))) h.first; next = each }
     where
       each : (t : ℕ) → t + 1 < length (layers ++ next ∷ []) → IsNextLayer query (t + 1) (layer_at (layers ++ next ∷ []) t) (layer_at (layers ++ next ∷ []) (t + 1))
-      each t l = go (cases_lt t time)
-        where
-          short : t + 1 < time + 2
-          short = omega (arith, l, length-append layers (next ∷ []), long)
-
-          go : (t < time) ⊎ (time ≤ t) → IsNextLayer query (t + 1) (layer_at (layers ++ next ∷ []) t) (layer_at (layers ++ next ∷ []) (t + 1))
-          go (inl m) =
-              subst₂ (λ a b. IsNextLayer query (t + 1) a b) (sym (layer_kept layers next t (omega (arith, m, long)))) (sym (layer_kept layers next (t + 1) (omega (arith, m, long)))) (h.next t (omega (arith, m, long)))
-          go (inr m) =
-              let e : time ≡ t = omega (arith, m, short) in
-              let here : IsNextLayer query (t + 1) (layer_at layers t) next = subst (λ k. IsNextLayer query (k + 1) (layer_at layers k) next) e n in
-              subst₂ (λ a b. IsNextLayer query (t + 1) a b) (sym (layer_kept layers next t (omega (arith, e, long)))) (sym (layer_new layers next (t + 1) (omega (arith, e, long)))) here
+      each t l =
+          up_to (λ k. IsNextLayer query (k + 1) (layer_at (layers ++ next ∷ []) k) (layer_at (layers ++ next ∷ []) (k + 1))) time t
+          (omega (arith, l, length-append layers (next ∷ []), long))
+          (λ m. subst₂ (λ a b. IsNextLayer query (t + 1) a b) (sym (layer_kept layers next t (omega (arith, m, long)))) (sym (layer_kept layers next (t + 1) (omega (arith, m, long)))) (h.next t (omega (arith, m, long))))
+          (subst₂ (λ a b. IsNextLayer query (time + 1) a b) (sym (layer_kept layers next time (omega (arith, long)))) (sym (layer_new layers next (time + 1) long)) n)
 
 -- where nothing arrived before, and not now, nothing arrived up to now
 pub not_yet : (query : Query) (layers : List (List ℕ)) (next : List ℕ) (time : ℕ) → length layers ≡ time + 1 → ((t : ℕ) → t < time → ¬ EndsAt query (InLayers layers) t) → ¬ EndsAt query (InLayers layers) time →
     (t : ℕ) → t < time + 1 → ¬ EndsAt query (InLayers (layers ++ next ∷ [])) t
-not_yet query layers next time long before now t l = go (cases_lt t time)
-  where
-    kept : EndsAt query (InLayers (layers ++ next ∷ [])) t → EndsAt query (InLayers layers) t
-    kept a = (subst (λ layer. Contains layer query.goal) (layer_kept layers next t (omega (arith, l, long))) a.0, a.1)
-
-    go : (t < time) ⊎ (time ≤ t) → ¬ EndsAt query (InLayers (layers ++ next ∷ [])) t
-    go (inl m) = λ a. before t m (kept a)
-    go (inr m) = λ a. now (let e : t ≡ time = omega (arith, l, m) in subst (λ k. EndsAt query (InLayers layers) k) e (kept a))
+not_yet query layers next time long before now t l a =
+    up_to (λ k. ¬ EndsAt query (InLayers layers) k) time t l (before t) now
+    (subst (λ layer. Contains layer query.goal) (layer_kept layers next t (omega (arith, l, long))) a.0, a.1)

@@ -1,6 +1,5 @@
 -- An own path within a limit, and within a higher one.
-use Rattle.std.proofs.Common.{◌≡◌, ◌⊎◌, ℕ, ◌<◌, ◌≤◌, true, false, List, Option, Some, None, is_some, MatchOption, inl, inr, arith}
-use Rattle.std.proofs.lemmas.Bool.{cases_lt}
+use Rattle.std.proofs.Common.{◌≡◌, ℕ, ◌≤◌, true, false, List, Option, Some, None, is_some, MatchOption, ⊎_elim, arith}
 use Rattle.mapf_grid.specs.Grid.{Grid}
 use Rattle.mapf_grid.specs.Least.{Precedes}
 use Rattle.mapf_plan.specs.Path.{cost}
@@ -13,12 +12,9 @@ pub own_by_bound : (g : Grid) (cs : List Constraint) (limit bound start goal : �
 own_by_bound g cs limit bound start goal q l own = record { member = record { path = own.member.path; within = omega (arith, l, own.member.within); obeys = own.member.obeys }; least = least }
   where
     least : (y : List ℕ) → IsAllowed g start goal bound cs y → ¬ Precedes (path_rank y) (path_rank q)
-    least y a h = go (cases_lt limit (cost y)) h
-      where
-        go : (limit < cost y) ⊎ (cost y ≤ limit) → Precedes (path_rank y) (path_rank q) → ⊥
-        go (inr m) p = own.least y (record { path = a.path; within = m; obeys = a.obeys }) p
-        go (inl m) (inl p) = omega (arith, m, p, own.member.within)
-        go (inl m) (inr p) = omega (arith, m, p.0, own.member.within)
+    least y a h =
+        let within : cost y ≤ limit = ⊎_elim (λ p. omega (arith, p, own.member.within)) (λ p. omega (arith, p.0, own.member.within)) h in
+        own.least y (record { path = a.path; within = within; obeys = a.obeys }) h
 
 -- so what was found within a limit is found within the bound
 pub found_by_bound : (g : Grid) (cs : List Constraint) (limit bound start goal : ℕ) (found : Option (List ℕ)) → limit ≤ bound → is_some found ≡ true →

@@ -1,8 +1,9 @@
 -- A path that is read back, one cell more at a time.
-use Rattle.std.proofs.Common.{◌≡◌, ◌≢◌, ◌⊎◌, ℕ, zero, suc, ◌+◌, ◌<◌, ◌≤◌, List, get_or, slice_index, set, replicate, inl, inr, subst, subst₂, sym, ◌∙◌, arith}
-use Rattle.std.proofs.lemmas.Bool.{cases_lt}
+use Rattle.std.proofs.Common.{◌≡◌, ◌≢◌, ℕ, zero, suc, ◌+◌, ◌<◌, ◌≤◌, List, get_or, slice_index, set, replicate, subst, subst₂, sym, ◌∙◌, arith}
 use Rattle.std.proofs.lemmas.List.{length-set, get_or-set_other, get_or-set_same, length-replicate, get_or-replicate, get_or_default}
+use native.Mathlib.Decide.{ℕ_discrete}
 use Rattle.mapf_grid.specs.Grid.{IsFree, cells}
+use Rattle.mapf_grid.proofs.Decide.{by_cases}
 use Rattle.mapf_low.specs.Query.{Query}
 use Rattle.mapf_low.specs.Reached.{AreLinked, ComesFrom, IsSmallestBefore, IsReconstructed}
 use Rattle.mapf_low.proofs.Places.{free_below}
@@ -46,15 +47,13 @@ module _ (query : Query) (At : ℕ → ℕ → Type 0) where
       here = get_or-set_same path t u 0 (omega (arith, l, h.long))
 
       back : (k : ℕ) → t ≤ k → k < end → IsSmallestBefore query (k + 1) (At k) (slice_index (set path t u) (k + 1)) (slice_index (set path t u) k)
-      back k m b = go (cases_lt t k)
-        where
-          go : (t < k) ⊎ (k ≤ t) → IsSmallestBefore query (k + 1) (At k) (slice_index (set path t u) (k + 1)) (slice_index (set path t u) k)
-          go (inl a) = subst₂ (λ v w. IsSmallestBefore query (k + 1) (At k) v w) (sym (later (k + 1) (omega (arith, a)))) (sym (later k a)) (h.back k (omega (arith, a)) b)
-          go (inr a) =
-              let e : t ≡ k = omega (arith, a, m) in
-              let now : IsSmallestBefore query (t + 1) (At t) (slice_index (set path t u) (t + 1)) (slice_index (set path t u) t) =
-              subst₂ (λ v w. IsSmallestBefore query (t + 1) (At t) v w) (sym (later (t + 1) (omega arith))) (sym here) s in
-              subst (λ n. IsSmallestBefore query (n + 1) (At n) (slice_index (set path t u) (n + 1)) (slice_index (set path t u) n)) e now
+      back k m b =
+          by_cases (ℕ_discrete t k)
+          (λ e. subst (λ n. IsSmallestBefore query (n + 1) (At n) (slice_index (set path t u) (n + 1)) (slice_index (set path t u) n)) e
+          (subst₂ (λ v w. IsSmallestBefore query (t + 1) (At t) v w) (sym (later (t + 1) (omega arith))) (sym here) s))
+          (λ n.
+          let a : t < k = omega (arith, m, n) in
+          subst₂ (λ v w. IsSmallestBefore query (k + 1) (At k) v w) (sym (later (k + 1) (omega (arith, a)))) (sym (later k a)) (h.back k (omega (arith, a)) b))
 
   -- what is read at a time step is the smallest cell that the next may be entered from
   pub read_step : (path : List ℕ) (t u end cell : ℕ) → t < end → IsReconstructed query At path (t + 1) end → cell ≡ get_or path (t + 1) cell →
