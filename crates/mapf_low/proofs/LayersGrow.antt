@@ -28,7 +28,9 @@ module _ (query : Query) where
       each t l =
           up_to (λ k. IsNextLayer query (k + 1) (layer_at (layers ++ next ∷ []) k) (layer_at (layers ++ next ∷ []) (k + 1))) time t
           (omega (arith, l, length-append layers (next ∷ []), long))
-          (λ m. subst₂ (λ a b. IsNextLayer query (t + 1) a b) (sym (layer_kept layers next t (omega (arith, m, long)))) (sym (layer_kept layers next (t + 1) (omega (arith, m, long)))) (h.next t (omega (arith, m, long))))
+          (λ m.
+          subst₂ (λ a b. IsNextLayer query (t + 1) a b) (sym (layer_kept layers next t (omega (arith, m, long))))
+          (sym (layer_kept layers next (t + 1) (omega (arith, m, long)))) (h.next t (omega (arith, m, long))))
           (subst₂ (λ a b. IsNextLayer query (time + 1) a b) (sym (layer_kept layers next time (omega (arith, long)))) (sym (layer_new layers next (time + 1) long)) n)
 
 -- where nothing arrived before, and not now, nothing arrived up to now

@@ -1,6 +1,7 @@
 -- A valid plan that obeys a node obeys one of its sides.
-use Rattle.std.proofs.Common.{◌≡◌, ◌⊎◌, ℕ, ◌<◌, List, [], ◌∷◌, length, get_or, set, inl, inr, subst, sym, ap, ◌∙◌, arith, get_or-set_same, get_or-set_other}
+use Rattle.std.proofs.Common.{◌≡◌, ℕ, ◌<◌, List, [], ◌∷◌, length, get_or, set, inl, inr, subst, sym, ap, ◌∙◌, arith, get_or-set_same, get_or-set_other}
 use native.Mathlib.Decide.{ℕ_discrete}
+use Rattle.mapf_grid.proofs.Decide.{by_cases}
 use Rattle.mapf_plan.specs.declared.conflict.Conflict.{Conflict}
 use Rattle.mapf_plan.specs.declared.conflict.Conflict.TheVariants.{Vertex, Swapping}
 use Rattle.mapf_plan.specs.Plan.{IsConflict, path_of}
@@ -43,15 +44,12 @@ agent_below plan (Swapping i j u v t) Right h = h.1
 
 -- no valid plan has the conflict, so one of its two agents keeps its side's constraint
 pub obeys_one_side : ObeysOneSide
-obeys_one_side problem node plan other c nc np is valid obeys = left (dec_breaks _ _)
+obeys_one_side problem node plan other c nc np is valid obeys =
+    by_cases (dec_breaks (path_of other (agent_on c Left)) (constraint_on c Left))
+    (λ l.
+    by_cases (dec_breaks (path_of other (agent_on c Right)) (constraint_on c Right))
+    (λ r. absurd (valid.no_conflict c (both_break plan other c (np ∙ sym valid.agents) is l r))) (λ r. inr (kept Right r)))
+    (λ l. inl (kept Left l))
   where
-    agent : (s : Side) → agent_on c s < length node.constraints
-    agent s = subst (λ k. agent_on c s < k) (np ∙ sym nc) (agent_below plan c s is)
-
-    right : Breaks (path_of other (agent_on c Left)) (constraint_on c Left) → Dec (Breaks (path_of other (agent_on c Right)) (constraint_on c Right)) → ObeysNode problem (side_of node c Left) other ⊎ ObeysNode problem (side_of node c Right) other
-    right l (no r) = inr (obeys_side problem node other c Right (agent Right) r obeys)
-    right l (yes r) = absurd (valid.no_conflict c (both_break plan other c (np ∙ sym valid.agents) is l r))
-
-    left : Dec (Breaks (path_of other (agent_on c Left)) (constraint_on c Left)) → ObeysNode problem (side_of node c Left) other ⊎ ObeysNode problem (side_of node c Right) other
-    left (no l) = inl (obeys_side problem node other c Left (agent Left) l obeys)
-    left (yes l) = right l (dec_breaks _ _)
+    kept : (s : Side) → ¬ Breaks (path_of other (agent_on c s)) (constraint_on c s) → ObeysNode problem (side_of node c s) other
+    kept s keeps = obeys_side problem node other c s (subst (λ k. agent_on c s < k) (np ∙ sym nc) (agent_below plan c s is)) keeps obeys

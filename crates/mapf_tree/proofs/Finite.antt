@@ -2,6 +2,7 @@
 use Rattle.std.proofs.Common.{◌≡◌, ◌⊎◌, ℕ, zero, suc, ◌≤◌, List, [], ◌∷◌, ◌++◌, length, inl, inr, subst, sym, refl, ap₂, ◌∙◌, ⊎_elim, arith, length-append, All, Contains}
 use Rattle.std.proofs.lemmas.Bool.{cases_eq}
 use Rattle.std.proofs.lemmas.List.Elements.{All-nil, All-cons, All-tail, All-append, All-contains, Contains-append_left, Contains-append_right}
+use Rattle.mapf_grid.proofs.Decide.{by_cases}
 use Rattle.mapf_grid.proofs.Members.{nowhere, here, there, here_or_there}
 use Rattle.mapf_plan.specs.declared.conflict.Conflict.{Conflict}
 use Rattle.mapf_plan.specs.Plan.{IsConflict, IsFirstConflict, HasNoConflict}
@@ -43,11 +44,9 @@ module _ (problem : Problem) where
 
   -- one node, if it is in cost
   only : (q : TreeNode) → (InCost problem q → InTree problem q) → Holding (λ p. (q ≡ p) × InCost problem p)
-  only q into = go (dec_in_cost problem q)
-    where
-      go : Dec (InCost problem q) → Holding (λ p. (q ≡ p) × InCost problem p)
-      go (yes w) = (q ∷ [], All-cons (InTree problem) q [] (into w) (All-nil (InTree problem)), λ p h. here [] h.0)
-      go (no n) = nothing (λ p. (q ≡ p) × InCost problem p) (λ p h. n (subst (λ x. InCost problem x) (sym h.0) h.1))
+  only q into =
+      by_cases (dec_in_cost problem q) (λ w. (q ∷ [], All-cons (InTree problem) q [] (into w) (All-nil (InTree problem)), λ p h. here [] h.0))
+      (λ n. nothing (λ p. (q ≡ p) × InCost problem p) (λ p h. n (subst (λ x. InCost problem x) (sym h.0) h.1)))
 
   -- the sides of a node
   sides : (p : TreeNode) → InTree problem p → Holding (IsSideOf p)
@@ -102,15 +101,12 @@ module _ (problem : Problem) where
       at_root : (p : TreeNode) → InTree problem p → length p.name ≡ zero → (root_of problem ≡ p) × InCost problem p
       at_root _ (root {plan = plan} h) e = (refl, (plan, h))
       at_root _ (side {node = p} s i h f h') e = absurd (omega (arith, e, length-append p.name (s ∷ [])))
-  level (suc n) = go (level n)
+  level (suc n) = let l = level n in let s = all_sides l.0 l.1 in (s.0, s.1, λ p h. s.2 p (is_side l p h.0 h.1))
     where
-      go : Holding (AtDepth n) → Holding (AtDepth (suc n))
-      go l = let s = all_sides l.0 l.1 in (s.0, s.1, λ p h. s.2 p (is_side p h.0 h.1))
-        where
-          is_side : (p : TreeNode) → InTree problem p → length p.name ≡ suc n → IsSideOfSome l.0 p
-          is_side _ (root h) e = absurd (omega (arith, e))
-          is_side _ (side {node = p} {plan = plan} {plan' = plan'} {c = c} s i h f h') e =
-              (p, l.2 p (i, omega (arith, e, length-append p.name (s ∷ []))), record { plan = plan; conflict = c; turn = s; has = h; first = f; is = refl; in_cost = (plan', h') })
+      is_side : (l : Holding (AtDepth n)) (p : TreeNode) → InTree problem p → length p.name ≡ suc n → IsSideOfSome l.0 p
+      is_side l _ (root h) e = absurd (omega (arith, e))
+      is_side l _ (side {node = p} {plan = plan} {plan' = plan'} {c = c} s i h f h') e =
+          (p, l.2 p (i, omega (arith, e, length-append p.name (s ∷ []))), record { plan = plan; conflict = c; turn = s; has = h; first = f; is = refl; in_cost = (plan', h') })
 
   -- the nodes of the tree whose names have n turns at most
   abbrev UpToDepth : ℕ → TreeNode → Type 0

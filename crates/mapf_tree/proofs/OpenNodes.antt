@@ -154,24 +154,24 @@ branched_turn p old rest mid new first x c l r e rising all is conflict left rig
     first_conflict : IsFirstConflict x.1 c
     first_conflict = conflict_stands p first x c is conflict
 
-    child : (m : PlannedNode) (s : Side) → m.0 ≡ side_of x.0 c s → IsChild x m
-    child m s h = record { conflict = c; turn = s; first = first_conflict; is = h }
-
     next : (m : PlannedNode) → HasNodeFor p new m ↔ ((HasNodeFor p old m × (m ≢ x)) ⊎ (IsMember p m × IsChild x m))
-    next m = ((λ s. forth ((two.shows m).0 s)), back)
+    next m = (
+      (λ s. ⊎_elim (λ k. ⊎_elim early (turned Left) ((one.shows m).0 k)) (turned Right) ((two.shows m).0 s)),
+      ⊎_elim back (λ s. on s.1.turn s.0 (s.1.is ∙ same s.1)),
+    )
       where
-        early : HasNodeFor p rest m ⊎ (IsMember p m × (m.0 ≡ side_of x.0 c Left)) → (HasNodeFor p old m × (m ≢ x)) ⊎ (IsMember p m × IsChild x m)
-        early (inl s) = let h = (rest_stands p first rest x up is m).0 s in inl (subst (λ ns. HasNodeFor p ns m) (sym e) h.0, h.1)
-        early (inr h) = inr (h.0, child m Left h.1)
+        early : HasNodeFor p rest m → (HasNodeFor p old m × (m ≢ x)) ⊎ (IsMember p m × IsChild x m)
+        early s = let h = (rest_stands p first rest x up is m).0 s in inl (subst (λ ns. HasNodeFor p ns m) (sym e) h.0, h.1)
 
-        forth : HasNodeFor p mid m ⊎ (IsMember p m × (m.0 ≡ side_of x.0 c Right)) → (HasNodeFor p old m × (m ≢ x)) ⊎ (IsMember p m × IsChild x m)
-        forth (inl s) = early ((one.shows m).0 s)
-        forth (inr h) = inr (h.0, child m Right h.1)
+        turned : (s : Side) → IsMember p m × (m.0 ≡ side_of x.0 c s) → (HasNodeFor p old m × (m ≢ x)) ⊎ (IsMember p m × IsChild x m)
+        turned s h = inr (h.0, record { conflict = c; turn = s; first = first_conflict; is = h.1 })
+
+        same : (h : IsChild x m) → side_of x.0 h.conflict h.turn ≡ side_of x.0 c h.turn
+        same h = ap (λ d. side_of x.0 d h.turn) (same_first x.1 h.conflict c h.first first_conflict)
 
         on : (s : Side) → IsMember p m → m.0 ≡ side_of x.0 c s → HasNodeFor p new m
         on Left h k = (two.shows m).1 (inl ((one.shows m).1 (inr (h, k))))
         on Right h k = (two.shows m).1 (inr (h, k))
 
-        back : (HasNodeFor p old m × (m ≢ x)) ⊎ (IsMember p m × IsChild x m) → HasNodeFor p new m
-        back (inl s) = (two.shows m).1 (inl ((one.shows m).1 (inl ((rest_stands p first rest x up is m).1 (subst (λ ns. HasNodeFor p ns m) e s.0, s.1)))))
-        back (inr s) = on s.1.turn s.0 (s.1.is ∙ ap (λ d. side_of x.0 d s.1.turn) (same_first x.1 s.1.conflict c s.1.first first_conflict))
+        back : HasNodeFor p old m × (m ≢ x) → HasNodeFor p new m
+        back s = (two.shows m).1 (inl ((one.shows m).1 (inl ((rest_stands p first rest x up is m).1 (subst (λ ns. HasNodeFor p ns m) e s.0, s.1)))))

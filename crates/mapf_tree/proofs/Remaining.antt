@@ -47,8 +47,12 @@ module _ (problem : Problem) where
   count_lt from to [] x f i n r = absurd (nowhere i)
   count_lt from to (m ∷ ms) x f i n r =
       ⊎_elim
-      (λ e. omega (arith, count_le from to ms f, weight_lt (dec_reached problem from m) (dec_reached problem to m)
-      (subst (λ y. ¬ IsReached from y) (sym e) n) (subst (IsReached to) (sym e) r)))
+      (λ e. omega (
+        arith,
+        count_le from to ms f,
+        weight_lt (dec_reached problem from m) (dec_reached problem to m)
+            (subst (λ y. ¬ IsReached from y) (sym e) n) (subst (IsReached to) (sym e) r),
+      ))
       (λ j. omega (arith, weight_le (dec_reached problem from m) (dec_reached problem to m) (f m), count_lt from to ms x f j n r)) (here_or_there ms i)
 
 -- the nodes of the tree that are not taken
