@@ -70,13 +70,15 @@ module _ {J A : Type 0} where
   of_place (j ∷ jobs) (p ∷ places) zero d all low = IfSome_then p all.0 (λ pair is. (0, omega arith, sym is))
   of_place (j ∷ jobs) (p ∷ places) (suc k) d all low = IfSome_then (get_or places k d) (of_place jobs places k d all.1 (omega (arith, low))) (λ pair at. (suc at.0, omega (arith, at.1), at.2))
 
-  -- so each pair is of one of the jobs
-  pub of_jobs : (jobs : List J) (places : List (Option (J × A))) → ArePlacesOf jobs places → All (λ place. IfSome place (λ pair. Contains jobs pair.0)) places
-  of_jobs jobs places all = λ k d low. of_place jobs places k d all low
+  -- so pairs that the places hold are of the jobs
+  pub of_jobs : (jobs : List J) (places : List (Option (J × A))) (pairs : List (J × A)) → ArePlacesOf jobs places → All (λ pair. Contains places (Some pair)) pairs → All (λ pair. Contains jobs pair.0) pairs
+  of_jobs jobs places pairs all held = λ k d low.
+      let at = held k d low in
+      subst (λ place. IfSome place (λ pair. Contains jobs pair.0)) at.2 (of_place jobs places at.0 (Some (get_or pairs k d)) all at.1)
 
-  -- what holds of each job holds of the job of each pair that is of one of them
-  pub All_of_jobs : (P : J → Type 0) (jobs : List J) (places : List (Option (J × A))) → All P jobs → All (λ place. IfSome place (λ pair. Contains jobs pair.0)) places → All (λ place. IfSome place (λ pair. P pair.0)) places
-  All_of_jobs P jobs places all each = λ k d low. IfSome_then (get_or places k d) (each k d low) (λ pair at. All-contains P jobs pair.0 all at)
+  -- what holds of each job holds of the job of each pair that was made for one of them
+  pub All_of_jobs : (P : J → Type 0) (jobs : List J) (pairs : List (J × A)) → All P jobs → All (λ pair. Contains jobs pair.0) pairs → All (λ pair. P pair.0) pairs
+  All_of_jobs P jobs pairs all each = λ k d low. All-contains P jobs (get_or pairs k d).0 all (each k d low)
 
 module _ {J B : Type 0} (R : J → B → Type 0) where
   -- the answers so far: what answers the jobs that are left answers, after them, all jobs

@@ -3,4 +3,4 @@ pub mod OneOut
 mod Leaving
 mod WorkedAhead
 mod WaitingNodes
-pub mod RootPlaces
+mod AgentJobs

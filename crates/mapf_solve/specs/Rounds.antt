@@ -1,9 +1,19 @@
 -- What is worked ahead: a job names what it is for, and an answer fits it or not. Nothing here speaks of threads.
-use Rattle.std.specs.Prelude.{◌≡◌, ℕ, ◌<◌, List, [], length, slice_get, Option, Some}
+use Rattle.std.specs.Prelude.{◌≡◌, ℕ, ◌+◌, ◌-◌, ◌^◌, List, [], length, map, min, slice_index, Option}
+use Rattle.std.specs.List.{range_with_len}
+use Rattle.mapf_grid.specs.Grid.{Grid}
+use Rattle.mapf_grid.specs.Instance.{Instance}
+use Rattle.mapf_low.specs.Walk.{AreDistances}
 use Rattle.mapf_tree.specs.declared.side.Side.{Side}
 use Rattle.mapf_tree.specs.Problem.{Problem}
 use Rattle.mapf_tree.specs.Nodes.{Node}
 use Rattle.mapf_tree.specs.Family.{IsOwn, IsChildOf}
+
+-- the distances to a goal are wanted
+pub record GoalAsked : Type 0 where
+  pub grid : Grid
+  pub goal : ℕ
+  pub number : ℕ
 
 -- an agent's own path without constraints is wanted
 pub record PathAsked : Type 0 where
@@ -22,15 +32,25 @@ pub record SideAsked : Type 0 where
 abbrev pub FitsPath : PathAsked → Option (List ℕ) → Type 0
 FitsPath j found = IsOwn j.problem j.agent [] found
 
--- job i asks for agent i's own path, and has the number i
-pub record AreOfAgents (p : Problem) (jobs : List PathAsked) : Type 0 where
-  pub each : length jobs ≡ length p.inst.starts
-  pub asked : (i : ℕ) → i < length p.inst.starts → slice_get jobs i ≡ Some (record { problem = p; agent = i; number = i })
+-- the table has the goal's distances
+abbrev pub FitsGoal : GoalAsked → List (Option ℕ) → Type 0
+FitsGoal j table = AreDistances j.grid j.goal table
 
--- a place for each agent: it is empty, or it holds the agent's own path without constraints, or that there is none
-pub record AreOwn (p : Problem) (places : List (Option (Option (List ℕ)))) : Type 0 where
-  pub each : length places ≡ length p.inst.starts
-  pub own : (i : ℕ) (found : Option (List ℕ)) → slice_get places i ≡ Some (Some found) → IsOwn p i [] found
+-- agent i's own path is wanted, by a job whose number is i more than the first; a number that has reached the greatest stays there
+abbrev pub path_asked : Problem → ℕ → ℕ → PathAsked
+path_asked p first i = record { problem = p; agent = i; number = min (first + i) (2 ^ 64 - 1) }
+
+-- agent i's goal's distances are wanted, by the job i
+abbrev pub goal_asked : Instance → ℕ → GoalAsked
+goal_asked inst i = record { grid = inst.grid; goal = slice_index inst.goals i; number = i }
+
+-- a job for each agent's own path, agent 0 first
+abbrev pub AreOfAgents : Problem → ℕ → List PathAsked → Type 0
+AreOfAgents p first jobs = jobs ≡ map (path_asked p first) (range_with_len 0 (length p.inst.starts))
+
+-- a job for each agent's goal, agent 0 first
+abbrev pub AreOfGoals : Instance → List GoalAsked → Type 0
+AreOfGoals inst jobs = jobs ≡ map (goal_asked inst) (range_with_len 0 (length inst.starts))
 
 -- the child is the one that was asked for
 abbrev pub FitsSide : SideAsked → Option Node → Type 0

@@ -6,7 +6,9 @@ ghost use Rattle.mapf_plan.specs.Text.{text};
 ghost use Rattle.mapf_tree.specs.Answered.{IsAnswerOf};
 ghost use Rattle.mapf_solve.specs.Out.{IsOut, IsBest, IsOnlyOut, IsWorkers};
 
-use crate::{Ask, Refusal, solve};
+use crate::rounds::tables;
+use crate::solving::solve_from;
+use crate::{Ask, Refusal};
 use mapf_board::{Gate, MOST_WORKERS};
 use mapf_grid::{NoMemory, instance_of};
 use mapf_plan::{Answer, MOST_BOUND, write};
@@ -62,10 +64,10 @@ fn text_or_fault<R: Threads + Sync, G: Gate>(
         return Err(Refusal::Workers);
     }
     let instance = instance_of(alloc, map, scen, ask.agents)?;
-    let Ok(problem) = Problem::new(alloc, instance, ask.bound as u32) else {
-        return Err(Refusal::NoMemory);
-    };
-    let answer = solve(rt, alloc, &problem, ask.workers as usize, gate)?;
+    let goals = instance.agents() as u64;
+    let tables = tables(rt, alloc, &instance, ask.workers as usize, gate)?;
+    let problem = Problem::with(instance, tables, ask.bound as u32);
+    let answer = solve_from(rt, alloc, &problem, goals, ask.workers as usize, gate)?;
     Ok(spell(alloc, &problem, &answer)?)
 }
 

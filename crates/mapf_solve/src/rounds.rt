@@ -3,13 +3,14 @@
 ghost use Rattle.std.specs.Prelude.{◌≡◌, ◌<◌, ◌≤◌, All, IfOk, length};
 ghost use Rattle.mapf_tree.specs.Family.{IsBranching, IsChildOf};
 
+mod goal_job;
 mod kept;
 mod path_job;
 mod root;
-mod root_paths;
 mod side_job;
 mod side_jobs;
 mod side_order;
+mod tables;
 
 use kept::Kept;
 use mapf_board::Pair;
@@ -21,6 +22,7 @@ pub(crate) use side_jobs::do_sides;
 use side_jobs::side_orders;
 use side_order::SideOrder;
 use std::alloc::Global;
+pub(crate) use tables::tables;
 
 /// Children of a problem's nodes, worked ahead in rounds.
 ///

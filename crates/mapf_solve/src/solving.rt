@@ -31,13 +31,30 @@ pub fn solve<R: Threads + Sync, G: Gate>(
     ensures answer { IfOk result (IsAnswerOf problem.now) }
     ensures best { IfOk result (IsBestAnswer problem.now) }
 {
-    let first = root(rt, alloc, problem, workers, gate)?;
-    let next = problem.instance().agents() as u64;
+    solve_from(rt, alloc, problem, 0, workers, gate)
+}
+
+/// The same, where the jobs are numbered from `first` on.
+pub(crate) fn solve_from<R: Threads + Sync, G: Gate>(
+    rt: &R,
+    alloc: Global,
+    problem: &Problem,
+    first: u64,
+    workers: usize,
+    gate: &G,
+) -> Result<Answer, NoMemory>
+    requires some { 0 < workers }
+    requires few { workers ≤ MOST_WORKERS }
+    ensures answer { IfOk result (IsAnswerOf problem.now) }
+    ensures best { IfOk result (IsBestAnswer problem.now) }
+{
+    let agents = problem.instance().agents() as u64;
+    let root = root(rt, alloc, problem, first, workers, gate)?;
     let mut rounds = Rounds::new(
         alloc,
         problem,
         workers,
-        next,
+        first.saturating_add(agents),
         |orders|
             requires sync { IsSync R.row × IsSync G.row }
             requires orders { length orders.now ≤ MOST_SIDES }
@@ -45,6 +62,6 @@ pub fn solve<R: Threads + Sync, G: Gate>(
             ensures { All (λ pair. Contains orders.now pair.0) result.items }
         { do_sides(rt, alloc, orders, gate, workers) },
     );
-    let search = Search::from_root(alloc, problem, first)?;
+    let search = Search::from_root(alloc, problem, root)?;
     search.finish(&mut rounds)
 }

@@ -1,4 +1,4 @@
-//! The jobs of the first round: each agent's own path without constraints.
+//! The jobs of the root: each agent's own path without constraints.
 
 ghost use Rattle.std.specs.Prelude.{◌≡◌, ◌<◌, length};
 ghost use Rattle.mapf_solve.specs.Rounds.{FitsPath};
@@ -10,7 +10,7 @@ use std::alloc::Global;
 use std::marker::{Model, PhantomData};
 
 /// An agent's own path without constraints is wanted.
-#[derive(Drop)]
+#[derive(Clone, Drop)]
 pub(crate) struct PathJob<'p> {
     problem: &'p Problem,
     agent: usize,
@@ -39,14 +39,6 @@ impl<'p> PathJob<'p> {
             agent,
             number,
         }
-    }
-
-    /// The agent that it is for.
-    pub(crate) fn agent(&self) -> usize
-        ensures agent { result ≡ self.now.agent }
-        ensures there { result < length self.now.problem.inst.starts }
-    {
-        self.agent
     }
 }
 
@@ -89,11 +81,7 @@ impl<'p> Order<PathWork<'p>> for PathJob<'p> {
     ghost ordered = { λ j. j };
 
     fn job(&self, _alloc: Global) -> Result<PathJob<'p>, NoMemory> {
-        Ok(PathJob {
-            problem: self.problem,
-            agent: self.agent,
-            number: self.number,
-        })
+        Ok(self.clone()?)
     }
 
     fn number(&self) -> u64 {

@@ -1,92 +1,70 @@
-//! The root, whose paths are the jobs of the first round.
+//! The root, whose paths are the jobs of a round.
 
-ghost use Rattle.std.specs.Prelude.{◌≡◌, ◌<◌, ◌≤◌, [], All, IfOk, IfSome, length};
-ghost use Rattle.mapf_tree.specs.Family.{IsOwn, IsRoot};
+ghost use Rattle.std.specs.Prelude.{◌≡◌, ◌<◌, ◌≤◌, Contains, IfOk, MatchOption, None, Some, length, map};
+ghost use Rattle.mapf_tree.specs.Family.{IsRoot};
 ghost use Rattle.mapf_solve.specs.Rounds.{AreOfAgents};
 ghost use Rattle.mapf_board.specs.declared.limits.TheConstants.{MOST_TICKETS, MOST_WORKERS};
 
 use crate::rounds::path_job::{PathJob, PathWork};
-use crate::rounds::root_paths::RootPaths;
-use mapf_board::{Gate, run_round};
+use mapf_board::{Gate, answer_all};
 use mapf_grid::NoMemory;
 use mapf_plan::Path;
-use mapf_tree::{Node, Problem, root_path, root_with};
+use mapf_tree::{Node, Problem, root_with};
 use std::alloc::Global;
 use std::thread::Threads;
 
 /// The root of a problem's tree; none exactly where it isn't in the tree. Each agent's own path is a job, and the jobs
-/// have the agents' numbers.
+/// are numbered from `first` on.
 pub(crate) fn root<R: Threads + Sync, G: Gate>(
     rt: &R,
     alloc: Global,
     problem: &Problem,
+    first: u64,
     workers: usize,
     gate: &G,
 ) -> Result<Option<Node>, NoMemory>
     requires { (0 < workers) × (workers ≤ MOST_WORKERS) }
     ensures { IfOk result (IsRoot problem.now) }
 {
-    let mut ready = paths_ahead(rt, alloc, problem, workers, gate).ok();
-    let agents = problem.instance().agents();
-    let mut paths = Vec::with_capacity(alloc, agents)?;
-    for agent in 0..agents {
-        let Some(path) = path_of(alloc, problem, &mut ready, agent)? else {
+    let jobs = path_jobs(alloc, problem, first)?;
+    let work = PathWork::new(alloc);
+    let Ok(found) = answer_all(rt, alloc, &work, &jobs, gate, workers) else {
+        return Err(NoMemory);
+    };
+    match all_of(alloc, found)? {
+        Some(paths) => root_with(alloc, problem, paths),
+        None => Ok(None),
+    }
+}
+
+/// All of these paths; none where one is missing.
+fn all_of(alloc: Global, found: Vec<Option<Path>>) -> Result<Option<Vec<Path>>, NoMemory>
+    ensures { IfOk result (λ paths. MatchOption paths (Contains found.items None) (λ paths. found.items ≡ map Some paths.items)) }
+{
+    let mut paths = Vec::with_capacity(alloc, found.len())?;
+    for path in found {
+        let Some(path) = path else {
             return Ok(None);
         };
         paths.push(path)?;
     }
-    root_with(alloc, problem, paths)
+    Ok(Some(paths))
 }
 
-/// An agent's own path: as it was worked ahead, or worked out alone.
-fn path_of(
-    alloc: Global,
-    problem: &Problem,
-    ready: &mut Option<RootPaths<'_>>,
-    agent: usize,
-) -> Result<Option<Path>, NoMemory>
-    requires agent { agent < length problem.now.inst.starts }
-    requires problem { IfSome ready.old (λ r. r ≡ problem.now) }
-    ensures problem { IfSome ready.new (λ r. r ≡ problem.now) }
-    ensures path { IfOk result (IsOwn problem.now agent []) }
-{
-    if let Some(ready) = ready {
-        if let Some(found) = ready.take(agent) {
-            return Ok(found);
-        }
-    }
-    root_path(alloc, problem, agent)
-}
-
-/// The round of the agents' own paths.
-fn paths_ahead<'p, R: Threads + Sync, G: Gate>(
-    rt: &R,
+/// A job for each agent's own path, numbered from `first` on.
+fn path_jobs<'p>(
     alloc: Global,
     problem: &'p Problem,
-    workers: usize,
-    gate: &G,
-) -> Result<RootPaths<'p>, NoMemory>
-    requires { (0 < workers) × (workers ≤ MOST_WORKERS) }
-    ensures { IfOk result (λ r. r ≡ problem.now) }
-{
-    let jobs = path_jobs(alloc, problem)?;
-    let work = PathWork::new(alloc);
-    match run_round(rt, alloc, &work, &jobs, gate, workers) {
-        Ok(pairs) => RootPaths::of(alloc, problem, pairs),
-        Err(_) => Err(NoMemory),
-    }
-}
-
-/// A job for each agent's own path.
-fn path_jobs<'p>(alloc: Global, problem: &'p Problem) -> Result<Vec<PathJob<'p>>, NoMemory>
+    first: u64,
+) -> Result<Vec<PathJob<'p>>, NoMemory>
     ensures count { IfOk result (λ jobs. length jobs.items ≤ MOST_TICKETS) }
-    ensures problem { IfOk result (λ jobs. All (λ j. j.problem ≡ problem.now) jobs.items) }
-    ensures agents { IfOk result (λ jobs. AreOfAgents problem.now jobs.items) }
+    ensures agents { IfOk result (λ jobs. AreOfAgents problem.now first jobs.items) }
 {
     let agents = problem.instance().agents();
     let mut jobs = Vec::with_capacity(alloc, agents)?;
     for agent in 0..agents {
-        jobs.push(PathJob::of(problem, agent, agent as u64))?;
+        let number = first.saturating_add(agent as u64);
+        jobs.push(PathJob::of(problem, agent, number))?;
     }
     Ok(jobs)
 }

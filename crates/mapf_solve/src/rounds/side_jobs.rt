@@ -1,6 +1,6 @@
 //! The orders of a round of sides, and how workers do their jobs.
 
-ghost use Rattle.std.specs.Prelude.{◌≡◌, ◌<◌, ◌≤◌, All, Contains, IfOk, OnOk, length};
+ghost use Rattle.std.specs.Prelude.{◌≡◌, ◌<◌, ◌≤◌, All, Contains, IfOk, OnOk, Some, length};
 ghost use Rattle.mapf_tree.specs.Nodes.{AllStand};
 ghost use Rattle.mapf_tree.specs.Family.{IsBranching};
 ghost use Rattle.mapf_board.specs.declared.limits.TheConstants.{MOST_WORKERS};
@@ -76,7 +76,22 @@ pub(crate) fn do_sides<'p, R: Threads + Sync, G: Gate>(
 {
     let work = SideWork::new(alloc);
     match run_round(rt, alloc, &work, orders, gate, workers) {
-        Ok(pairs) => pairs,
+        Ok(places) => held(alloc, places),
         Err(_) => Vec::new(alloc),
     }
+}
+
+/// What these places hold; nothing when memory runs out.
+fn held<T: Drop>(alloc: Global, places: Vec<Option<T>>) -> Vec<T>
+    ensures { All (λ x. Contains places.items (Some x)) result.items }
+{
+    let Ok(mut held) = Vec::with_capacity(alloc, places.len()) else {
+        return Vec::new(alloc);
+    };
+    for place in places {
+        if let Some(x) = place {
+            let _ = held.push(x);
+        }
+    }
+    held
 }

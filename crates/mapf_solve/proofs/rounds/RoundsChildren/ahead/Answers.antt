@@ -9,5 +9,5 @@ side_orders-requires g c = subst (λ p. AllStand p c.args.waiting.now) (sym c.re
 
 pub keep-requires : goal.keep-requires
 keep-requires g c =
-    All_of_jobs (λ (j : SideAsked). j.problem ≡ c.args.self.now.kept) (λ p. p.0) c.in-Ok.orders.items c.round-pairs.result.items
+    All_of_jobs (λ (j : SideAsked). j.problem ≡ c.args.self.now.kept) c.in-Ok.orders.items c.round-pairs.result.items
     c.in-Ok.ensures.problem (subst (λ l. All (λ p. Contains l p.0) c.round-pairs.result.items) c.deref.ensures.value (c.requires.serves.3 c.deref.result c.round-pairs.result c.round-pairs.ensures))

@@ -1,13 +1,20 @@
-use Rattle.std.proofs.Common.{[], refl, subst}
-use Rattle.mapf_tree.specs.Family.{IsOwn}
-use Rattle.mapf_tree.proofs.RootNodes.{own_more}
+use Rattle.std.proofs.Common.{◌≡◌, arith, length, map, Some, None, Contains, MatchOption, ap, subst}
+use Rattle.std.specs.List.{AllZip}
+use Rattle.mapf_solve.specs.Rounds.{FitsPath}
+use Rattle.mapf_solve.proofs.AgentJobs.{root_paths, no_root}
 use Rattle.mapf_solve.proofs.rounds.root.root.Goals as goal
 
-pub loop-agent-preserved : goal.loop-agent-preserved
-loop-agent-preserved g c =
-    let more =
-    own_more c.args.problem.now c.loop-agent.paths.items c.push.new.self.items [] c.loop-agent.agent c.in-Some.path refl
-    c.loop-agent.invariant.each c.loop-agent.invariant.own c.in_ok-push.ensures.items
-    (subst (IsOwn c.args.problem.now c.loop-agent.agent []) c.in-Some.is c.in_ok-path.ensures.path)
-    in
-    record { ready = c.in_ok-path.ensures.problem; each = more.0; own = more.1 }
+pub answer_all-requires-clause-orders : goal.answer_all-requires-clause-orders
+answer_all-requires-clause-orders g c κs within = omega (arith, ap length c.deref.ensures.value, c.in_ok-jobs.ensures.count)
+
+pub root_with-requires : goal.root_with-requires
+root_with-requires g c =
+    let all : AllZip FitsPath (map (λ j. j) c.in_ok-jobs.jobs.items) c.in-Ok.found.items = subst (λ l. AllZip FitsPath (map (λ j. j) l) c.in-Ok.found.items) c.deref.ensures.value c.in-Ok.ensures in
+    root_paths c.args.problem.now c.args.first c.in_ok-jobs.jobs.items c.in-Ok.found.items c.in_ok-jobs.ensures.agents all c.in-Some.paths.items
+    (subst (λ found. MatchOption found (Contains c.in-Ok.found.items None) (λ paths. c.in-Ok.found.items ≡ map Some paths.items)) c.in-Some.is c.in_ok-paths.ensures)
+
+pub returns : goal.returns
+returns g c =
+    let all : AllZip FitsPath (map (λ j. j) c.in_ok-jobs.jobs.items) c.in-Ok.found.items = subst (λ l. AllZip FitsPath (map (λ j. j) l) c.in-Ok.found.items) c.deref.ensures.value c.in-Ok.ensures in
+    no_root c.args.problem.now c.args.first c.in_ok-jobs.jobs.items c.in-Ok.found.items c.in_ok-jobs.ensures.agents all
+    (subst (λ found. MatchOption found (Contains c.in-Ok.found.items None) (λ paths. c.in-Ok.found.items ≡ map Some paths.items)) c.in-None.is c.in_ok-paths.ensures)

@@ -1,0 +1,45 @@
+//! The distances to the goals, which are the jobs of the first round.
+
+ghost use Rattle.std.specs.Prelude.{◌<◌, ◌≤◌, IfOk, length};
+ghost use Rattle.mapf_tree.specs.Problem.{HasDistances};
+ghost use Rattle.mapf_solve.specs.Rounds.{AreOfGoals};
+ghost use Rattle.mapf_board.specs.declared.limits.TheConstants.{MOST_TICKETS, MOST_WORKERS};
+
+use crate::rounds::goal_job::{GoalJob, GoalWork};
+use mapf_board::{Gate, answer_all};
+use mapf_grid::{Instance, NoMemory};
+use mapf_low::Distances;
+use std::alloc::Global;
+use std::thread::Threads;
+
+/// The distances to each agent's goal, agent 0 first. Each goal is a job, and the jobs have the agents' numbers.
+pub(crate) fn tables<R: Threads + Sync, G: Gate>(
+    rt: &R,
+    alloc: Global,
+    instance: &Instance,
+    workers: usize,
+    gate: &G,
+) -> Result<Vec<Distances>, NoMemory>
+    requires { (0 < workers) × (workers ≤ MOST_WORKERS) }
+    ensures { IfOk result (λ tables. HasDistances instance.now tables.items) }
+{
+    let jobs = goal_jobs(alloc, instance)?;
+    let work = GoalWork::new(alloc);
+    match answer_all(rt, alloc, &work, &jobs, gate, workers) {
+        Ok(tables) => Ok(tables),
+        Err(_) => Err(NoMemory),
+    }
+}
+
+/// A job for each agent's goal.
+fn goal_jobs(alloc: Global, instance: &Instance) -> Result<Vec<GoalJob<'_>>, NoMemory>
+    ensures count { IfOk result (λ jobs. length jobs.items ≤ MOST_TICKETS) }
+    ensures goals { IfOk result (λ jobs. AreOfGoals instance.now jobs.items) }
+{
+    let agents = instance.agents();
+    let mut jobs = Vec::with_capacity(alloc, agents)?;
+    for agent in 0..agents {
+        jobs.push(GoalJob::of(instance.map(), instance.goal(agent), agent as u64))?;
+    }
+    Ok(jobs)
+}
