@@ -1,4 +1,6 @@
 mod answers;
+mod changed_bytes;
 mod devices;
 mod gates;
+mod limits;
 mod refusals;
