@@ -9,7 +9,7 @@ use Rattle.mapf_tree.specs.Problem.{Problem, HasDistances}
 use Rattle.mapf_tree.specs.Tree.{IsAllowedFor, IsOwnPathOf}
 use Rattle.mapf_tree.specs.Family.{IsRoot, IsOwn, AreRootPaths}
 use Rattle.mapf_tree.proofs.RootNodes.{free_at_root}
-use Rattle.mapf_solve.specs.Rounds.{PathAsked, GoalAsked, FitsPath, FitsGoal, path_asked, goal_asked, AreOfAgents, AreOfGoals}
+use Rattle.mapf_solve.specs.Rounds.{WantedPath, WantedTable, FitsPath, FitsGoal, wanted_path, wanted_table, AreOfAgents, AreOfGoals}
 
 -- there are as many jobs as agents
 pub as_many : {J : Type 0} (asked : ℕ → J) (n : ℕ) (jobs : List J) → jobs ≡ map asked (range_with_len 0 n) → length jobs ≡ n
@@ -43,13 +43,13 @@ module _ {J B : Type 0} (R : J → B → Type 0) (asked : ℕ → J) (d : B) whe
       (each.0, λ i h. let same : 0 + i ≡ i = omega arith in subst (λ k. R (asked k) (get_or answers i d)) same (each.1 i h))
 
 -- the tables that answer a job for each agent's goal are those of the goals
-pub goal_tables : (inst : Instance) (jobs : List GoalAsked) (tables : List (List (Option ℕ))) → AreOfGoals inst jobs → AllZip FitsGoal (map (λ j. j) jobs) tables → HasDistances inst tables
+pub goal_tables : (inst : Instance) (jobs : List WantedTable) (tables : List (List (Option ℕ))) → AreOfGoals inst jobs → AllZip FitsGoal (map (λ j. j) jobs) tables → HasDistances inst tables
 goal_tables inst jobs tables are all =
-    let each = answered_each FitsGoal (goal_asked inst) [] (length inst.starts) jobs tables are all in record { each = each.0; shortest = each.1 }
+    let each = answered_each FitsGoal (wanted_table inst) [] (length inst.starts) jobs tables are all in record { each = each.0; shortest = each.1 }
 
-module _ (p : Problem) (first : ℕ) (jobs : List PathAsked) (found : List (Option (List ℕ))) (are : AreOfAgents p first jobs) (all : AllZip FitsPath (map (λ j. j) jobs) found) where
+module _ (p : Problem) (first : ℕ) (jobs : List WantedPath) (found : List (Option (List ℕ))) (are : AreOfAgents p first jobs) (all : AllZip FitsPath (map (λ j. j) jobs) found) where
   each : (length found ≡ length p.inst.starts) × ((i : ℕ) → i < length p.inst.starts → IsOwn p i [] (get_or found i None))
-  each = answered_each FitsPath (path_asked p first) None (length p.inst.starts) jobs found are all
+  each = answered_each FitsPath (wanted_path p first) None (length p.inst.starts) jobs found are all
 
   -- where each agent has a path, those are the root's
   pub root_paths : (paths : List (List ℕ)) → found ≡ map Some paths → AreRootPaths p paths

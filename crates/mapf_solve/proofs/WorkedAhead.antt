@@ -12,7 +12,7 @@ use Rattle.mapf_tree.specs.Nodes.{Node, StandsFor, IsConflictOf}
 use Rattle.mapf_tree.proofs.Plans.{same_plan}
 use Rattle.mapf_tree.proofs.Unique.{same_node}
 use Rattle.mapf_tree.specs.Family.{IsBranching, IsChildOf}
-use Rattle.mapf_solve.specs.Rounds.{SideAsked, FitsSide}
+use Rattle.mapf_solve.specs.Rounds.{WantedChild, FitsSide}
 
 -- the second of two facts
 second : (a b : Bool) → (a && b) ≡ true → b ≡ true
@@ -51,12 +51,12 @@ child_of_same_name p a b side found branching e is n c shows on =
     is n c here (same_conflict n.1 a.conflict c branching.conflict mine yours)
 
 -- and so is what fits a job for the one
-pub used_child : (p : Problem) (node : Node) (side : Side) (job asked : SideAsked) (found : Option Node) →
+pub used_child : (p : Problem) (node : Node) (side : Side) (job asked : WantedChild) (found : Option Node) →
     IsBranching job.problem job.node → FitsSide job found → job ≡ asked → asked.problem ≡ p → asked.node.name ≡ node.name → asked.side ≡ side →
     IsChildOf p node side found
 used_child p node side job asked found branching fits is of named turn =
-    let b : IsBranching asked.problem asked.node = subst (λ (j : SideAsked). IsBranching j.problem j.node) is branching in
-    let f : IsChildOf asked.problem asked.node asked.side found = subst (λ (j : SideAsked). FitsSide j found) is fits in
+    let b : IsBranching asked.problem asked.node = subst (λ (j : WantedChild). IsBranching j.problem j.node) is branching in
+    let f : IsChildOf asked.problem asked.node asked.side found = subst (λ (j : WantedChild). FitsSide j found) is fits in
     let b' : IsBranching p asked.node = subst (λ q. IsBranching q asked.node) of b in
     let f' : IsChildOf p asked.node asked.side found = subst (λ q. IsChildOf q asked.node asked.side found) of f in
     subst (λ t. IsChildOf p node t found) turn (child_of_same_name p asked.node node asked.side found b' named f')

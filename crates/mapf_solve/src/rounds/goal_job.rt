@@ -20,9 +20,9 @@ pub(crate) struct GoalJob<'m> {
 
 impl<'m> Model for GoalJob<'m> {
     ghost use Rattle.mapf_grid.specs.Grid.{IsFree};
-    ghost use Rattle.mapf_solve.specs.Rounds.{GoalAsked};
+    ghost use Rattle.mapf_solve.specs.Rounds.{WantedTable};
 
-    ghost Value = { GoalAsked };
+    ghost Value = { WantedTable };
 
     ghost view = { λ j. record { grid = j.map.now; goal = j.goal; number = j.number } };
 

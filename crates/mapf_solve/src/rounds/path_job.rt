@@ -19,9 +19,9 @@ pub(crate) struct PathJob<'p> {
 
 impl<'p> Model for PathJob<'p> {
     ghost use Rattle.std.specs.Prelude.{◌<◌, length};
-    ghost use Rattle.mapf_solve.specs.Rounds.{PathAsked};
+    ghost use Rattle.mapf_solve.specs.Rounds.{WantedPath};
 
-    ghost Value = { PathAsked };
+    ghost Value = { WantedPath };
 
     ghost view = { λ j. record { problem = j.problem.now; agent = j.agent; number = j.number } };
 

@@ -20,9 +20,9 @@ pub(crate) struct SideJob<'p> {
 
 impl<'p> Model for SideJob<'p> {
     ghost use Rattle.mapf_tree.specs.Family.{IsBranching};
-    ghost use Rattle.mapf_solve.specs.Rounds.{SideAsked};
+    ghost use Rattle.mapf_solve.specs.Rounds.{WantedChild};
 
-    ghost Value = { SideAsked };
+    ghost Value = { WantedChild };
 
     ghost view = { λ j. record { problem = j.problem.now; node = j.node; side = j.side; number = j.number } };
 

@@ -20,9 +20,9 @@ pub(crate) struct SideOrder<'n, 'p> {
 
 impl<'n, 'p> Model for SideOrder<'n, 'p> {
     ghost use Rattle.mapf_tree.specs.Family.{IsBranching};
-    ghost use Rattle.mapf_solve.specs.Rounds.{SideAsked};
+    ghost use Rattle.mapf_solve.specs.Rounds.{WantedChild};
 
-    ghost Value = { SideAsked };
+    ghost Value = { WantedChild };
 
     ghost view = { λ o. record { problem = o.problem.now; node = o.node.now; side = o.side; number = o.number } };
 

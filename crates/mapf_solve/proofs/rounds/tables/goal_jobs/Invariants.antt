@@ -1,7 +1,7 @@
 use Rattle.std.proofs.Common.{◌≡◌, map}
 use Rattle.std.specs.List.{range_with_len}
-use Rattle.mapf_solve.specs.Rounds.{goal_asked}
+use Rattle.mapf_solve.specs.Rounds.{wanted_table}
 use Rattle.mapf_solve.proofs.rounds.tables.goal_jobs.Given as goal
 
 abbrev pub invariant-loop-agent : goal.invariant-loop-agent
-invariant-loop-agent l = l.jobs.items ≡ map (goal_asked l.instance) (range_with_len 0 l.agent)
+invariant-loop-agent l = l.jobs.items ≡ map (wanted_table l.instance) (range_with_len 0 l.agent)

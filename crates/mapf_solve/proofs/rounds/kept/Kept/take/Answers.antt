@@ -2,7 +2,7 @@ use Rattle.std.proofs.Common.{◌≡◌, sym, ap, ◌∙◌, subst, Some}
 use Rattle.std.specs.Prelude.{slice_get}
 use Rattle.std.proofs.lemmas.Option.{get_or_from_slice_get, slice_get_within}
 use Rattle.mapf_tree.specs.Family.{IsBranching}
-use Rattle.mapf_solve.specs.Rounds.{SideAsked}
+use Rattle.mapf_solve.specs.Rounds.{WantedChild}
 use Rattle.mapf_solve.proofs.WorkedAhead.{used_child}
 use Rattle.mapf_solve.proofs.rounds.kept.Kept.take.Goals as goal
 
@@ -16,7 +16,7 @@ returns-clause-child c =
     let is : x ≡ p = c.swap_remove-pair.ensures.value ∙ get_or_from_slice_get items place p x at in
     let of = c.self.invariant place x (slice_get_within items place p at) in
     used_child c.args.self.now c.args.node.now c.args.side c.parts-job.result.0 p.0 c.parts-job.result.1
-    (subst (λ (j : SideAsked). IsBranching j.problem j.node) c._job.view_is c._job.invariant)
+    (subst (λ (j : WantedChild). IsBranching j.problem j.node) c._job.view_is c._job.invariant)
     c.parts-job.ensures.fits
     (c.parts-job.ensures.same.0 ∙ ap (λ y. y.0) is)
     (ap (λ y. y.0.problem) (sym (get_or_from_slice_get items place p x at)) ∙ of ∙ c.self.view_is)
