@@ -12,11 +12,14 @@ use std::alloc::Global;
 use std::sync::atomic::{AtomicU64, Ordering};
 use std::thread::Threads;
 
-/// How often each of the jobs 0 to 3 was entered and left, and how often others were.
+/// How many jobs there are in all: a goal, a root path and a side for each of two agents.
+const JOBS: usize = 6;
+
+/// How often each of the jobs 0 to 5 was entered and left, and how often others were.
 #[derive(Drop)]
 struct Counts {
-    entered: [AtomicU64; 4],
-    left: [AtomicU64; 4],
+    entered: [AtomicU64; JOBS],
+    left: [AtomicU64; JOBS],
     others: AtomicU64,
     /// How long the first job waits at most for the second to be left, in looks.
     patience: u64,
@@ -26,18 +29,8 @@ struct Counts {
 impl Counts {
     fn new(patience: u64) -> Counts {
         Counts {
-            entered: [
-                AtomicU64::new(0),
-                AtomicU64::new(0),
-                AtomicU64::new(0),
-                AtomicU64::new(0),
-            ],
-            left: [
-                AtomicU64::new(0),
-                AtomicU64::new(0),
-                AtomicU64::new(0),
-                AtomicU64::new(0),
-            ],
+            entered: zeros(),
+            left: zeros(),
             others: AtomicU64::new(0),
             patience,
             impatient: AtomicU64::new(0),
@@ -62,10 +55,30 @@ impl Counts {
         }
     }
 
-    fn is_each_once(&self) -> bool {
-        let once = |jobs: &[AtomicU64]| jobs.iter().all(|job| job.load(Ordering::SeqCst) == 1);
-        once(&self.entered) && once(&self.left) && self.others.load(Ordering::SeqCst) == 0
+    /// Whether each of the first so many jobs was entered and left once, and no other was.
+    fn is_each_once(&self, first: usize) -> bool {
+        is_once(&self.entered, first)
+            && is_once(&self.left, first)
+            && self.others.load(Ordering::SeqCst) == 0
     }
+}
+
+/// A count for each job.
+fn zeros() -> [AtomicU64; JOBS] {
+    [
+        AtomicU64::new(0),
+        AtomicU64::new(0),
+        AtomicU64::new(0),
+        AtomicU64::new(0),
+        AtomicU64::new(0),
+        AtomicU64::new(0),
+    ]
+}
+
+/// Whether each of the first so many is 1, and each other is 0.
+fn is_once(jobs: &[AtomicU64], first: usize) -> bool {
+    let is = |job: &AtomicU64, count: u64| job.load(Ordering::SeqCst) == count;
+    jobs.iter().take(first).all(|job| is(job, 1)) && jobs.iter().skip(first).all(|job| is(job, 0))
 }
 
 impl Gate for Counts {
@@ -96,25 +109,53 @@ fn solved<R: Threads + Sync>(
     solve(rt, alloc, &problem, workers, gate).ok()
 }
 
-#[test]
-fn one_worker_does_each_job_once(rt: HostRuntime) {
-    let gate = Counts::new(0);
-    let answer = solved(&rt, rt.alloc(), &CROSSING, 9, 1, &gate);
-    assert!(rt; matches!(answer, Some(Answer::Plan { stated: 5, .. })));
-    assert!(rt; gate.is_each_once());
-}
-
-#[test]
-fn two_workers_work_at_one_time(rt: HostRuntime) {
-    let gate = Counts::new(1_000_000_000);
+/// The answer to the crossing, with so many workers.
+fn answered<R: Threads + Sync>(
+    rt: &R,
+    alloc: Global,
+    workers: u64,
+    gate: &Counts,
+) -> Option<Vec<u8>> {
     let ask = Ask {
         agents: 2,
         bound: 9,
-        workers: 2,
+        workers,
     };
-    let text = answer(&rt, rt.alloc(), CROSSING.map, CROSSING.scen, ask, &gate);
-    let expected: &[u8] = b"plan 2 5\n1,0 1,0 1,1 1,2\n0,1 1,1 2,1\n";
-    assert!(rt; text.is_ok_and(|bytes| bytes.as_slice() == expected));
-    assert!(rt; gate.is_each_once());
+    answer(rt, alloc, CROSSING.map, CROSSING.scen, ask, gate).ok()
+}
+
+/// The text of the answer to the crossing.
+const TEXT: &[u8] = b"plan 2 5\n1,0 1,0 1,1 1,2\n0,1 1,1 2,1\n";
+
+#[test]
+fn one_worker_does_each_root_path_and_each_side_once(rt: HostRuntime) {
+    let gate = Counts::new(0);
+    let answer = solved(&rt, rt.alloc(), &CROSSING, 9, 1, &gate);
+    assert!(rt; matches!(answer, Some(Answer::Plan { stated: 5, .. })));
+    assert!(rt; gate.is_each_once(4));
+}
+
+#[test]
+fn one_worker_does_each_goal_root_path_and_side_once(rt: HostRuntime) {
+    let gate = Counts::new(0);
+    let text = answered(&rt, rt.alloc(), 1, &gate);
+    assert!(rt; text.is_some_and(|bytes| bytes.as_slice() == TEXT));
+    assert!(rt; gate.is_each_once(6));
+}
+
+#[test]
+fn two_workers_do_each_goal_root_path_and_side_once(rt: HostRuntime) {
+    let gate = Counts::new(0);
+    let text = answered(&rt, rt.alloc(), 2, &gate);
+    assert!(rt; text.is_some_and(|bytes| bytes.as_slice() == TEXT));
+    assert!(rt; gate.is_each_once(6));
+}
+
+#[test]
+fn two_workers_make_two_tables_at_one_time(rt: HostRuntime) {
+    let gate = Counts::new(1_000_000_000);
+    let text = answered(&rt, rt.alloc(), 2, &gate);
+    assert!(rt; text.is_some_and(|bytes| bytes.as_slice() == TEXT));
+    assert!(rt; gate.is_each_once(6));
     assert_eq!(rt; gate.impatient.load(Ordering::SeqCst), 0);
 }
