@@ -6,7 +6,7 @@ use Rattle.std.proofs.lemmas.List.FromFn.{length-map-range_with_len, map-range_w
 use Rattle.mapf_grid.specs.Instance.{Instance}
 use Rattle.mapf_plan.specs.Plan.{path_of}
 use Rattle.mapf_tree.specs.Problem.{Problem, HasDistances}
-use Rattle.mapf_tree.specs.Tree.{IsAllowedFor, IsOwnPathOf}
+use Rattle.mapf_tree.specs.Tree.{IsAllowedFor}
 use Rattle.mapf_tree.specs.Family.{IsRoot, IsOwn, AreRootPaths}
 use Rattle.mapf_tree.proofs.RootNodes.{free_at_root}
 use Rattle.mapf_solve.specs.Rounds.{WantedPath, WantedTable, FitsPath, FitsGoal, wanted_path, wanted_table, AreOfAgents, AreOfGoals}
