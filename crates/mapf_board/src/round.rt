@@ -63,7 +63,7 @@ pub fn answer_all<R: Threads + Sync, W: Work, O: Order<W> + Sync, G: Gate>(
 ///
 /// There is a place for each order, in the orders' order, which holds the pair of its job. It is empty where the job found
 /// no memory, when it was made, done or kept. An error is that memory ran out for the round as a whole (its tickets, its
-/// threads, or the list of all places); the pairs that were made are lost then, and the orders stand as they were.
+/// threads or its lists); the pairs that were made are lost then, and the orders stand as they were.
 pub fn run_round<R: Threads + Sync, W: Work, O: Order<W> + Sync, G: Gate>(
     rt: &R,
     alloc: Global,
