@@ -6,6 +6,7 @@ use Rattle.std.proofs.lemmas.Bool.{cases_eq}
 use Rattle.std.proofs.lemmas.List.{length-map, get_or-map}
 use Rattle.std.proofs.lemmas.List.Elements.{Contains-append_left, Contains-append_right}
 use Rattle.std.proofs.lemmas.List.Sums.{sum_by-cons}
+use Rattle.mapf_grid.proofs.Decide.{by_cases}
 use Rattle.mapf_grid.proofs.Members.{nowhere, here, there, here_or_there}
 
 -- the image of an element is in the image of the list
@@ -58,6 +59,7 @@ module _ {X : Type 0} (d : X) where
   abbrev pub Row : ℕ → (ℕ → X → Type 0) → Type 0
   Row n R = (xs : List X) × (length xs ≡ n) × ((i : ℕ) → i < n → R i (get_or xs i d))
 
+  -- of no elements
   no_row : (R : ℕ → X → Type 0) → Row 0 R
   no_row R = ([], refl, λ i h. absurd (omega (arith, h)))
 
@@ -83,11 +85,9 @@ module _ {X : Type 0} (d : X) where
 
 -- what P says of the elements of a list of which one is replaced
 pub set_cases : {X : Type 0} (P : X → Type 0) (xs : List X) (j i : ℕ) (y d : X) → i < length xs → (j ≡ i → P y) → (j ≢ i → P (get_or xs i d)) → P (get_or (set xs j y) i d)
-set_cases P xs j i y d inside new old = go (ℕ_discrete j i)
-  where
-    go : Dec (j ≡ i) → P (get_or (set xs j y) i d)
-    go (yes e) = subst P (sym (ap (λ k. get_or (set xs k y) i d) e ∙ get_or-set_same xs i y d inside)) (new e)
-    go (no n) = subst P (sym (get_or-set_other xs j i y d (λ e. n (sym e)))) (old n)
+set_cases P xs j i y d inside new old =
+    by_cases (ℕ_discrete j i) (λ e. subst P (sym (ap (λ k. get_or (set xs k y) i d) e ∙ get_or-set_same xs i y d inside)) (new e))
+    (λ n. subst P (sym (get_or-set_other xs j i y d (λ e. n (sym e)))) (old n))
 
 -- sums place by place
 pub sum_by-le : {X : Type 0} (f : X → ℕ) (d : X) (xs ys : List X) → length xs ≡ length ys → ((i : ℕ) → i < length xs → f (get_or xs i d) ≤ f (get_or ys i d)) → sum_by f xs ≤ sum_by f ys

@@ -2,6 +2,7 @@
 use Rattle.std.proofs.Common.{◌≡◌, ◌≢◌, ◌⊎◌, ℕ, ◌≤◌, List, [], ◌∷◌, inl, inr, subst, sym, refl, ap₂, ◌∙◌, ⊎_elim, arith, All, Contains}
 use Rattle.std.proofs.lemmas.Bool.{cases_order, cases_lt}
 use Rattle.std.proofs.lemmas.List.Elements.{All-nil, All-cons, All-tail, All-contains}
+use Rattle.mapf_grid.proofs.Decide.{by_cases}
 use Rattle.mapf_grid.specs.Least.{Precedes, IsLeast}
 
 -- by cases: two ranks are equal, or one precedes the other
@@ -73,11 +74,10 @@ module _ {A : Type 0} (rank : A → List ℕ) (S : A → Type 0) where
   more x xs (no n) (inr f) = inr (All-cons (λ y. ¬ S y) x xs n f)
   more x xs (no n) (inl b) = inl (b.0, b.1, All-cons (λ y. S y → ¬ Precedes (rank y) (rank b.0)) x xs (λ s. absurd (n s)) b.2)
   more x xs (yes t) (inr f) = inl (x, t, All-cons (λ y. S y → ¬ Precedes (rank y) (rank x)) x xs (λ s. irreflexive (rank x)) (λ k d l s. absurd (f k d l s)))
-  more x xs (yes t) (inl b) = go (dec_precedes (rank b.0) (rank x))
-    where
-      go : Dec (Precedes (rank b.0) (rank x)) → Best (x ∷ xs)
-      go (yes h) = inl (b.0, b.1, All-cons (λ y. S y → ¬ Precedes (rank y) (rank b.0)) x xs (λ s. asymmetric (rank b.0) (rank x) h) b.2)
-      go (no n) = inl (x, t, All-cons (λ y. S y → ¬ Precedes (rank y) (rank x)) x xs (λ s. irreflexive (rank x)) (λ k d l s h. b.2 k d l s (before_le _ _ _ h n)))
+  more x xs (yes t) (inl b) =
+      by_cases (dec_precedes (rank b.0) (rank x))
+      (λ h. inl (b.0, b.1, All-cons (λ y. S y → ¬ Precedes (rank y) (rank b.0)) x xs (λ s. asymmetric (rank b.0) (rank x) h) b.2))
+      (λ n. inl (x, t, All-cons (λ y. S y → ¬ Precedes (rank y) (rank x)) x xs (λ s. irreflexive (rank x)) (λ k d l s h. b.2 k d l s (before_le _ _ _ h n))))
 
   -- it is there, where S is decided for each
   among : (xs : List A) → All (λ x. Dec (S x)) xs → Best xs

@@ -1,8 +1,9 @@
 -- The classes of a search, as lists: those that are emptied, and the three to come.
-use Rattle.std.proofs.Common.{◌≡◌, ◌⊎◌, ◌↔◌, ℕ, zero, suc, ◌+◌, ◌-◌, ◌<◌, ◌≤◌, List, [], ◌∷◌, ◌++◌, length, Option, Some, None, Contains, inl, inr, subst, subst₂, sym, refl, ap, ◌∙◌, arith}
+use Rattle.std.proofs.Common.{◌≡◌, ◌⊎◌, ◌↔◌, ℕ, zero, suc, ◌+◌, ◌-◌, ◌<◌, ◌≤◌, List, [], ◌∷◌, ◌++◌, length, Option, Some, None, Contains, inl, inr, subst, subst₂, sym, refl, ap, ◌∙◌, ⊎_elim, arith}
 use Rattle.std.proofs.lemmas.Bool.{cases_lt}
 use Rattle.std.proofs.lemmas.List.{get_or_append_left, get_or-append-add, get_or_past, length-append}
 use Rattle.mapf_grid.specs.Grid.{IsFree, cells}
+use Rattle.mapf_grid.proofs.Members.{nowhere}
 use Rattle.mapf_low.specs.Query.{Query, MayEnd}
 use Rattle.mapf_low.specs.declared.constraint.Constraint.TheVariants.{Vertex}
 use Rattle.mapf_low.specs.Walk.{distance_at}
@@ -20,9 +21,6 @@ Has classes k v = Contains (class_at classes k) v
 abbrev pub all : List (List ℕ) → List ℕ → List ℕ → List ℕ → List (List ℕ)
 all classes now next after = classes ++ now ∷ next ∷ after ∷ []
 
-none_in : (v : ℕ) → ¬ Contains {X = ℕ} [] v
-none_in v i = omega (arith, i.1)
-
 -- a class behind those that are emptied
 behind : (classes more : List (List ℕ)) (k j : ℕ) → length classes + j ≡ k → class_at (classes ++ more) k ≡ class_at more j
 behind classes more k j e = ap (λ n. class_at (classes ++ more) n) (sym e) ∙ get_or-append-add classes more j []
@@ -35,7 +33,7 @@ as_same : (a b : List ℕ) (v : ℕ) → a ≡ b → Contains a v ↔ Contains b
 as_same a b v e = (subst (λ xs. Contains xs v) e, subst (λ xs. Contains xs v) (sym e))
 
 pub past_all : (classes : List (List ℕ)) (k v : ℕ) → length classes ≤ k → ¬ Has classes k v
-past_all classes k v l i = none_in v (subst (λ xs. Contains xs v) (get_or_past classes k [] l) i)
+past_all classes k v l i = nowhere (subst (λ xs. Contains xs v) (get_or_past classes k [] l) i)
 
 -- the last class of a list
 pub last_has : (classes : List (List ℕ)) (new : List ℕ) (k v : ℕ) → k ≡ length classes → Contains new v → Has (classes ++ new ∷ []) k v
@@ -55,15 +53,15 @@ module _ (query : Query) (nearest : ℕ) (ground : Ground query nearest) where
       )
     where
       is : IsAdded query.start one now → now ≡ query.start ∷ []
-      is (inl (i, _)) = absurd (none_in query.start (subst (λ xs. Contains xs query.start) empty i))
+      is (inl (i, _)) = absurd (nowhere (subst (λ xs. Contains xs query.start) empty i))
       is (inr e) = e ∙ ap (λ xs. xs ++ query.start ∷ []) empty
 
       only : (k v : ℕ) → Has (all [] (query.start ∷ []) [] []) k v → (k ≡ 0) × (v ≡ query.start)
       only zero v (zero, l, e) = (refl, sym e)
       only zero v (suc j, l, e) = absurd (omega (arith, l))
-      only (suc zero) v i = absurd (none_in v i)
-      only (suc (suc zero)) v i = absurd (none_in v i)
-      only (suc (suc (suc k))) v i = absurd (none_in v i)
+      only (suc zero) v i = absurd (nowhere i)
+      only (suc (suc zero)) v i = absurd (nowhere i)
+      only (suc (suc (suc k))) v i = absurd (nowhere i)
 
       here : Has (all [] (query.start ∷ []) [] []) 0 query.start
       here = (0, omega arith, refl)
@@ -90,11 +88,8 @@ module _ (query : Query) (nearest : ℕ) (ground : Ground query nearest) where
 
   -- where it doesn't arrive in any of them, it never does
   pub never_arrives : (classes : List (List ℕ)) → ((k : ℕ) → k < length classes → Has classes k query.goal → ¬ MayEnd query (nearest + k)) → (t : ℕ) → ¬ EndsAt query (InClasses query nearest classes) t
-  never_arrives classes before t = no_arrival classes (t + 1) (λ k _ i. in_or_past k i (cases_lt k (length classes))) t (omega arith)
-    where
-      in_or_past : (k : ℕ) → Has classes k query.goal → (k < length classes) ⊎ (length classes ≤ k) → ¬ MayEnd query (nearest + k)
-      in_or_past k i (inl l) = before k l i
-      in_or_past k i (inr l) = absurd (past_all classes k query.goal l i)
+  never_arrives classes before t =
+      no_arrival classes (t + 1) (λ k _ i. ⊎_elim (λ l. before k l i) (λ l. absurd (past_all classes k query.goal l i)) (cases_lt k (length classes))) t (omega arith)
 
   module _ (classes : List (List ℕ)) (now next after : List ℕ) (s : IsSearching query nearest (length classes) (Has (all classes now next after))) where
     -- what is known of the class to be emptied
@@ -145,11 +140,13 @@ module _ (query : Query) (nearest : ℕ) (ground : Ground query nearest) where
                 subst₂ (λ a b. Contains b v ↔ (Contains a v ⊎ SomeLeads query (nearest + length classes) more new v)) (sym e) (sym f) (h.members v)
 
             past : (k v : ℕ) → length classes + 2 < k → ¬ Has (classes ++ new ∷ next2 ∷ after2 ∷ [] ∷ []) k v
-            past k v l i = go (cases_lt k (length classes + 4))
+            past k v l i =
+                over (k - length classes - 3)
+                (subst (λ xs. Contains xs v) (behind classes (new ∷ next2 ∷ after2 ∷ [] ∷ []) k (suc (suc (suc (k - length classes - 3)))) (omega (arith, l))) i)
               where
-                go : (k < length classes + 4) ⊎ (length classes + 4 ≤ k) → ⊥
-                go (inl m) = none_in v (subst (λ xs. Contains xs v) (behind classes (new ∷ next2 ∷ after2 ∷ [] ∷ []) k 3 (omega (arith, l, m))) i)
-                go (inr m) = past_all (classes ++ new ∷ next2 ∷ after2 ∷ [] ∷ []) k v (omega (arith, m, length-append classes (new ∷ next2 ∷ after2 ∷ [] ∷ []))) i
+                over : (j : ℕ) → ¬ Contains (class_at ([] ∷ []) j) v
+                over zero h = nowhere h
+                over (suc j) h = nowhere h
 
         -- the search goes on with one class more
         pub search_on : IsSearching query nearest (length (classes ++ new ∷ [])) (Has (all (classes ++ new ∷ []) next2 after2 []))
@@ -171,19 +168,14 @@ module _ (query : Query) (nearest : ℕ) (ground : Ground query nearest) where
 
     -- where the three to come are empty
     pub nothing_left : now ≡ [] → next ≡ [] → after ≡ [] → (k v : ℕ) → length classes ≤ k → ¬ Has (all classes now next after) k v
-    nothing_left a b c k v l i = go (cases_lt k (length classes + 1))
+    nothing_left a b c k v l i =
+        empty (k - length classes) (subst (λ xs. Contains xs v) (behind classes (now ∷ next ∷ after ∷ []) k (k - length classes) (omega (arith, l))) i)
       where
-        third : (k < length classes + 3) ⊎ (length classes + 3 ≤ k) → length classes + 2 ≤ k → ⊥
-        third (inl m) o = none_in v (subst (λ xs. Contains xs v) (behind classes (now ∷ next ∷ after ∷ []) k 2 (omega (arith, m, o)) ∙ c) i)
-        third (inr m) o = past_all (all classes now next after) k v (omega (arith, m, length-append classes (now ∷ next ∷ after ∷ []))) i
-
-        second : (k < length classes + 2) ⊎ (length classes + 2 ≤ k) → length classes + 1 ≤ k → ⊥
-        second (inl m) o = none_in v (subst (λ xs. Contains xs v) (behind classes (now ∷ next ∷ after ∷ []) k 1 (omega (arith, m, o)) ∙ b) i)
-        second (inr m) o = third (cases_lt k (length classes + 3)) m
-
-        go : (k < length classes + 1) ⊎ (length classes + 1 ≤ k) → ⊥
-        go (inl m) = none_in v (subst (λ xs. Contains xs v) (behind classes (now ∷ next ∷ after ∷ []) k 0 (omega (arith, l, m)) ∙ a) i)
-        go (inr m) = second (cases_lt k (length classes + 2)) m
+        empty : (j : ℕ) → ¬ Contains (class_at (now ∷ next ∷ after ∷ []) j) v
+        empty zero h = nowhere (subst (λ xs. Contains xs v) a h)
+        empty (suc zero) h = nowhere (subst (λ xs. Contains xs v) b h)
+        empty (suc (suc zero)) h = nowhere (subst (λ xs. Contains xs v) c h)
+        empty (suc (suc (suc j))) h = nowhere h
 
   -- what is known when the search ends
   pub searched_to : (sum : ℕ) (classes : List (List ℕ)) → sum ≤ query.limit → AreClasses query sum nearest (Has classes) → ((t : ℕ) → t < sum → ¬ EndsAt query (InClasses query nearest classes) t) → nearest ≤ sum →

@@ -1,7 +1,7 @@
 -- What a search by classes found is an agent's own path.
-use Rattle.std.proofs.Common.{◌≡◌, ◌⊎◌, ℕ, ◌+◌, ◌<◌, ◌≤◌, List, Option, Some, None, inl, inr, subst, arith}
-use Rattle.std.proofs.lemmas.Bool.{cases_lt}
+use Rattle.std.proofs.Common.{◌≡◌, ℕ, ◌+◌, ◌<◌, List, Option, Some, None, subst, arith}
 use Rattle.std.specs.Option.{unwrap_or}
+use Rattle.mapf_grid.proofs.Decide.{up_to}
 use Rattle.mapf_low.specs.Query.{Query, IsPosed}
 use Rattle.mapf_low.specs.Constraints.{IsAllowed}
 use Rattle.mapf_low.specs.OwnPath.{IsOwnPath}
@@ -38,8 +38,4 @@ module _ (query : Query) (nearest : ℕ) (classes : List (List ℕ)) (posed : Is
       none = known end None is s
 
       before : (t : ℕ) → t < query.limit + 1 → ¬ EndsAt query (InClasses query nearest classes) t
-      before t l = go (cases_lt t query.limit)
-        where
-          go : (t < query.limit) ⊎ (query.limit ≤ t) → ¬ EndsAt query (InClasses query nearest classes) t
-          go (inl m) = none.before t m
-          go (inr m) = subst (λ k. ¬ EndsAt query (InClasses query nearest classes) k) (let e : query.limit ≡ t = omega (arith, l, m) in e) none.ends
+      before t l = up_to (λ k. ¬ EndsAt query (InClasses query nearest classes) k) query.limit t l (none.before t) none.ends

@@ -31,14 +31,10 @@ rising_has xs x r b up e p = go r e (searched xs x r p weakly)
     go (Err i) e f = ((λ t. absurd (let n : false ≡ true = sym e ∙ t in cc)), none)
       where
         none : Contains xs x → IsTrue b
-        none (k, l, is) = pick (cases_lt k i)
+        none (k, l, is) = ⊎_elim (λ m. absurd (omega (arith, f.1 k m, at))) (λ m. absurd (omega (arith, f.2 k m l, at))) (cases_lt k i)
           where
             at : get_or xs k 0 ≡ x
             at = get_or_default xs k 0 x l ∙ is
-
-            pick : (k < i) ⊎ (i ≤ k) → IsTrue b
-            pick (inl m) = absurd (omega (arith, f.1 k m, at))
-            pick (inr m) = absurd (omega (arith, f.2 k m l, at))
 
 -- a list without its repeats has the same members
 pub deduped : (xs sorted new : List ℕ) → IsPermutation xs sorted → new ≡ dedup eqb sorted → (v : ℕ) → Contains new v ↔ Contains xs v
