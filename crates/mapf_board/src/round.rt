@@ -6,8 +6,10 @@ ghost use Rattle.mapf_board.specs.Rounds.{ArePlacesOf, IsNumbered};
 ghost use Rattle.mapf_board.specs.Seats.{IsSeatOf, count_of};
 ghost use Rattle.mapf_board.specs.declared.limits.TheConstants.{MOST_TICKETS, MOST_WORKERS};
 
-use crate::gate::{Gate, NoGate};
+use crate::gate::Gate;
 use crate::no_memory::NoMemory;
+use crate::passing::perform_granted;
+use crate::supply::Supply;
 use crate::tickets::{TicketSeat, Tickets};
 use crate::work::{Pair, Task, Work};
 use std::alloc::Global;
@@ -23,35 +25,30 @@ pub trait Order<W: Task> {
     /// The job that is ordered. An error is that memory ran out.
     fn job(&self, alloc: Global) -> Result<W::Job, NoMemory>
         ensures { IfOk result (λ job. job ≡ ordered self.now) };
-
-    /// The job's number, for the gate.
-    fn number(&self) -> u64;
 }
 
 /// The answers to at most 1,000 orders, in their order: the jobs are done in a round by 1 to 64 workers. What the round
 /// left undone, for want of memory, is done alone by the caller, through no gate. An error is that memory ran out there
-/// too.
-pub fn answer_all<R: Threads + Sync, W: Work, O: Order<W> + Sync, G: Gate>(
+/// too, or for the round as a whole.
+pub fn answer_all<R: Threads + Sync, W: Work, O: Order<W> + Sync, G: Gate, S: Supply>(
     rt: &R,
     alloc: Global,
     work: &W,
     orders: &[O],
     gate: &G,
+    supply: &S,
     workers: usize,
 ) -> Result<Vec<W::Answer>, NoMemory>
     requires orders { length orders.now ≤ MOST_TICKETS }
     requires workers { (0 < workers) × (workers ≤ MOST_WORKERS) }
     ensures { IfOk result (λ answers. AllZip W.fits (map O.ordered orders.now) answers.items) }
 {
-    let places = match run_round(rt, alloc, work, orders, gate, workers) {
-        Ok(places) => places,
-        Err(_) => empty_places(alloc, orders)?,
-    };
+    let places = run_round(rt, alloc, work, orders, gate, supply, workers)?;
     let mut answers = Vec::with_capacity(alloc, orders.len())?;
     for (order, place) in orders.iter().zip(places) {
         let pair = match place {
             Some(pair) => pair,
-            None => do_order(alloc, work, order, &NoGate)?,
+            None => do_alone(alloc, work, order)?,
         };
         answers.push(pair.parts().1)?;
     }
@@ -64,12 +61,13 @@ pub fn answer_all<R: Threads + Sync, W: Work, O: Order<W> + Sync, G: Gate>(
 /// There is a place for each order, in the orders' order, which holds the pair of its job. It is empty where the job found
 /// no memory, when it was made, done or kept. An error is that memory ran out for the round as a whole (its tickets, its
 /// threads or its lists); the pairs that were made are lost then, and the orders stand as they were.
-pub fn run_round<R: Threads + Sync, W: Work, O: Order<W> + Sync, G: Gate>(
+pub fn run_round<R: Threads + Sync, W: Work, O: Order<W> + Sync, G: Gate, S: Supply>(
     rt: &R,
     alloc: Global,
     work: &W,
     orders: &[O],
     gate: &G,
+    supply: &S,
     workers: usize,
 ) -> Result<Vec<Option<Pair<W>>>, NoMemory>
     requires orders { length orders.now ≤ MOST_TICKETS }
@@ -90,7 +88,7 @@ pub fn run_round<R: Threads + Sync, W: Work, O: Order<W> + Sync, G: Gate>(
             requires pairs { begun.1.items ≡ [] }
             requires count { count_of tickets ≡ length orders.now }
             ensures { All (IsNumbered (map O.ordered orders.entry.now)) result.items }
-        { do_orders(alloc, &tickets, begun, work, orders, gate) },
+        { do_orders(alloc, &tickets, begun, work, orders, gate, supply) },
     )?;
     for pairs in made {
         put_all(orders, pairs, &mut places);
@@ -122,13 +120,14 @@ fn with_room<W: Work>(
 }
 
 /// A worker's part of the orders: it draws until no number is left.
-fn do_orders<W: Work, O: Order<W>, G: Gate>(
+fn do_orders<W: Work, O: Order<W>, G: Gate, S: Supply>(
     alloc: Global,
     tickets: &Tickets,
     begun: Begun<W>,
     work: &W,
     orders: &[O],
     gate: &G,
+    supply: &S,
 ) -> Vec<Numbered<W>>
     requires seat { IsSeatOf tickets.now begun.0 }
     requires pairs { begun.1.items ≡ [] }
@@ -137,28 +136,33 @@ fn do_orders<W: Work, O: Order<W>, G: Gate>(
 {
     let (mut seat, mut pairs) = begun;
     while let Some(n) = tickets.draw(&mut seat) {
-        if let Ok(pair) = do_order(alloc, work, &orders[n], gate) {
+        if let Ok(pair) = do_order(alloc, work, &orders[n], gate, supply) {
             let _ = pairs.push((n, pair));
         }
     }
     pairs
 }
 
-/// One job made and done, through the gate.
-fn do_order<W: Work, O: Order<W>, G: Gate>(
+/// One job made and done by a worker.
+fn do_order<W: Work, O: Order<W>, G: Gate, S: Supply>(
     alloc: Global,
     work: &W,
     order: &O,
     gate: &G,
+    supply: &S,
 ) -> Result<Pair<W>, NoMemory>
     ensures { IfOk result (λ p. p.0 ≡ O.ordered order.now) }
 {
     let job = order.job(alloc)?;
-    let number = order.number();
-    gate.enter(number);
-    let pair = work.perform(job);
-    gate.leave(number);
-    pair.map_err(|_| NoMemory)
+    perform_granted(work, gate, supply, job).map_err(|_| NoMemory)
+}
+
+/// One job made and done by the caller.
+fn do_alone<W: Work, O: Order<W>>(alloc: Global, work: &W, order: &O) -> Result<Pair<W>, NoMemory>
+    ensures { IfOk result (λ p. p.0 ≡ O.ordered order.now) }
+{
+    let job = order.job(alloc)?;
+    work.perform(job).map_err(|_| NoMemory)
 }
 
 /// An empty place for each order.

@@ -5,7 +5,7 @@ ghost use Rattle.mapf_board.specs.declared.limits.TheConstants.{MOST_SLOTS};
 
 use crate::owner::{post_all, square_all};
 use crate::square::Squares;
-use mapf_board::{Live, NoMemory, WorkerSeat};
+use mapf_board::{AlwaysGrants, Live, NoGate, NoMemory, WorkerSeat};
 use std::alloc::{AllocError, Global};
 use std::thread::{Threads, join, map_vec};
 
@@ -26,7 +26,11 @@ fn work_all<R: Threads + Sync>(
     ensures workers { IfOk result (λ back. All (IsWorkerOf live.now) back.items) }
     ensures idle { IfOk result (λ back. All IsIdle back.items) }
 {
-    map_vec(rt, seats, &|seat| live.take_turns(&Squares, seat, TURNS))
+    map_vec(
+        rt,
+        seats,
+        &|seat| live.take_turns(&Squares, &NoGate, &AlwaysGrants, seat, TURNS),
+    )
 }
 
 /// The squares of 1 to 64 numbers, in their order, by two workers and the owner of a board.

@@ -15,6 +15,10 @@ impl Task for Squares {
 }
 
 impl Work for Squares {
+    fn number(&self, number: &u32) -> u64 {
+        u64::from(*number)
+    }
+
     fn perform(&self, number: u32) -> Result<Pair<Squares>, u32> {
         Ok(Pair::of(number, square_of(number)))
     }

@@ -4,3 +4,5 @@ mod Leaving
 mod WorkedAhead
 mod WaitingNodes
 mod AgentJobs
+mod InTurn
+pub mod Boards

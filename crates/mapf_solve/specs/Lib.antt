@@ -1,3 +1,5 @@
 pub mod Out
 pub mod Run
 pub mod Rounds
+pub mod Ahead
+pub mod Jobs

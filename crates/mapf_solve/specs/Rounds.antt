@@ -55,3 +55,8 @@ AreOfGoals inst jobs = jobs ≡ map (wanted_table inst) (range_with_len 0 (lengt
 -- the child is the one that was asked for
 abbrev pub FitsSide : WantedChild → Option Node → Type 0
 FitsSide j found = IsChildOf j.problem j.node j.side found
+
+-- a child that was worked out for a job
+pub record SideWorked : Type 0 where
+  pub job : WantedChild
+  pub child : Option Node

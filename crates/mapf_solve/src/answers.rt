@@ -8,8 +8,8 @@ ghost use Rattle.mapf_solve.specs.Out.{IsOut, IsBest, IsOnlyOut, IsWorkers};
 
 use crate::rounds::tables;
 use crate::solving::solve_from;
-use crate::{Ask, Refusal};
-use mapf_board::{Gate, MOST_WORKERS};
+use crate::{Ask, Pace, Refusal};
+use mapf_board::{AlwaysGrants, Gate, MOST_WORKERS};
 use mapf_grid::{NoMemory, instance_of};
 use mapf_plan::{Answer, MOST_BOUND, write};
 use mapf_tree::Problem;
@@ -65,9 +65,19 @@ fn text_or_fault<R: Threads + Sync, G: Gate>(
     }
     let instance = instance_of(alloc, map, scen, ask.agents)?;
     let goals = instance.agents() as u64;
-    let tables = tables(rt, alloc, &instance, ask.workers as usize, gate)?;
+    let workers = ask.workers as usize;
+    let tables = tables(rt, alloc, &instance, workers, gate, &AlwaysGrants)?;
     let problem = Problem::with(instance, tables, ask.bound as u32);
-    let answer = solve_from(rt, alloc, &problem, goals, ask.workers as usize, gate)?;
+    let answer = solve_from(
+        rt,
+        alloc,
+        &problem,
+        goals,
+        workers,
+        Pace::LONGEST,
+        gate,
+        &AlwaysGrants,
+    )?;
     Ok(spell(alloc, &problem, &answer)?)
 }
 

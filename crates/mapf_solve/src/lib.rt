@@ -4,15 +4,18 @@
 mod answers;
 mod ask;
 pub mod laws;
+mod pace;
 mod refusal;
 mod rounds;
 mod run_fault;
 mod runs;
+mod sessions;
 mod solving;
 
 pub use answers::answer;
 pub use ask::Ask;
+pub use pace::{MOST_SESSION_NODES, MOST_WORKER_TURNS, Pace};
 pub use refusal::Refusal;
 pub use run_fault::RunFault;
 pub use runs::run;
-pub use solving::solve;
+pub use solving::{solve, solve_paced, solve_with};

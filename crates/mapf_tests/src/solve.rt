@@ -4,3 +4,4 @@ mod devices;
 mod gates;
 mod limits;
 mod refusals;
+mod schedules;

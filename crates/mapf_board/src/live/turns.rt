@@ -3,7 +3,11 @@ ghost use Rattle.std.specs.Prelude.{◌≡◌};
 
 use super::Live;
 use super::left::Left;
+use super::pause::Pause;
 use super::worker::WorkerSeat;
+use crate::gate::Gate;
+use crate::passing::perform_granted;
+use crate::supply::Supply;
 use crate::work::Work;
 
 impl<W: Work> Live<W> {
@@ -13,35 +17,54 @@ impl<W: Work> Live<W> {
     ///
     /// A turn is one look at the flag and one claim. The slots are claimed in a ring, from the worker's number on; a
     /// job that was claimed is performed, and what becomes of it is left in its slot: the job with its answer, or the
-    /// job, where memory ran out.
-    pub fn take_turns(&self, work: &W, mut seat: WorkerSeat<W>, turns: u64) -> WorkerSeat<W>
+    /// job, where memory ran out. The longer nothing was to be claimed, the longer a worker pauses after a turn; it waits
+    /// for nobody.
+    pub fn take_turns<G: Gate, S: Supply>(
+        &self,
+        work: &W,
+        gate: &G,
+        supply: &S,
+        mut seat: WorkerSeat<W>,
+        turns: u64,
+    ) -> WorkerSeat<W>
         requires worker { IsWorkerOf self.now seat }
         requires idle { IsIdle seat }
         ensures worker { IsWorkerOf self.now result }
         ensures idle { IsIdle result }
     {
+        let mut pause = Pause::new();
         let mut slot = seat.number % self.size;
         for _ in 0..turns {
             if !self.is_open(&mut seat) {
                 break;
             }
             if self.claim(&mut seat, slot).is_ok() {
-                self.work_off(work, &mut seat);
+                self.work_off(work, gate, supply, &mut seat);
+                pause.shorten();
+            } else {
+                pause.take();
             }
             slot = (slot + 1) % self.size;
         }
         seat
     }
 
-    /// Performs the job of the claim, and leaves what becomes of it.
-    pub fn work_off(&self, work: &W, seat: &mut WorkerSeat<W>)
+    /// Performs the job of the claim between the two calls of the gate, where the supply grants memory for it, and leaves
+    /// what becomes of it: the job with its answer, or the job, where there was no memory.
+    pub fn work_off<G: Gate, S: Supply>(
+        &self,
+        work: &W,
+        gate: &G,
+        supply: &S,
+        seat: &mut WorkerSeat<W>,
+    )
         requires worker { IsWorkerOf self.now seat.old }
         requires claim { (job : W.Job) × HoldsJob seat.old job }
         ensures worker { IsWorkerOf self.now seat.new }
         ensures idle { IsIdle seat.new }
     {
         let job = self.job_of(seat);
-        match work.perform(job) {
+        match perform_granted(work, gate, supply, job) {
             Ok(pair) => self.finish(seat, Left::Answer(pair)),
             Err(job) => self.finish(seat, Left::Job(job)),
         }

@@ -1,6 +1,6 @@
 use super::crew::{put_back, take_seat};
-use super::squares::{Squares, answer_in, work_off};
-use mapf_board::{Found, Left, Live};
+use super::squares::{Squares, answer_in};
+use mapf_board::{AlwaysGrants, Found, Left, Live, NoGate};
 use std::test::Fail;
 
 #[test]
@@ -14,7 +14,7 @@ fn one_slot_is_answered_and_two_are_left(rt: HostRuntime) -> Result<(), Fail> {
     let Ok(()) = live.claim(&mut zero, 1) else {
         panic!(rt; "no claim")
     };
-    work_off(&live, &Squares, &mut zero);
+    live.work_off(&Squares, &NoGate, &AlwaysGrants, &mut zero);
     assert!(rt; live.claim(&mut one, 1) == Err(Found::Done));
     let Ok(left) = live.collect(&mut owner, 1) else {
         panic!(rt; "nothing is left")
@@ -105,7 +105,7 @@ fn close_leaves_what_nobody_collected(rt: HostRuntime) -> Result<(), Fail> {
         panic!(rt; "no claim")
     };
     assert!(rt; live.collect(&mut owner, 63).err() == Some(Found::Claimed(63)));
-    work_off(&live, &Squares, &mut last);
+    live.work_off(&Squares, &NoGate, &AlwaysGrants, &mut last);
     assert!(rt; live.withdraw(&mut owner, 2) == Ok(20));
     put_back(&live, &mut workers, last)?;
     let Ok(mut all) = live.close(rt.alloc(), owner, workers) else {

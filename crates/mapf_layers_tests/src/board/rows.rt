@@ -50,6 +50,10 @@ impl<'m> Task for Rows<'m> {
 }
 
 impl<'m> Work for Rows<'m> {
+    fn number(&self, job: &Place<'m>) -> u64 {
+        job.at as u64
+    }
+
     fn perform(&self, job: Place<'m>) -> Result<Pair<Rows<'m>>, Place<'m>> {
         let answer = job.row.get(job.at).copied();
         Ok(Pair::of(job, answer))

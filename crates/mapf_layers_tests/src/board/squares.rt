@@ -1,8 +1,7 @@
-// A Work of numbers, and a worker that does a claimed job.
+// A Work of numbers.
 ghost use Rattle.std.specs.Prelude.{◌≡◌, ◌*◌};
-ghost use Rattle.mapf_board.specs.Workers.{IsWorkerOf, IsIdle, HoldsJob};
 
-use mapf_board::{Left, Live, Pair, Task, Work, WorkerSeat};
+use mapf_board::{Left, Pair, Task, Work};
 
 /// What is the square of a number?
 #[derive(Clone, Copy)]
@@ -17,22 +16,12 @@ impl Task for Squares {
 }
 
 impl Work for Squares {
+    fn number(&self, job: &u32) -> u64 {
+        u64::from(*job)
+    }
+
     fn perform(&self, job: u32) -> Result<Pair<Squares>, u32> {
         Ok(Pair::of(job, u64::from(job) * u64::from(job)))
-    }
-}
-
-/// Does the job of the claim, and leaves its answer.
-pub(super) fn work_off<W: Work>(live: &Live<W>, work: &W, seat: &mut WorkerSeat<W>)
-    requires worker { IsWorkerOf live.now seat.old }
-    requires claim { (job : W.Job) × HoldsJob seat.old job }
-    ensures worker { IsWorkerOf live.now seat.new }
-    ensures idle { IsIdle seat.new }
-{
-    let job = live.job_of(seat);
-    match work.perform(job) {
-        Ok(pair) => live.finish(seat, Left::Answer(pair)),
-        Err(job) => live.finish(seat, Left::Job(job)),
     }
 }
 

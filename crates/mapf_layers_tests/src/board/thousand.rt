@@ -4,8 +4,8 @@ ghost use Rattle.mapf_board.specs.Owners.{IsOwnerOf};
 ghost use Rattle.mapf_board.specs.Workers.{IsWorkerOf, IsIdle, size_of};
 
 use super::crew::{put_back, take_seat};
-use super::squares::{Squares, answer_in, work_off};
-use mapf_board::{Live, Owner, WorkerSeat};
+use super::squares::{Squares, answer_in};
+use mapf_board::{AlwaysGrants, Live, NoGate, Owner, WorkerSeat};
 use std::test::Fail;
 use std::thread::{Threads, join};
 
@@ -27,7 +27,7 @@ fn worker(live: &Live<Squares>, mut seat: WorkerSeat<Squares>) -> WorkerSeat<Squ
             break;
         }
         if live.claim(&mut seat, (turn % 8) as usize).is_ok() {
-            work_off(live, &Squares, &mut seat);
+            live.work_off(&Squares, &NoGate, &AlwaysGrants, &mut seat);
         }
     }
     seat

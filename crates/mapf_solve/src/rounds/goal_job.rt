@@ -65,6 +65,10 @@ impl<'m> Task for GoalWork<'m> {
 }
 
 impl<'m> Work for GoalWork<'m> {
+    fn number(&self, job: &GoalJob<'m>) -> u64 {
+        job.number
+    }
+
     fn perform(&self, job: GoalJob<'m>) -> Result<Pair<GoalWork<'m>>, GoalJob<'m>> {
         match Distances::to(self.alloc, job.map, job.goal) {
             Ok(distances) => Ok(Pair::of(job, distances)),
@@ -79,9 +83,5 @@ impl<'m> Order<GoalWork<'m>> for GoalJob<'m> {
 
     fn job(&self, _alloc: Global) -> Result<GoalJob<'m>, NoMemory> {
         Ok(self.clone()?)
-    }
-
-    fn number(&self) -> u64 {
-        self.number
     }
 }

@@ -68,6 +68,10 @@ impl<'p> Task for PathWork<'p> {
 }
 
 impl<'p> Work for PathWork<'p> {
+    fn number(&self, job: &PathJob<'p>) -> u64 {
+        job.number
+    }
+
     fn perform(&self, job: PathJob<'p>) -> Result<Pair<PathWork<'p>>, PathJob<'p>> {
         match root_path(self.alloc, job.problem, job.agent) {
             Ok(found) => Ok(Pair::of(job, found)),
@@ -82,9 +86,5 @@ impl<'p> Order<PathWork<'p>> for PathJob<'p> {
 
     fn job(&self, _alloc: Global) -> Result<PathJob<'p>, NoMemory> {
         Ok(self.clone()?)
-    }
-
-    fn number(&self) -> u64 {
-        self.number
     }
 }

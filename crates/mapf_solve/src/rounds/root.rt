@@ -6,7 +6,7 @@ ghost use Rattle.mapf_solve.specs.Rounds.{AreOfAgents};
 ghost use Rattle.mapf_board.specs.declared.limits.TheConstants.{MOST_TICKETS, MOST_WORKERS};
 
 use crate::rounds::path_job::{PathJob, PathWork};
-use mapf_board::{Gate, answer_all};
+use mapf_board::{Gate, Supply, answer_all};
 use mapf_grid::NoMemory;
 use mapf_plan::Path;
 use mapf_tree::{Node, Problem, root_with};
@@ -15,20 +15,21 @@ use std::thread::Threads;
 
 /// The root of a problem's tree; none exactly where it isn't in the tree. Each agent's own path is a job, and the jobs
 /// are numbered from `first` on.
-pub(crate) fn root<R: Threads + Sync, G: Gate>(
+pub(crate) fn root<R: Threads + Sync, G: Gate, S: Supply>(
     rt: &R,
     alloc: Global,
     problem: &Problem,
     first: u64,
     workers: usize,
     gate: &G,
+    supply: &S,
 ) -> Result<Option<Node>, NoMemory>
     requires { (0 < workers) × (workers ≤ MOST_WORKERS) }
     ensures { IfOk result (IsRoot problem.now) }
 {
     let jobs = path_jobs(alloc, problem, first)?;
     let work = PathWork::new(alloc);
-    let Ok(found) = answer_all(rt, alloc, &work, &jobs, gate, workers) else {
+    let Ok(found) = answer_all(rt, alloc, &work, &jobs, gate, supply, workers) else {
         return Err(NoMemory);
     };
     match all_of(alloc, found)? {

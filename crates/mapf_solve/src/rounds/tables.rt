@@ -6,26 +6,27 @@ ghost use Rattle.mapf_solve.specs.Rounds.{AreOfGoals};
 ghost use Rattle.mapf_board.specs.declared.limits.TheConstants.{MOST_TICKETS, MOST_WORKERS};
 
 use crate::rounds::goal_job::{GoalJob, GoalWork};
-use mapf_board::{Gate, answer_all};
+use mapf_board::{Gate, Supply, answer_all};
 use mapf_grid::{Instance, NoMemory};
 use mapf_low::Distances;
 use std::alloc::Global;
 use std::thread::Threads;
 
 /// The distances to each agent's goal, agent 0 first. Each goal is a job, and the jobs have the agents' numbers.
-pub(crate) fn tables<R: Threads + Sync, G: Gate>(
+pub(crate) fn tables<R: Threads + Sync, G: Gate, S: Supply>(
     rt: &R,
     alloc: Global,
     instance: &Instance,
     workers: usize,
     gate: &G,
+    supply: &S,
 ) -> Result<Vec<Distances>, NoMemory>
     requires { (0 < workers) × (workers ≤ MOST_WORKERS) }
     ensures { IfOk result (λ tables. HasDistances instance.now tables.items) }
 {
     let jobs = goal_jobs(alloc, instance)?;
     let work = GoalWork::new(alloc);
-    match answer_all(rt, alloc, &work, &jobs, gate, workers) {
+    match answer_all(rt, alloc, &work, &jobs, gate, supply, workers) {
         Ok(tables) => Ok(tables),
         Err(_) => Err(NoMemory),
     }

@@ -15,23 +15,37 @@ use std::thread::Threads;
 /// How many jobs there are in all: a goal, a root path and a side for each of two agents.
 const JOBS: usize = 6;
 
+/// How long a job waits for another at most, in looks.
+const MOST_LOOKS: u64 = 1_000_000_000;
+
 /// How often each of the jobs 0 to 5 was entered and left, and how often others were.
 #[derive(Drop)]
 struct Counts {
     entered: [AtomicU64; JOBS],
     left: [AtomicU64; JOBS],
     others: AtomicU64,
-    /// How long the first job waits at most for the second to be left, in looks.
+    /// The job that waits for another to be left.
+    waiter: u64,
+    awaited: usize,
+    /// How long it waits at most, in looks.
     patience: u64,
     impatient: AtomicU64,
 }
 
 impl Counts {
-    fn new(patience: u64) -> Counts {
+    /// No job waits.
+    fn new() -> Counts {
+        Counts::waiting(0, 0, 0)
+    }
+
+    /// A job waits for another to be left, so many looks at most.
+    fn waiting(waiter: u64, awaited: usize, patience: u64) -> Counts {
         Counts {
             entered: zeros(),
             left: zeros(),
             others: AtomicU64::new(0),
+            waiter,
+            awaited,
             patience,
             impatient: AtomicU64::new(0),
         }
@@ -44,14 +58,21 @@ impl Counts {
         };
     }
 
-    fn wait_for_the_second(&self) {
+    fn wait_for_the_awaited(&self) {
         for _ in 0..self.patience {
-            if self.left[1].load(Ordering::SeqCst) > 0 {
+            if self.is_left(self.awaited) {
                 return;
             }
         }
         if self.patience > 0 {
             self.impatient.fetch_add(1, Ordering::SeqCst);
+        }
+    }
+
+    fn is_left(&self, n: usize) -> bool {
+        match self.left.get(n) {
+            Some(job) => job.load(Ordering::SeqCst) > 0,
+            None => false,
         }
     }
 
@@ -84,8 +105,8 @@ fn is_once(jobs: &[AtomicU64], first: usize) -> bool {
 impl Gate for Counts {
     fn enter(&self, n: u64) {
         self.count(&self.entered, n);
-        if n == 0 {
-            self.wait_for_the_second();
+        if n == self.waiter {
+            self.wait_for_the_awaited();
         }
     }
 
@@ -129,7 +150,7 @@ const TEXT: &[u8] = b"plan 2 5\n1,0 1,0 1,1 1,2\n0,1 1,1 2,1\n";
 
 #[test]
 fn one_worker_does_each_root_path_and_each_side_once(rt: HostRuntime) {
-    let gate = Counts::new(0);
+    let gate = Counts::new();
     let answer = solved(&rt, rt.alloc(), &CROSSING, 9, 1, &gate);
     assert!(rt; matches!(answer, Some(Answer::Plan { stated: 5, .. })));
     assert!(rt; gate.is_each_once(4));
@@ -137,7 +158,7 @@ fn one_worker_does_each_root_path_and_each_side_once(rt: HostRuntime) {
 
 #[test]
 fn one_worker_does_each_goal_root_path_and_side_once(rt: HostRuntime) {
-    let gate = Counts::new(0);
+    let gate = Counts::new();
     let text = answered(&rt, rt.alloc(), 1, &gate);
     assert!(rt; text.is_some_and(|bytes| bytes.as_slice() == TEXT));
     assert!(rt; gate.is_each_once(6));
@@ -145,7 +166,7 @@ fn one_worker_does_each_goal_root_path_and_side_once(rt: HostRuntime) {
 
 #[test]
 fn two_workers_do_each_goal_root_path_and_side_once(rt: HostRuntime) {
-    let gate = Counts::new(0);
+    let gate = Counts::new();
     let text = answered(&rt, rt.alloc(), 2, &gate);
     assert!(rt; text.is_some_and(|bytes| bytes.as_slice() == TEXT));
     assert!(rt; gate.is_each_once(6));
@@ -153,9 +174,29 @@ fn two_workers_do_each_goal_root_path_and_side_once(rt: HostRuntime) {
 
 #[test]
 fn two_workers_make_two_tables_at_one_time(rt: HostRuntime) {
-    let gate = Counts::new(1_000_000_000);
+    let gate = Counts::waiting(0, 1, MOST_LOOKS);
     let text = answered(&rt, rt.alloc(), 2, &gate);
     assert!(rt; text.is_some_and(|bytes| bytes.as_slice() == TEXT));
     assert!(rt; gate.is_each_once(6));
     assert_eq!(rt; gate.impatient.load(Ordering::SeqCst), 0);
+}
+
+/// Whether the left side is done while the right one is: the job of the left side ends when that of the right side has
+/// ended, each of them passes the gate once, and the answer is the right one.
+fn does_two_sides_at_one_time<R: Threads + Sync>(rt: &R, alloc: Global, workers: u64) -> bool {
+    let gate = Counts::waiting(4, 5, MOST_LOOKS);
+    let text = answered(rt, alloc, workers, &gate);
+    text.is_some_and(|bytes| bytes.as_slice() == TEXT)
+        && gate.is_each_once(6)
+        && gate.impatient.load(Ordering::SeqCst) == 0
+}
+
+#[test]
+fn one_worker_and_the_coordinator_do_two_sides_at_one_time(rt: HostRuntime) {
+    assert!(rt; does_two_sides_at_one_time(&rt, rt.alloc(), 1));
+}
+
+#[test]
+fn two_workers_do_two_sides_at_one_time(rt: HostRuntime) {
+    assert!(rt; does_two_sides_at_one_time(&rt, rt.alloc(), 2));
 }

@@ -1,0 +1,14 @@
+use Rattle.std.proofs.Common.{None, sym, ap, ◌∙◌, slice_index_or}
+use Rattle.mapf_board.specs.Owners.{known_to, current_in}
+use Rattle.mapf_solve.proofs.Boards.{none_there}
+use Rattle.mapf_solve.proofs.sessions.course.session.Goals as goal
+
+pub begin-requires-clause-jobs : goal.begin-requires-clause-jobs
+begin-requires-clause-jobs g c slot job at =
+    let fresh = ap known_to c.new-desk.ensures.owner ∙ c.in-Ok.ensures.no_job in
+    none_there 64 slot job (sym (ap (λ v. slice_index_or v.current slot None) fresh) ∙ at)
+
+pub keep_all-requires : goal.keep_all-requires
+keep_all-requires g c k d low =
+    let x = slice_index_or c.in-Ok-close.left.items k d in
+    c.side_by_side-course.ensures.jobs x.0 _ (ap (λ o. current_in o x.0) (sym c.into_owner-owner.ensures.owner) ∙ c.in-Ok-close.ensures.jobs k d low) ∙ sym c.side_by_side-course.ensures.ahead

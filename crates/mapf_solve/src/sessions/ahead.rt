@@ -1,0 +1,259 @@
+//! What is known of the children of nodes that wait.
+
+ghost use Rattle.std.specs.Prelude.{◌≡◌, ◌<◌, ◌≤◌, All, IfOk, IfErr, IfSome, length};
+ghost use Rattle.mapf_board.specs.declared.limits.TheConstants.{MOST_SLOTS};
+ghost use Rattle.mapf_tree.specs.Problem.{Problem};
+ghost use Rattle.mapf_solve.specs.Ahead.{IsKnownOf, IsEntryOf};
+
+use crate::sessions::side_job::{SideJob, Worked};
+use mapf_tree::{Key, Node, Problem, Side};
+use std::alloc::Global;
+use std::cmp::Ordering;
+use std::marker::Model;
+
+/// What is known of a child of a node that waits.
+#[derive(Drop)]
+pub(crate) enum Known<'p> {
+    /// No job for it was posted, or none that is remembered.
+    Nothing,
+    /// Its job was posted in this slot.
+    Posted(usize),
+    /// It was worked out.
+    Worked(Worked<'p>),
+    /// A worker gave its job back for want of memory.
+    Undone,
+}
+
+/// What is known of the children of the node of this key.
+#[derive(Drop)]
+pub(crate) struct Entry<'p> {
+    key: Key,
+    left: Known<'p>,
+    right: Known<'p>,
+}
+
+impl<'p> Entry<'p> {
+    /// Nothing is known of this node's children. None where memory runs out.
+    fn new(alloc: Global, node: &Node) -> Option<Entry<'p>>
+        ensures { (p : Problem) → IfSome result (IsEntryOf p) }
+    {
+        let key = node.key();
+        let key = Key {
+            cost: key.cost,
+            depth: key.depth,
+            name: key.name.as_slice().to_vec(alloc).ok()?,
+        };
+        Some(Entry {
+            key,
+            left: Known::Nothing,
+            right: Known::Nothing,
+        })
+    }
+
+    /// What is known of the child of a side.
+    fn side(&self, side: Side) -> &Known<'p> {
+        match side {
+            Side::Left => &self.left,
+            Side::Right => &self.right,
+        }
+    }
+
+    /// Another thing is known of the child of a side.
+    fn set(&mut self, side: Side, known: Known<'p>)
+        ensures { (p : Problem) → IsEntryOf p self.old → IsKnownOf p known.entry → IsEntryOf p self.new }
+    {
+        match side {
+            Side::Left => self.left = known,
+            Side::Right => self.right = known,
+        }
+    }
+
+    /// Slots are remembered no longer.
+    fn forget_slots(&mut self)
+        ensures { (p : Problem) → IsEntryOf p self.old → IsEntryOf p self.new }
+    {
+        if let Known::Posted(_) = self.left {
+            self.left = Known::Nothing;
+        }
+        if let Known::Posted(_) = self.right {
+            self.right = Known::Nothing;
+        }
+    }
+}
+
+/// What is known of the children of nodes of a problem's tree that wait.
+#[derive(Drop)]
+pub(crate) struct Ahead<'p> {
+    alloc: Global,
+    problem: &'p Problem,
+    /// An entry for each node of which anything is known, the greatest key first: the node whose turn comes next is the
+    /// last.
+    entries: Vec<Entry<'p>>,
+}
+
+impl<'p> Model for Ahead<'p> {
+    ghost use Rattle.std.specs.Prelude.{All};
+    ghost use Rattle.mapf_tree.specs.Problem.{Problem};
+    ghost use Rattle.mapf_solve.specs.Ahead.{IsEntryOf};
+
+    ghost Value = { Problem };
+
+    ghost view = { λ a. a.problem.now };
+
+    ghost invariant = { λ a. All (IsEntryOf a.problem.now) a.entries.items };
+}
+
+impl<'p> Ahead<'p> {
+    /// Nothing is known yet.
+    pub(crate) fn new(alloc: Global, problem: &'p Problem) -> Ahead<'p>
+        ensures { result ≡ problem.now }
+    {
+        Ahead {
+            alloc,
+            problem,
+            entries: Vec::new(alloc),
+        }
+    }
+
+    /// The problem whose nodes they are.
+    pub(crate) fn problem(&self) -> &'p Problem
+        ensures { result.now ≡ self.now }
+    {
+        self.problem
+    }
+
+    /// The place of a node's entry, which is made where there is none, below this place: each of the nodes that come
+    /// before this one has a place from there on. None where memory runs out.
+    pub(crate) fn place_for(&mut self, node: &Node, below: Option<usize>) -> Option<usize>
+        ensures { self.new ≡ self.old }
+    {
+        let below = below.unwrap_or(self.entries.len());
+        match place_of(&self.entries, below, node.key()) {
+            Ok(place) => Some(place),
+            Err(place) => {
+                let entry = Entry::new(self.alloc, node)?;
+                put_in(&mut self.entries, place, entry).then_some(place)
+            }
+        }
+    }
+
+    /// Whether nothing is known of this child of the node with that place.
+    pub(crate) fn is_unknown(&self, place: usize, side: Side) -> bool {
+        match self.entries.get(place) {
+            Some(entry) => matches!(entry.side(side), Known::Nothing),
+            None => false,
+        }
+    }
+
+    /// The job for this child of the node with that place was posted in a slot.
+    pub(crate) fn set_posted(&mut self, place: usize, side: Side, slot: usize)
+        requires { slot < MOST_SLOTS }
+        ensures { self.new ≡ self.old }
+    {
+        if place < self.entries.len() {
+            set_known(&mut self.entries, place, side, Known::Posted(slot));
+        }
+    }
+
+    /// A child was worked out. It is dropped where its node no longer waits.
+    pub(crate) fn keep(&mut self, worked: Worked<'p>)
+        requires { worked.job.problem ≡ self.old }
+        ensures { self.new ≡ self.old }
+    {
+        let below = self.entries.len();
+        let job = worked.job();
+        let side = job.side();
+        if let Ok(place) = place_of(&self.entries, below, job.node().key()) {
+            set_known(&mut self.entries, place, side, Known::Worked(worked));
+        }
+    }
+
+    /// A worker gave a job back.
+    pub(crate) fn note_undone(&mut self, job: &SideJob<'p>)
+        ensures { self.new ≡ self.old }
+    {
+        let below = self.entries.len();
+        if let Ok(place) = place_of(&self.entries, below, job.node().key()) {
+            set_known(&mut self.entries, place, job.side(), Known::Undone);
+        }
+    }
+
+    /// What is known of the children of the node whose turn it is; it is remembered no longer.
+    pub(crate) fn take(&mut self, node: &Node) -> (Known<'p>, Known<'p>)
+        ensures problem { self.new ≡ self.old }
+        ensures known { IsKnownOf self.old result.0 × IsKnownOf self.old result.1 }
+    {
+        if !self.is_next(node) {
+            return (Known::Nothing, Known::Nothing);
+        }
+        match self.entries.pop() {
+            Some(entry) => (entry.left, entry.right),
+            None => (Known::Nothing, Known::Nothing),
+        }
+    }
+
+    /// Whether the last entry is this node's.
+    fn is_next(&self, node: &Node) -> bool {
+        match self.entries.last() {
+            Some(entry) => entry.key == *node.key(),
+            None => false,
+        }
+    }
+
+    /// The slots are those of a board that is closed.
+    pub(crate) fn forget_slots(&mut self)
+        ensures { self.new ≡ self.old }
+    {
+        forget_all_slots(&mut self.entries);
+    }
+}
+
+/// Another thing is known of the child with this place and side.
+fn set_known<'p>(entries: &mut Vec<Entry<'p>>, place: usize, side: Side, known: Known<'p>)
+    requires { place < length entries.old.items }
+    ensures { (p : Problem) → All (IsEntryOf p) entries.old.items → IsKnownOf p known.entry → All (IsEntryOf p) entries.new.items }
+{
+    entries[place].set(side, known);
+}
+
+/// No slot is remembered any longer.
+fn forget_all_slots(entries: &mut Vec<Entry<'_>>)
+    ensures { (p : Problem) → All (IsEntryOf p) entries.old.items → All (IsEntryOf p) entries.new.items }
+{
+    for place in 0..entries.len() {
+        forget_slots_at(entries, place);
+    }
+}
+
+/// The slots of the children with this place are remembered no longer.
+fn forget_slots_at(entries: &mut Vec<Entry<'_>>, place: usize)
+    ensures { (p : Problem) → All (IsEntryOf p) entries.old.items → All (IsEntryOf p) entries.new.items }
+{
+    if place < entries.len() {
+        entries[place].forget_slots();
+    }
+}
+
+/// Puts an entry in at a place. False where memory runs out.
+fn put_in<'p>(entries: &mut Vec<Entry<'p>>, place: usize, entry: Entry<'p>) -> bool
+    requires { place ≤ length entries.old.items }
+    ensures { (p : Problem) → All (IsEntryOf p) entries.old.items → IsEntryOf p entry.entry → All (IsEntryOf p) entries.new.items }
+{
+    entries.insert(place, entry).is_ok()
+}
+
+/// Where the entry of this key stands among the first so many, or else where one is to be put in.
+fn place_of(entries: &[Entry<'_>], below: usize, key: &Key) -> Result<usize, usize>
+    ensures found { IfOk result (λ place. place < length entries.now) }
+    ensures other { IfErr result (λ place. place ≤ length entries.now) }
+{
+    let mut place = below.min(entries.len());
+    while place > 0 {
+        match entries[place - 1].key.cmp(key) {
+            Ordering::Less => place -= 1,
+            Ordering::Equal => return Ok(place - 1),
+            Ordering::Greater => break,
+        }
+    }
+    Err(place)
+}

@@ -1,0 +1,210 @@
+//! A search whose nodes the owner of a board takes, in sessions.
+
+ghost use Rattle.std.specs.Prelude.{◌≡◌, ◌<◌, ◌≤◌, All, IfOk, IsTrue, Ok, None, vec_len};
+ghost use Rattle.mapf_board.specs.Owners.{currents};
+ghost use Rattle.mapf_board.specs.Workers.{IsWorkerOf, IsIdle};
+ghost use Rattle.mapf_board.specs.declared.limits.TheConstants.{MOST_WORKERS};
+ghost use Rattle.mapf_tree.specs.Search.{TakesBetween};
+ghost use Rattle.mapf_solve.specs.Ahead.{AreSidesOf, TakesOn};
+
+use crate::pace::Pace;
+use crate::sessions::coordinator::Coordinator;
+use crate::sessions::desk::Desk;
+use crate::sessions::ready::Ready;
+use crate::sessions::side_job::SideWork;
+use crate::sessions::workers::work_beside;
+use mapf_board::{Gate, Live, MOST_SLOTS, Supply, WorkerSeat};
+use mapf_grid::NoMemory;
+use mapf_tree::{Progress, Search};
+use std::alloc::Global;
+use std::thread::Threads;
+
+/// A search under way.
+#[derive(Drop)]
+pub(crate) struct Course<'p> {
+    search: Search<'p>,
+    progress: Progress,
+    coordinator: Coordinator<'p>,
+    pub ghost problem: { search.problem ≡ coordinator.ahead },
+}
+
+impl<'p> Course<'p> {
+    /// A search of which no session was yet.
+    pub(crate) fn new(search: Search<'p>, coordinator: Coordinator<'p>) -> Course<'p>
+        requires { search.problem ≡ coordinator.ahead }
+        ensures search { result.search ≡ search.entry }
+        ensures working { result.progress ≡ Progress.Working }
+    {
+        Course {
+            search,
+            progress: Progress::Working,
+            coordinator,
+        }
+    }
+
+    /// Whether nodes are still to be taken.
+    pub(crate) fn is_working(&self) -> bool
+        ensures { IsTrue result → self.now.progress ≡ Progress.Working }
+    {
+        matches!(self.progress, Progress::Working)
+    }
+
+    /// The search, as far as it has come.
+    pub(crate) fn into_search(self) -> Search<'p>
+        ensures { result ≡ self.entry.search }
+    {
+        let Course { search, .. } = self;
+        search
+    }
+
+    /// Posts the first jobs.
+    fn begin(&mut self, desk: &mut Desk<'_, SideWork<'p>>)
+        requires open_yet { self.old.search.outcome ≡ Ok None }
+        requires jobs { AreSidesOf self.old.coordinator.ahead (currents desk.old.owner) }
+        ensures search { self.new.search ≡ self.old.search }
+        ensures problem { self.new.coordinator.ahead ≡ self.old.coordinator.ahead }
+        ensures live { desk.new.live ≡ desk.old.live }
+        ensures jobs { AreSidesOf self.old.coordinator.ahead (currents desk.new.owner) }
+    {
+        self.coordinator.work_ahead(desk, self.search.waiting());
+    }
+
+    /// Takes a node, and works children of other nodes ahead.
+    fn turn<G: Gate>(&mut self, desk: &mut Desk<'_, SideWork<'p>>, gate: &G)
+        requires open_yet { self.old.search.outcome ≡ Ok None }
+        requires jobs { AreSidesOf self.old.coordinator.ahead (currents desk.old.owner) }
+        ensures problem { self.new.search.problem ≡ self.old.search.problem }
+        ensures ahead { self.new.coordinator.ahead ≡ self.old.coordinator.ahead }
+        ensures live { desk.new.live ≡ desk.old.live }
+        ensures jobs { AreSidesOf self.old.coordinator.ahead (currents desk.new.owner) }
+        ensures working { self.new.progress ≡ Progress.Working → (self.new.search.outcome ≡ Ok None) × TakesBetween self.old.search.problem self.old.search.last self.new.search.last 1 }
+    {
+        self.coordinator.work_ahead(desk, self.search.waiting());
+        let ready = self.coordinator.ready(desk, self.search.waiting(), gate);
+        self.progress = take_next(&mut self.search, ready);
+    }
+}
+
+/// Takes the next node, whose children these are. A search that found no memory goes on no more.
+fn take_next<'p>(search: &mut Search<'p>, ready: Ready<'p>) -> Progress
+    requires { ready ≡ search.old.problem }
+    ensures problem { search.new.problem ≡ search.old.problem }
+    ensures working { result ≡ Progress.Working → (search.new.outcome ≡ Ok None) × TakesBetween search.old.problem search.old.last search.new.last 1 }
+{
+    let mut ready = ready;
+    match search.go(&mut ready, 1) {
+        Ok(progress) => progress,
+        Err(_) => Progress::Finished,
+    }
+}
+
+/// The coordinator's part of a session, at most so many turns; then the board is shut.
+fn lead<'p, 's, G: Gate>(
+    course: Course<'p>,
+    desk: Desk<'s, SideWork<'p>>,
+    turns: u64,
+    gate: &G,
+) -> (Course<'p>, Desk<'s, SideWork<'p>>)
+    requires open_yet { course.search.outcome ≡ Ok None }
+    requires jobs { AreSidesOf course.coordinator.ahead (currents desk.owner) }
+    ensures problem { result.0.search.problem ≡ course.entry.search.problem }
+    ensures ahead { result.0.coordinator.ahead ≡ course.entry.coordinator.ahead }
+    ensures live { result.1.live ≡ desk.entry.live }
+    ensures jobs { AreSidesOf course.entry.coordinator.ahead (currents result.1.owner) }
+    ensures working { result.0.progress ≡ Progress.Working → (result.0.search.outcome ≡ Ok None) × TakesOn course.entry.search.problem course.entry.search.last result.0.search.last }
+{
+    let mut course = course;
+    let mut desk = desk;
+    course.turn(&mut desk, gate);
+    for _turn in 1..turns {
+        match course.progress {
+            Progress::Working => course.turn(&mut desk, gate),
+            Progress::Finished => break,
+        }
+    }
+    desk.shut();
+    (course, desk)
+}
+
+/// The coordinator's part of a session, and beside it that of the workers, who begin first.
+fn side_by_side<'p, 's, R: Threads + Sync, G: Gate, S: Supply>(
+    rt: &R,
+    live: &Live<SideWork<'p>>,
+    work: &SideWork<'p>,
+    seats: Vec<WorkerSeat<SideWork<'p>>>,
+    course: Course<'p>,
+    desk: Desk<'s, SideWork<'p>>,
+    pace: Pace,
+    gate: &G,
+    supply: &S,
+) -> (
+    Course<'p>,
+    Desk<'s, SideWork<'p>>,
+    Result<Vec<WorkerSeat<SideWork<'p>>>, NoMemory>,
+)
+    requires workers { All (IsWorkerOf live.now) seats.items }
+    requires idle { All IsIdle seats.items }
+    requires open_yet { course.search.outcome ≡ Ok None }
+    requires jobs { AreSidesOf course.coordinator.ahead (currents desk.owner) }
+    ensures problem { result.0.search.problem ≡ course.entry.search.problem }
+    ensures ahead { result.0.coordinator.ahead ≡ course.entry.coordinator.ahead }
+    ensures live { result.1.live ≡ desk.entry.live }
+    ensures jobs { AreSidesOf course.entry.coordinator.ahead (currents result.1.owner) }
+    ensures working { result.0.progress ≡ Progress.Working → (result.0.search.outcome ≡ Ok None) × TakesOn course.entry.search.problem course.entry.search.last result.0.search.last }
+    ensures all { IfOk result.2 (λ back. vec_len back ≡ vec_len seats.entry) }
+    ensures workers { IfOk result.2 (λ back. All (IsWorkerOf live.now) back.items) }
+    ensures idle { IfOk result.2 (λ back. All IsIdle back.items) }
+{
+    let (seats, (course, desk)) = work_beside(
+        rt,
+        live,
+        work,
+        seats,
+        pace.worker_turns,
+        gate,
+        supply,
+        ||
+            requires open_yet { course.search.outcome ≡ Ok None }
+            requires jobs { AreSidesOf course.coordinator.ahead (currents desk.owner) }
+            ensures problem { result.0.search.problem ≡ course.entry.search.problem }
+            ensures ahead { result.0.coordinator.ahead ≡ course.entry.coordinator.ahead }
+            ensures live { result.1.live ≡ desk.entry.live }
+            ensures jobs { AreSidesOf course.entry.coordinator.ahead (currents result.1.owner) }
+            ensures working { result.0.progress ≡ Progress.Working → (result.0.search.outcome ≡ Ok None) × TakesOn course.entry.search.problem course.entry.search.last result.0.search.last }
+        { lead(course, desk, pace.session_nodes, gate) },
+    );
+    (course, desk, seats)
+}
+
+/// One session: at most so many nodes are taken, and workers beside work out children of those that wait.
+pub(crate) fn session<'p, R: Threads + Sync, G: Gate, S: Supply>(
+    rt: &R,
+    alloc: Global,
+    workers: usize,
+    pace: Pace,
+    gate: &G,
+    supply: &S,
+    course: Course<'p>,
+) -> Result<Course<'p>, NoMemory>
+    requires workers { (0 < workers) × (workers ≤ MOST_WORKERS) }
+    requires open_yet { course.search.outcome ≡ Ok None }
+    ensures problem { IfOk result (λ c. c.search.problem ≡ course.entry.search.problem) }
+    ensures working { IfOk result (λ c. c.progress ≡ Progress.Working → (c.search.outcome ≡ Ok None) × TakesOn course.entry.search.problem course.entry.search.last c.search.last) }
+{
+    let mut course = course;
+    let work = SideWork::new(alloc);
+    let Ok((live, owner, seats)) = Live::<SideWork<'p>>::new(alloc, MOST_SLOTS, workers) else {
+        return Err(NoMemory);
+    };
+    let mut desk = Desk::new(&live, &work, owner);
+    course.begin(&mut desk);
+    let (mut course, desk, seats) = side_by_side(
+        rt, &live, &work, seats, course, desk, pace, gate, supply,
+    );
+    let owner = desk.into_owner();
+    let Ok(left) = live.close(alloc, owner, seats?) else {
+        return Err(NoMemory);
+    };
+    course.coordinator.keep_all(left);
+    Ok(course)
+}

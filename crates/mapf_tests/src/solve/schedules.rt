@@ -1,0 +1,228 @@
+//! The same answers where workers are refused memory, leave at once, or are held up.
+
+ghost use Rattle.std.specs.Prelude.{◌<◌, ◌≤◌};
+
+use super::answers::answered;
+use crate::worked::{BAY, CANNOT_PASS, CHANGE, CROSSING, Worked};
+use mapf_board::{AlwaysGrants, Gate, NoGate, Supply};
+use mapf_grid::instance_of;
+use mapf_plan::{Answer, Path};
+use mapf_solve::{Pace, solve_paced, solve_with};
+use mapf_tree::Problem;
+use std::alloc::Global;
+use std::sync::atomic::{AtomicU64, Ordering};
+use std::thread::Threads;
+
+/// Grants no memory.
+struct GrantsNone;
+
+impl Supply for GrantsNone {
+    fn grants(&self, _n: u64) -> bool {
+        false
+    }
+}
+
+/// Grants memory for the jobs of odd numbers.
+struct GrantsOdd;
+
+impl Supply for GrantsOdd {
+    fn grants(&self, n: u64) -> bool {
+        n % 2 == 1
+    }
+}
+
+/// Holds each job up, when it begins and when it ends.
+#[derive(Drop)]
+struct Slow {
+    looks: AtomicU64,
+}
+
+impl Slow {
+    fn hold_up(&self) {
+        for _ in 0..10_000 {
+            self.looks.fetch_add(1, Ordering::SeqCst);
+        }
+    }
+}
+
+impl Gate for Slow {
+    fn enter(&self, _n: u64) {
+        self.hold_up();
+    }
+
+    fn leave(&self, _n: u64) {
+        self.hold_up();
+    }
+}
+
+/// Whether the path has these cells.
+fn has_cells(path: Option<&Path>, cells: &[u32]) -> bool {
+    match path {
+        Some(path) => {
+            path.cells().len() == cells.len()
+                && path
+                    .cells()
+                    .iter()
+                    .zip(cells)
+                    .all(|(cell, number)| cell.number() == *number)
+        }
+        None => false,
+    }
+}
+
+/// Whether it is a plan of this cost and of these two paths.
+fn is_plan(answer: Option<Answer>, cost: u64, first: &[u32], second: &[u32]) -> bool {
+    match answer {
+        Some(Answer::Plan { plan, stated }) => {
+            stated == cost
+                && plan.paths().len() == 2
+                && has_cells(plan.paths().first(), first)
+                && has_cells(plan.paths().last(), second)
+        }
+        _ => false,
+    }
+}
+
+/// What two workers answer who are granted memory by a supply.
+fn supplied<R: Threads + Sync, S: Supply>(
+    rt: &R,
+    alloc: Global,
+    worked: &Worked,
+    bound: u32,
+    supply: &S,
+) -> Option<Answer>
+    requires { bound ≤ 1000000 }
+{
+    let instance = instance_of(alloc, worked.map, worked.scen, worked.agents).ok()?;
+    let problem = Problem::new(alloc, instance, bound).ok()?;
+    solve_with(rt, alloc, &problem, 2, &NoGate, supply).ok()
+}
+
+/// Whether the worked problems of two agents have their answers with this supply.
+fn answers_with<R: Threads + Sync, S: Supply>(rt: &R, alloc: Global, supply: &S) -> bool {
+    is_plan(
+        supplied(rt, alloc, &BAY, 4, supply),
+        4,
+        &[1, 4, 1],
+        &[0, 1, 2],
+    ) && is_plan(
+        supplied(rt, alloc, &CHANGE, 4, supply),
+        4,
+        &[0, 2, 3, 1],
+        &[1, 0],
+    ) && is_plan(
+        supplied(rt, alloc, &CROSSING, 9, supply),
+        5,
+        &[1, 1, 4, 7],
+        &[3, 4, 5],
+    )
+}
+
+#[test]
+fn the_answers_are_the_same_where_no_worker_is_granted_memory(rt: HostRuntime) {
+    assert!(rt; answers_with(&rt, rt.alloc(), &GrantsNone));
+}
+
+#[test]
+fn the_answers_are_the_same_where_odd_jobs_are_granted_memory(rt: HostRuntime) {
+    assert!(rt; answers_with(&rt, rt.alloc(), &GrantsOdd));
+}
+
+/// What so many workers answer at this pace, each of whose jobs is held up.
+fn paced<R: Threads + Sync>(
+    rt: &R,
+    alloc: Global,
+    worked: &Worked,
+    bound: u32,
+    workers: usize,
+    pace: Pace,
+) -> Option<Answer>
+    requires bound { bound ≤ 1000000 }
+    requires workers { (0 < workers) × (workers ≤ 64) }
+    requires turns { pace.worker_turns ≤ 1000000 }
+    requires nodes { (1 ≤ pace.session_nodes) × (pace.session_nodes ≤ 4096) }
+{
+    let gate = Slow {
+        looks: AtomicU64::new(0),
+    };
+    let instance = instance_of(alloc, worked.map, worked.scen, worked.agents).ok()?;
+    let problem = Problem::new(alloc, instance, bound).ok()?;
+    solve_paced(rt, alloc, &problem, workers, pace, &gate, &AlwaysGrants).ok()
+}
+
+/// Whether the worked problems of two agents have their answers at this pace.
+fn answers_at<R: Threads + Sync>(
+    rt: &R,
+    alloc: Global,
+    workers: usize,
+    worker_turns: u64,
+    session_nodes: u64,
+) -> bool
+    requires workers { (0 < workers) × (workers ≤ 64) }
+    requires turns { worker_turns ≤ 1000000 }
+    requires nodes { (1 ≤ session_nodes) × (session_nodes ≤ 4096) }
+{
+    let pace = Pace {
+        worker_turns,
+        session_nodes,
+    };
+    is_plan(
+        paced(rt, alloc, &BAY, 4, workers, pace),
+        4,
+        &[1, 4, 1],
+        &[0, 1, 2],
+    ) && is_plan(
+        paced(rt, alloc, &CHANGE, 4, workers, pace),
+        4,
+        &[0, 2, 3, 1],
+        &[1, 0],
+    ) && matches!(
+        paced(rt, alloc, &CANNOT_PASS, 6, workers, pace),
+        Some(Answer::None { bound: 6 })
+    )
+}
+
+/// Whether they have their answers with workers of no turn and of one, and with sessions of one node and of two.
+fn answers_at_each<R: Threads + Sync>(rt: &R, alloc: Global, workers: usize) -> bool
+    requires { (0 < workers) × (workers ≤ 64) }
+{
+    answers_at(rt, alloc, workers, 0, 1)
+        && answers_at(rt, alloc, workers, 0, 2)
+        && answers_at(rt, alloc, workers, 1, 1)
+        && answers_at(rt, alloc, workers, 1, 2)
+}
+
+#[test]
+fn the_answers_are_the_same_where_workers_leave_at_once(rt: HostRuntime) {
+    assert!(rt; answers_at_each(&rt, rt.alloc(), 1));
+    assert!(rt; answers_at_each(&rt, rt.alloc(), 2));
+    assert!(rt; answers_at_each(&rt, rt.alloc(), 64));
+}
+
+/// Whether each of 200 runs with so many workers answers this text.
+fn answers_each_time<R: Threads + Sync>(
+    rt: &R,
+    alloc: Global,
+    worked: &Worked,
+    bound: u64,
+    workers: u64,
+    text: &[u8],
+) -> bool {
+    (0..200).all(|_run| match answered(rt, alloc, worked, bound, workers) {
+        Ok(bytes) => bytes.as_slice() == text,
+        Err(_) => false,
+    })
+}
+
+#[test]
+fn the_bytes_are_the_same_each_time(rt: HostRuntime) {
+    let alloc = rt.alloc();
+    for workers in [1, 2, 3, 4, 7, 64] {
+        let bay = b"plan 2 4\n1,0 1,1 1,0\n0,0 1,0 2,0\n";
+        let change = b"plan 2 4\n0,0 0,1 1,1 1,0\n1,0 0,0\n";
+        let crossing = b"plan 2 5\n1,0 1,0 1,1 1,2\n0,1 1,1 2,1\n";
+        assert!(rt; answers_each_time(&rt, alloc, &BAY, 4, workers, bay));
+        assert!(rt; answers_each_time(&rt, alloc, &CHANGE, 4, workers, change));
+        assert!(rt; answers_each_time(&rt, alloc, &CROSSING, 9, workers, crossing));
+    }
+}
