@@ -215,7 +215,7 @@ impl<'p> Coordinator<'p> {
         };
         match worked {
             Some(worked) => Some(worked),
-            None => Worked::out(self.alloc, self.ahead.problem(), node, side),
+            None => Worked::alone(self.alloc, self.ahead.problem(), node, side),
         }
     }
 }

@@ -86,7 +86,7 @@ impl<'p> Model for Worked<'p> {
 
 impl<'p> Worked<'p> {
     /// A child of a node, worked out without a gate; none where memory runs out.
-    pub(crate) fn out(
+    pub(crate) fn alone(
         alloc: Global,
         problem: &'p Problem,
         node: &Node,
