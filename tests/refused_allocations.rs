@@ -53,6 +53,7 @@ fn answered<R: Threads + Sync>(rt: &R, alloc: Global, worked: &Worked, workers: 
         agents: 2,
         bound: worked.bound,
         workers,
+        nodes: None,
     };
     match answer(rt, alloc, worked.map, worked.scen, ask, &NoGate) {
         Ok(text) if text.as_slice() == worked.plan => Outcome::Right,

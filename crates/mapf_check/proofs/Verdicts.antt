@@ -182,4 +182,5 @@ module _ (inst : Instance) (plan : List (List ℕ)) where
 -- an answer has one verdict
 pub one_verdict_lem : HasOneVerdict
 one_verdict_lem inst (answer.None bound) v w first second = first ∙ sym second
+one_verdict_lem inst (answer.GaveUp nodes least) v w first second = first ∙ sym second
 one_verdict_lem inst (answer.Plan plan stated) v w first second = one_plan_verdict inst plan stated v w first second

@@ -52,6 +52,7 @@ IsPlanVerdict inst plan stated fault = IsLeast verdict_rank (HasFault inst plan 
 -- the verdict on an answer
 abbrev pub IsVerdict : Instance → Answer → Verdict → Type 0
 IsVerdict inst (answer.None bound) verdict = verdict ≡ NoPlanGiven
+IsVerdict inst (answer.GaveUp nodes least) verdict = verdict ≡ NoPlanGiven
 IsVerdict inst (answer.Plan plan stated) verdict = IsPlanVerdict inst plan stated verdict
 
 -- an answer has no second verdict
@@ -61,11 +62,13 @@ HasOneVerdict = (inst : Instance) (a : Answer) (v w : Verdict) → IsVerdict ins
 -- an answer that is a valid plan of this cost, which is the one stated with it
 abbrev pub IsValidAnswer : Instance → Answer → ℕ → Type 0
 IsValidAnswer inst (answer.None bound) c = ⊥
+IsValidAnswer inst (answer.GaveUp nodes least) c = ⊥
 IsValidAnswer inst (answer.Plan plan stated) c = IsValid inst plan × (plan_cost plan ≡ stated) × (c ≡ stated)
 
 -- an answer without a plan
 abbrev pub IsNoPlan : Answer → Type 0
 IsNoPlan (answer.None bound) = Unit {0}
+IsNoPlan (answer.GaveUp nodes least) = Unit {0}
 IsNoPlan (answer.Plan plan stated) = ⊥
 
 -- no fault ranks before this one, whatever cost is stated

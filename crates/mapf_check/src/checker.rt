@@ -19,7 +19,7 @@ pub fn check(instance: &Instance, answer: &Answer) -> Verdict
 {
     match answer {
         Answer::Plan { plan, stated } => check_plan(instance, plan, *stated),
-        Answer::None { .. } => Verdict::NoPlanGiven,
+        Answer::None { .. } | Answer::GaveUp { .. } => Verdict::NoPlanGiven,
     }
 }
 

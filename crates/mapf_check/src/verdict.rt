@@ -8,7 +8,7 @@ use mapf_plan::Conflict;
 pub enum Verdict {
     /// The plan is valid, and costs what is stated with it.
     Valid { cost: u64 },
-    /// The answer is that there is no plan.
+    /// The answer has no plan: there is none within the bound, or the search gave up.
     NoPlanGiven,
     /// 61: the plan has so many paths, and the instance another number of agents.
     AgentCount { paths: usize },

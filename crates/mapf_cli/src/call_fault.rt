@@ -18,6 +18,8 @@ pub(crate) const FAULT: u8 = 3;
 pub(crate) const NO_MEMORY: u8 = 4;
 /// A file couldn't be opened or read, or the output couldn't be written.
 pub(crate) const DEVICE: u8 = 5;
+/// The search gave up at its limit on nodes.
+pub(crate) const GAVE_UP: u8 = 6;
 
 /// Why the program printed no whole answer.
 #[derive(Clone, Copy, Debug, PartialEq, Eq, Error)]

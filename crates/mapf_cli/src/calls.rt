@@ -2,7 +2,7 @@
 
 ghost use Rattle.std.specs.Prelude.{◌≡◌, ◌<◌, ◌≤◌, IfOk};
 
-use crate::call_fault::{COMMAND_LINE, CallFault, NO_MEMORY, NONE, SHOWN};
+use crate::call_fault::{COMMAND_LINE, CallFault, GAVE_UP, NO_MEMORY, NONE, SHOWN};
 use crate::checks::check_run;
 use crate::command::{Check, Solve, Subcommand, parse};
 use crate::first_byte::FirstByte;
@@ -17,8 +17,8 @@ use std::thread::Threads;
 
 /// Does what the words ask for, the program's name being the first, and answers the program's status.
 ///
-/// `mapf solve` prints a plan (status 0) or `none` (1) on `out`, and `mapf check` one verdict line: valid (0), or not
-/// valid or no plan given (1). Help and the version go to `out` (0). A refusal is one line on
+/// `mapf solve` prints a plan (status 0), `none` (1) or that it gave up (6) on `out`, and `mapf check` one verdict line:
+/// valid (0), or not valid or no plan given (1). Help and the version go to `out` (0). A refusal is one line on
 /// `err`: of the command line, whose text is `clap`'s (2), of bytes and numbers (3), out of memory (4), a file that
 /// couldn't be opened or read, or an output that couldn't be written (5). Faults of `err` itself are ignored.
 pub fn call<R: Files + Threads + Sync, O: Sink, E: Sink>(
@@ -30,7 +30,7 @@ pub fn call<R: Files + Threads + Sync, O: Sink, E: Sink>(
 ) -> u8
     requires out { O.failures out.old < u64.MAX }
     requires err { E.failures err.old < u64.MAX }
-    ensures { result ≤ 5 }
+    ensures { result ≤ 6 }
 {
     let done = match parse(alloc, words.as_slice()) {
         Ok(Some(Subcommand::Solve(solve))) => solve_files(rt, alloc, &solve, out),
@@ -74,7 +74,7 @@ fn solve_files<R: Files + Threads + Sync, O: Sink>(
     out: &mut O,
 ) -> Result<u8, CallFault>
     requires { O.failures out.old < u64.MAX }
-    ensures { IfOk result (λ status. status ≤ 5) }
+    ensures { IfOk result (λ status. status ≤ 6) }
 {
     let mut map = open(rt, solve.map, FileName::Map)?;
     let mut scen = open(rt, solve.scen, FileName::Scenario)?;
@@ -85,6 +85,7 @@ fn solve_files<R: Files + Threads + Sync, O: Sink>(
     run(rt, alloc, &mut map, &mut scen, &mut text, solve.ask)?;
     match text.first {
         Some(b'p') => Ok(SHOWN),
+        Some(b'g') => Ok(GAVE_UP),
         _ => Ok(NONE),
     }
 }

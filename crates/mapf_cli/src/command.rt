@@ -58,6 +58,7 @@ fn solve_of<'a>(matches: &ArgMatches<'a>) -> Option<Solve<'a>> {
             agents: matches.get_one::<u64>("agents")?,
             bound: matches.get_one::<u64>("bound")?,
             workers: matches.get_one::<u64>("workers")?,
+            nodes: matches.get_one::<u64>("nodes"),
         },
     })
 }
@@ -91,7 +92,13 @@ fn solve_command<'a>(alloc: Global) -> Result<Command<'a>, AllocError> {
         alloc,
         "workers",
         "How many workers may work at once, 1 to 64",
-    ))
+    ))?
+    .arg(number(
+        alloc,
+        "nodes",
+        "How many nodes the search may take before it gives up, 1 to 1000000; no limit without it",
+    )
+    .required(false))
 }
 
 fn check_command<'a>(alloc: Global) -> Result<Command<'a>, AllocError> {

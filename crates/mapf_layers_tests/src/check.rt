@@ -65,8 +65,10 @@ fn valid_where_one_agent_makes_way(rt: HostRuntime) -> Result<(), Fail> {
 #[test]
 fn no_plan_is_no_fault(rt: HostRuntime) -> Result<(), Fail> {
     let instance = two_agents(rt.alloc())?;
-    let answer = Answer::None { bound: 4 };
-    assert_eq!(rt; check(&instance, &answer), Verdict::NoPlanGiven);
+    let none = Answer::None { bound: 4 };
+    assert_eq!(rt; check(&instance, &none), Verdict::NoPlanGiven);
+    let gave_up = Answer::GaveUp { nodes: 1, least: 3 };
+    assert_eq!(rt; check(&instance, &gave_up), Verdict::NoPlanGiven);
     Ok(())
 }
 

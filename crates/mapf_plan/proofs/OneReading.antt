@@ -6,7 +6,7 @@ use Rattle.std.proofs.lemmas.List.Elements.{All-append}
 use Rattle.mapf_grid.specs.Grid.{Grid, HasSizes}
 use Rattle.mapf_plan.specs.Text.{line, text, CanWrite}
 use Rattle.mapf_plan.specs.ReadText as read
-use Rattle.mapf_plan.specs.ReadText.{IsPathLine, IsPlanHead, IsNoneHead, IsFirstLine, IsTextOf, HasTextFault, IsTextFault, ReadsLines, AreLinesOf}
+use Rattle.mapf_plan.specs.ReadText.{IsPathLine, IsPlanHead, IsGaveUpHead, IsWholeHead, IsFirstLine, IsTextOf, HasTextFault, IsTextFault, ReadsLines, AreLinesOf}
 use Rattle.mapf_plan.specs.declared.answer.Answer.{Answer}
 use Rattle.mapf_plan.specs.declared.answer.Answer.TheVariants as answer
 use Rattle.mapf_plan.specs.declared.text.fault.TextFault.{TextFault}
@@ -17,7 +17,7 @@ use Rattle.mapf_plan.proofs.Lines.{lines_spelled, ReadsLines-start}
 use Rattle.mapf_plan.proofs.TextFaults.{asks_by_head, no_fault}
 use Rattle.mapf_plan.proofs.OneText.{AreSized, AreInside, text_is_one}
 use Rattle.mapf_grid.specs.Instance.{most_agents}
-use Rattle.mapf_plan.specs.Plan.{most_stated, most_bound}
+use Rattle.mapf_plan.specs.Plan.{most_stated, most_bound, most_nodes}
 
 -- bytes each of which is another
 Lacks-each : (byte : ℕ) (bytes : List ℕ) → AllByRecursion (λ b. eqb b byte ≡ false) bytes → Lacks byte bytes
@@ -69,6 +69,28 @@ none_first_line g bound within = (
       (Lacks-decimal 10 bound (omega arith) (omega arith)),
 )
 
+-- the one line of the text where a search gave up
+gave_up_head : (nodes least : ℕ) → List ℕ
+gave_up_head nodes least = codes "gave up " ++ (decimal nodes ++ 32 ∷ decimal least)
+
+gave_up_head_is : (nodes least : ℕ) → 0 < nodes → nodes ≤ most_nodes → least ≤ most_bound → IsGaveUpHead (gave_up_head nodes least) nodes least
+unfolding gave_up_head
+gave_up_head_is nodes least some few within = (decimal nodes ++ 32 ∷ decimal least, refl, (some, few, within, refl))
+
+gave_up_first_line : (g : Grid) (nodes least : ℕ) → nodes ≤ most_nodes → least ≤ most_bound → IsFirstLine (text g (answer.GaveUp nodes least)) (gave_up_head nodes least) []
+unfolding gave_up_head
+gave_up_first_line g nodes least few within = (
+  simp append_assoc,
+  All-append (λ b. eqb b 10 ≡ false) (codes "gave up ") (decimal nodes ++ 32 ∷ decimal least)
+      (Lacks-each 10 (codes "gave up ") (refl, (refl, (refl, (refl, (refl, (refl, (refl, (refl, tt)))))))))
+      (Lacks-around 10 32 (decimal nodes) (decimal least) (omega arith) (Lacks-decimal 10 nodes (omega arith) (omega arith)) (Lacks-decimal 10 least (omega arith) (omega arith))),
+)
+
+-- a text of one line has no fault
+whole_has_no_fault : (g : Grid) (bytes head : List ℕ) → IsFirstLine bytes head [] → IsWholeHead head → (f : TextFault) → ¬ HasTextFault g bytes f
+whole_has_no_fault g bytes head first is =
+    no_fault g bytes head [] [] 0 [] first (asks_by_head bytes head [] 0 first (inr (is, refl))) (ReadsLines-start g []) (omega arith) refl refl
+
 -- the text of an answer has no fault
 text_has_no_fault : (g : Grid) (a : Answer) → HasSizes g → read.IsWithinLimits a → CanWrite g a → (f : TextFault) → ¬ HasTextFault g (text g a) f
 text_has_no_fault g (answer.Plan plan cost) sizes sized can =
@@ -79,10 +101,10 @@ text_has_no_fault g (answer.Plan plan cost) sizes sized can =
     no_fault g (text g (answer.Plan plan cost)) head (flat_map (line g) plan) [] (length plan) plan first asks
     (ReadsLines-written g sizes plan sized.2 can.1) (omega arith) refl refl
 text_has_no_fault g (answer.None bound) sizes sized can =
-    let head = codes "none " ++ decimal bound in
-    let first = none_first_line g bound can in
-    let asks = asks_by_head (text g (answer.None bound)) head [] 0 first (inr (bound, (can, refl), refl)) in
-    no_fault g (text g (answer.None bound)) head [] [] 0 [] first asks (ReadsLines-start g []) (omega arith) refl refl
+    whole_has_no_fault g (text g (answer.None bound)) (codes "none " ++ decimal bound) (none_first_line g bound can) (inl (bound, (can, refl)))
+text_has_no_fault g (answer.GaveUp nodes least) sizes sized can =
+    whole_has_no_fault g (text g (answer.GaveUp nodes least)) (gave_up_head nodes least) (gave_up_first_line g nodes least can.1 can.2)
+    (inr ((nodes, least), gave_up_head_is nodes least can.0 can.1 can.2))
 
 -- the head and the lines that were read are the text of a plan
 pub plan_is_read : (g : Grid) (bytes head rest : List ℕ) (agents cost : ℕ) (plan : List (List ℕ)) → IsFirstLine bytes head rest → IsPlanHead head agents cost
@@ -95,6 +117,15 @@ plan_is_read g bytes head rest agents cost plan first is as_many lines =
       spelled = first.0 ∙ ap (λ l. l ++ 10 ∷ rest) (is.1 ∙ ap (λ l. codes "plan " ++ l) is.2.3) ∙ regrouped
           ∙ ap (λ n. codes "plan " ++ (decimal n ++ 32 ∷ (decimal cost ++ 10 ∷ rest))) (sym as_many)
           ∙ ap (λ l. codes "plan " ++ (decimal (length plan) ++ 32 ∷ (decimal cost ++ 10 ∷ l))) lines.spelled;
+    }
+
+-- the head alone is the text of a search that gave up
+pub gave_up_is_read : (g : Grid) (bytes head : List ℕ) (nodes least : ℕ) → IsFirstLine bytes head [] → IsGaveUpHead head nodes least → IsTextOf g bytes (answer.GaveUp nodes least)
+gave_up_is_read g bytes head nodes least first is =
+    let regrouped : (codes "gave up " ++ (decimal nodes ++ 32 ∷ decimal least)) ++ 10 ∷ [] ≡ text g (answer.GaveUp nodes least) = simp append_assoc in record {
+      sizes = tt;
+      writable = (is.2.0, is.2.1, is.2.2);
+      spelled = first.0 ∙ ap (λ l. l ++ 10 ∷ []) (is.1 ∙ ap (λ l. codes "gave up " ++ l) is.2.3) ∙ regrouped;
     }
 
 -- what was read is the answer

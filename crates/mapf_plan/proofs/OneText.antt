@@ -62,6 +62,22 @@ answer_is_one g (answer.Plan plan stated) (answer.None bound) xs ys sizes a_size
     let byte : ◌≡◌ {A = ℕ} 112 110 = ap (λ l. get_or l 0 0) same in absurd (omega arith)
 answer_is_one g (answer.None bound) (answer.Plan plan stated) xs ys sizes a_sizes a_can b_sizes b_can same =
     let byte : ◌≡◌ {A = ℕ} 110 112 = ap (λ l. get_or l 0 0) same in absurd (omega arith)
+answer_is_one g (answer.Plan plan stated) (answer.GaveUp nodes least) xs ys sizes a_sizes a_can b_sizes b_can same =
+    let byte : ◌≡◌ {A = ℕ} 112 103 = ap (λ l. get_or l 0 0) same in absurd (omega arith)
+answer_is_one g (answer.None bound) (answer.GaveUp nodes least) xs ys sizes a_sizes a_can b_sizes b_can same =
+    let byte : ◌≡◌ {A = ℕ} 110 103 = ap (λ l. get_or l 0 0) same in absurd (omega arith)
+answer_is_one g (answer.GaveUp nodes least) (answer.Plan plan stated) xs ys sizes a_sizes a_can b_sizes b_can same =
+    let byte : ◌≡◌ {A = ℕ} 103 112 = ap (λ l. get_or l 0 0) same in absurd (omega arith)
+answer_is_one g (answer.GaveUp nodes least) (answer.None bound) xs ys sizes a_sizes a_can b_sizes b_can same =
+    let byte : ◌≡◌ {A = ℕ} 103 110 = ap (λ l. get_or l 0 0) same in absurd (omega arith)
+answer_is_one g (answer.GaveUp nodes least) (answer.GaveUp others cost) xs ys sizes a_sizes a_can b_sizes b_can same =
+    let left : text g (answer.GaveUp nodes least) ++ xs ≡ codes "gave up " ++ (decimal nodes ++ 32 ∷ (decimal least ++ 10 ∷ xs)) = simp append_assoc in
+    let right : text g (answer.GaveUp others cost) ++ ys ≡ codes "gave up " ++ (decimal others ++ 32 ∷ (decimal cost ++ 10 ∷ ys)) = simp append_assoc in
+    let behind = append_cancel_left (codes "gave up ") _ _ (sym left ∙ same ∙ right) in
+    let counts = number_is_one 32 nodes others _ _ (omega arith) (omega (arith, a_can.1)) (omega (arith, b_can.1)) behind in
+    let first : nodes ≡ others = counts.0 in
+    let second : least ≡ cost = (number_is_one 10 least cost xs ys (omega arith) (omega (arith, a_can.2)) (omega (arith, b_can.2)) counts.1).0 in
+    cc
 answer_is_one g (answer.None bound) (answer.None other) xs ys sizes a_sizes a_can b_sizes b_can same =
     let left : text g (answer.None bound) ++ xs ≡ codes "none " ++ (decimal bound ++ 10 ∷ xs) = simp append_assoc in
     let right : text g (answer.None other) ++ ys ≡ codes "none " ++ (decimal other ++ 10 ∷ ys) = simp append_assoc in

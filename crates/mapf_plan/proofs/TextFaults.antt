@@ -6,7 +6,7 @@ use Rattle.std.proofs.lemmas.Fmt.{decimal_injective}
 use Rattle.mapf_grid.specs.Grid.{Grid}
 use Rattle.mapf_grid.specs.Least.{Precedes, NoneBefore}
 use Rattle.mapf_grid.proofs.Firsts.{before_place, none_before-there}
-use Rattle.mapf_plan.specs.ReadText.{AsksFor, text_fault_rank, HasTextFault, IsTextFault, IsFirstLine, IsFullLine, IsPlanHead, IsNoneHead, ArePlanNumbers, IsLine, IsPathLine, IsFirstOutside, IsLineFault, ReadsLines, HasLinesFault, pieces, full_lines}
+use Rattle.mapf_plan.specs.ReadText.{AsksFor, text_fault_rank, HasTextFault, IsTextFault, IsFirstLine, IsFullLine, IsPlanHead, IsWholeHead, IsHeadOf, ArePlanNumbers, IsLine, IsPathLine, IsFirstOutside, IsLineFault, ReadsLines, HasLinesFault, pieces, full_lines}
 use Rattle.mapf_plan.specs.Head.{IsHead}
 use Rattle.mapf_plan.specs.declared.text.fault.TextFault.{TextFault}
 use Rattle.mapf_plan.specs.declared.text.fault.TextFault.TheVariants as fault
@@ -36,12 +36,17 @@ pub asks_by_first : (bytes line rest : List ℕ) (n : ℕ) → IsFirstLine bytes
 asks_by_first bytes line rest n first asks =
     let same : Some line ≡ Some asks.0 = ap (λ k. slice_get k 0) (sym (full_lines-first bytes line rest first)) ∙ asks.1.1 in cc
 
+-- a line that is no head is followed by no lines
+is_no_head_of : (line : List ℕ) (n : ℕ) → ((first : Head) → ¬ IsHead line first) → ¬ IsHeadOf n line
+is_no_head_of line n none (inl plan) = none (head.Plan n plan.0) plan.1
+is_no_head_of line n none (inr (inl no_plan, no_line)) = none (head.None no_plan.0) no_plan.1
+is_no_head_of line n none (inr (inr gave_up, no_line)) = none (head.GaveUp gave_up.0.0 gave_up.0.1) gave_up.1
+
 -- a first line that is no head asks for nothing
 pub no_head_asks : (bytes line rest : List ℕ) → IsFirstLine bytes line rest → ((first : Head) → ¬ IsHead line first) → ¬ ((n : ℕ) × AsksFor bytes n)
 no_head_asks bytes line rest first none = λ asks.
     let same = asks_by_first bytes line rest asks.0 first asks.1 in
-    let P : List ℕ → Type 0 = λ l. ((cost : ℕ) × IsPlanHead l asks.0 cost) ⊎ ((bound : ℕ) × IsNoneHead l bound × (asks.0 ≡ 0)) in
-    elim (subst P same asks.1.2) [ inl plan ↦ none (head.Plan asks.0 plan.0) plan.1 | inr no_plan ↦ none (head.None no_plan.0) no_plan.1 ]
+    is_no_head_of line asks.0 none (subst (IsHeadOf asks.0) same asks.1.2)
 
 -- the number of agents that the first line tells is one
 asks_of_plans : (numbers : List ℕ) (n c m d : ℕ) → ArePlanNumbers numbers (n, c) → ArePlanNumbers numbers (m, d) → m ≡ n
@@ -50,24 +55,25 @@ asks_of_plans numbers n c m d is other =
     (Lacks-decimal 32 n (omega (arith, is.1)) (omega arith)) (sym other.3 ∙ is.3) in
     decimal_injective m n (omega (arith, other.1)) (omega (arith, is.1)) cut.0
 
-heads_differ : (line numbers bound : List ℕ) → line ≡ codes "plan " ++ numbers → line ≡ codes "none " ++ bound → ⊥
-heads_differ line numbers bound plan none =
-    let byte : ◌≡◌ {A = ℕ} 112 110 = ap (λ l. get_or l 0 0) (sym plan ∙ none) in absurd (omega arith)
+-- the head of a plan is no head without lines
+heads_differ : (line numbers : List ℕ) → line ≡ codes "plan " ++ numbers → ¬ IsWholeHead line
+heads_differ line numbers plan (inl none) =
+    let byte : ◌≡◌ {A = ℕ} 112 110 = ap (λ l. get_or l 0 0) (sym plan ∙ none.1.1) in absurd (omega arith)
+heads_differ line numbers plan (inr gave_up) =
+    let byte : ◌≡◌ {A = ℕ} 112 103 = ap (λ l. get_or l 0 0) (sym plan ∙ gave_up.1.1) in absurd (omega arith)
 
-asks_agree : (line : List ℕ) (n m : ℕ) → (((cost : ℕ) × IsPlanHead line n cost) ⊎ ((bound : ℕ) × IsNoneHead line bound × (n ≡ 0)))
-    → (((cost : ℕ) × IsPlanHead line m cost) ⊎ ((bound : ℕ) × IsNoneHead line bound × (m ≡ 0))) → m ≡ n
+asks_agree : (line : List ℕ) (n m : ℕ) → IsHeadOf n line → IsHeadOf m line → m ≡ n
 asks_agree line n m (inl is) (inl other) =
     let numbers : other.1.0 ≡ is.1.0 = append_cancel_left (codes "plan ") other.1.0 is.1.0 (sym other.1.1 ∙ is.1.1) in
     let P : List ℕ → Type 0 = λ l. ArePlanNumbers l (m, other.0) in
     asks_of_plans is.1.0 n is.0 m other.0 is.1.2 (subst P numbers other.1.2)
-asks_agree line n m (inl is) (inr other) = absurd (heads_differ line is.1.0 (decimal other.0) is.1.1 other.1.1)
-asks_agree line n m (inr is) (inl other) = absurd (heads_differ line other.1.0 (decimal is.0) other.1.1 is.1.1)
-asks_agree line n m (inr is) (inr other) = other.2 ∙ sym is.2
+asks_agree line n m (inl is) (inr other) = absurd (heads_differ line is.1.0 is.1.1 other.0)
+asks_agree line n m (inr is) (inl other) = absurd (heads_differ line other.1.0 other.1.1 is.0)
+asks_agree line n m (inr is) (inr other) = other.1 ∙ sym is.1
 
 pub asks_is_one : (bytes line rest : List ℕ) (n m : ℕ) → IsFirstLine bytes line rest → AsksFor bytes n → AsksFor bytes m → m ≡ n
 asks_is_one bytes line rest n m first is other =
-    let P : ℕ → List ℕ → Type 0 = λ k l. ((cost : ℕ) × IsPlanHead l k cost) ⊎ ((bound : ℕ) × IsNoneHead l bound × (k ≡ 0)) in
-    asks_agree line n m (subst (P n) (asks_by_first bytes line rest n first is) is.2) (subst (P m) (asks_by_first bytes line rest m first other) other.2)
+    asks_agree line n m (subst (IsHeadOf n) (asks_by_first bytes line rest n first is) is.2) (subst (IsHeadOf m) (asks_by_first bytes line rest m first other) other.2)
 
 -- the head asks for n lines, and those of some paths are read
 module _ (g : Grid) (bytes line rest behind : List ℕ) (n : ℕ) (paths : List (List ℕ)) (first : IsFirstLine bytes line rest) (asks : AsksFor bytes n)
@@ -211,8 +217,7 @@ lines_fault g bytes line rest n f first asks why = elim why.stuck [
   | inr stuck ↦ inr (subst (IsTextFault g bytes) (sym stuck.2) (bytes_behind g bytes line rest why.rest n why.paths first asks why.read (omega (arith, stuck.0)) stuck.0 stuck.1))
 ]
 
-pub asks_by_head : (bytes line rest : List ℕ) (n : ℕ) → IsFirstLine bytes line rest
-    → (((cost : ℕ) × IsPlanHead line n cost) ⊎ ((bound : ℕ) × IsNoneHead line bound × (n ≡ 0))) → AsksFor bytes n
+pub asks_by_head : (bytes line rest : List ℕ) (n : ℕ) → IsFirstLine bytes line rest → IsHeadOf n line → AsksFor bytes n
 asks_by_head bytes line rest n first is = (line, (omega arith, ap (λ k. slice_get k 0) (full_lines-first bytes line rest first)), is)
 
 -- the fault of a plan's lines
@@ -221,7 +226,7 @@ pub plan_fault : (g : Grid) (bytes line rest : List ℕ) (n cost : ℕ) (f : Tex
 plan_fault g bytes line rest n cost f first is (inl memory) = inl memory
 plan_fault g bytes line rest n cost f first is (inr why) = lines_fault g bytes line rest n f first (asks_by_head bytes line rest n first (inl (cost, is))) why
 
--- bytes behind the line that says that there is no plan
-pub none_fault : (g : Grid) (bytes line rest : List ℕ) (bound : ℕ) → IsFirstLine bytes line rest → IsNoneHead line bound → rest ≢ [] → IsTextFault g bytes (fault.Line 2)
-none_fault g bytes line rest bound first is more =
-    bytes_behind g bytes line rest rest 0 [] first (asks_by_head bytes line rest 0 first (inr (bound, is, refl))) (ReadsLines-start g rest) (omega arith) refl more
+-- bytes behind a line that is a whole text
+pub whole_fault : (g : Grid) (bytes line rest : List ℕ) → IsFirstLine bytes line rest → IsWholeHead line → rest ≢ [] → IsTextFault g bytes (fault.Line 2)
+whole_fault g bytes line rest first is more =
+    bytes_behind g bytes line rest rest 0 [] first (asks_by_head bytes line rest 0 first (inr (is, refl))) (ReadsLines-start g rest) (omega arith) refl more

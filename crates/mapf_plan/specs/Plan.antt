@@ -14,6 +14,10 @@ most_bound = 1000000
 abbrev pub most_stated : ℕ
 most_stated = 1000000000
 
+-- the greatest limit on how many nodes a search takes
+abbrev pub most_nodes : ℕ
+most_nodes = 1000000
+
 abbrev pub path_of : List (List ℕ) → ℕ → List ℕ
 path_of plan i = slice_index_or plan i []
 

@@ -5,7 +5,7 @@ use Rattle.mapf_grid.specs.Grid.{Grid, cells}
 use Rattle.mapf_grid.specs.Instance.{most_agents}
 use Rattle.mapf_grid.specs.Least.{IsLeast}
 use Rattle.mapf_plan.specs.Path.{most_cells}
-use Rattle.mapf_plan.specs.Plan.{most_bound, most_stated}
+use Rattle.mapf_plan.specs.Plan.{most_bound, most_nodes, most_stated}
 use Rattle.mapf_plan.specs.Text.{line, text, CanWrite}
 use Rattle.mapf_plan.specs.declared.answer.Answer.{Answer}
 use Rattle.mapf_plan.specs.declared.answer.Answer.TheVariants as answer
@@ -17,6 +17,7 @@ abbrev pub IsWithinLimits : Answer → Type 0
 IsWithinLimits (answer.Plan plan stated) =
     (0 < length plan) × (length plan ≤ most_agents) × AllByRecursion (λ path. (0 < length path) × (length path ≤ most_cells)) plan
 IsWithinLimits (answer.None bound) = Unit {0}
+IsWithinLimits (answer.GaveUp nodes least) = Unit {0}
 
 -- the bytes are the text of this answer, whose sizes and numbers are within their limits
 pub record IsTextOf (g : Grid) (bytes : List ℕ) (answer : Answer) : Type 0 where
@@ -40,11 +41,19 @@ full_lines bytes = take (length (pieces bytes) - 1) (pieces bytes)
 abbrev pub IsFullLine : List ℕ → ℕ → List ℕ → Type 0
 IsFullLine bytes k line = (0 < k) × (slice_get (full_lines bytes) (k - 1) ≡ Some line)
 
--- the number of agents and the cost, without leading zeros
-abbrev pub ArePlanNumbers : List ℕ → ℕ × ℕ → Type 0
-ArePlanNumbers numbers pair =
-    (0 < pair.0) × (pair.0 ≤ most_agents) × (pair.1 ≤ most_stated)
+-- two numbers without leading zeros, the first of them above 0, each up to its limit
+abbrev pub AreTwoNumbers : (most_first most_second : ℕ) → List ℕ → ℕ × ℕ → Type 0
+AreTwoNumbers most_first most_second numbers pair =
+    (0 < pair.0) × (pair.0 ≤ most_first) × (pair.1 ≤ most_second)
     × (numbers ≡ decimal pair.0 ++ (codes " " ++ decimal pair.1))
+
+-- the number of agents and the cost
+abbrev pub ArePlanNumbers : List ℕ → ℕ × ℕ → Type 0
+ArePlanNumbers = AreTwoNumbers most_agents most_stated
+
+-- how many nodes were taken, and a lower bound on the cost of a plan
+abbrev pub AreGaveUpNumbers : List ℕ → ℕ × ℕ → Type 0
+AreGaveUpNumbers = AreTwoNumbers most_nodes most_bound
 
 -- `plan`, the number of agents and the cost
 abbrev pub IsPlanHead : List ℕ → (agents cost : ℕ) → Type 0
@@ -54,10 +63,22 @@ IsPlanHead line agents cost = (numbers : List ℕ) × (line ≡ codes "plan " ++
 abbrev pub IsNoneHead : List ℕ → (bound : ℕ) → Type 0
 IsNoneHead line bound = (bound ≤ most_bound) × (line ≡ codes "none " ++ decimal bound)
 
+-- `gave up`, how many nodes were taken, and a lower bound on the cost of a plan
+abbrev pub IsGaveUpHead : List ℕ → (nodes least : ℕ) → Type 0
+IsGaveUpHead line nodes least =
+    (numbers : List ℕ) × (line ≡ codes "gave up " ++ numbers) × AreGaveUpNumbers numbers (nodes, least)
+
+-- a head that is followed by no line
+abbrev pub IsWholeHead : List ℕ → Type 0
+IsWholeHead line = ((bound : ℕ) × IsNoneHead line bound) ⊎ ((pair : ℕ × ℕ) × IsGaveUpHead line pair.0 pair.1)
+
+-- a head that is followed by this many lines
+abbrev pub IsHeadOf : ℕ → List ℕ → Type 0
+IsHeadOf n line = ((cost : ℕ) × IsPlanHead line n cost) ⊎ (IsWholeHead line × (n ≡ 0))
+
 -- the first line, with its LF, is a head that is followed by this many lines
 abbrev pub AsksFor : List ℕ → ℕ → Type 0
-AsksFor bytes n = (line : List ℕ) × IsFullLine bytes 1 line
-    × (((cost : ℕ) × IsPlanHead line n cost) ⊎ ((bound : ℕ) × IsNoneHead line bound × (n ≡ 0)))
+AsksFor bytes n = (line : List ℕ) × IsFullLine bytes 1 line × IsHeadOf n line
 
 -- the greatest number of nine digits
 abbrev pub most_coordinate : ℕ

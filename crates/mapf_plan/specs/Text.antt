@@ -2,7 +2,7 @@
 use Rattle.std.specs.Prelude.{ℕ, ◌/◌, ◌%◌, ◌<◌, ◌≤◌, List, ◌++◌, length, map, codes, decimal}
 use Rattle.std.specs.List.{flat_map, join_with_byte, AllByRecursion}
 use Rattle.mapf_grid.specs.Grid.{Grid, cells}
-use Rattle.mapf_plan.specs.Plan.{most_bound, most_stated}
+use Rattle.mapf_plan.specs.Plan.{most_bound, most_nodes, most_stated}
 use Rattle.mapf_plan.specs.declared.answer.Answer.{Answer}
 use Rattle.mapf_plan.specs.declared.answer.Answer.TheVariants as answer
 
@@ -14,13 +14,16 @@ position g c = decimal (c % g.width) ++ (codes "," ++ decimal (c / g.width))
 abbrev pub line : Grid → List ℕ → List ℕ
 line g path = join_with_byte 32 (map (position g) path) ++ codes "\n"
 
--- `plan`, the number of agents, the cost, and a line for each agent; or `none` and the bound
+-- `plan`, the number of agents, the cost, and a line for each agent; or `none` and the bound; or `gave up`, how many nodes
+-- were taken, and a lower bound on the cost of a plan
 abbrev pub text : Grid → Answer → List ℕ
 text g (answer.Plan plan stated) =
     codes "plan " ++ (decimal (length plan) ++ (codes " " ++ (decimal stated ++ (codes "\n" ++ flat_map (line g) plan))))
 text g (answer.None bound) = codes "none " ++ (decimal bound ++ codes "\n")
+text g (answer.GaveUp nodes least) = codes "gave up " ++ (decimal nodes ++ (codes " " ++ (decimal least ++ codes "\n")))
 
 -- every position is a cell of the map, and the numbers are within their limits
 abbrev pub CanWrite : Grid → Answer → Type 0
 CanWrite g (answer.Plan plan stated) = (stated ≤ most_stated) × AllByRecursion (AllByRecursion (λ c. c < cells g)) plan
 CanWrite g (answer.None bound) = bound ≤ most_bound
+CanWrite g (answer.GaveUp nodes least) = (0 < nodes) × (nodes ≤ most_nodes) × (least ≤ most_bound)

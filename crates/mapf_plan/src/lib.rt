@@ -12,7 +12,7 @@ mod plan;
 mod text;
 
 pub use agent_paths::AgentPaths;
-pub use answer::{Answer, MOST_BOUND, MOST_STATED};
+pub use answer::{Answer, MOST_BOUND, MOST_NODES, MOST_STATED};
 pub use conflict::Conflict;
 pub use device::{
     Counted, DeviceFault, FileName, ReadFault, Sink, Source, WriteFailed, read_file, read_whole,

@@ -1,16 +1,15 @@
 -- What the text that a run leaves says of other plans and of other numbers of workers.
-use Rattle.std.proofs.Common.{◌≡◌, ℕ, List, Option, Some, None, Result, Ok, Err, refl, sym, subst}
+use Rattle.std.proofs.Common.{◌≡◌, ℕ, List, Option, Some, None, Result, Ok, Err, sym, subst}
 use Rattle.std.specs.Result.{IsErrAnd}
 use Rattle.mapf_plan.specs.Files.{IsWriteFaultOf}
 use Rattle.mapf_plan.specs.declared.device.fault.DeviceFault.{DeviceFault}
 use Rattle.mapf_plan.specs.declared.device.fault.DeviceFault.TheVariants as device
 use Rattle.mapf_plan.proofs.WhatIsLeft.{Leaves-more}
-use Rattle.mapf_tree.specs.Answered.{stated}
-use Rattle.mapf_solve.specs.Out.{problem_of, IsText, IsBest}
-use Rattle.mapf_solve.specs.Run.{of_device, OfFiles, end_of, LeavesText, LeavesBest, LeavesOnly}
+use Rattle.mapf_solve.specs.Out.{IsText}
+use Rattle.mapf_solve.specs.Run.{of_device, OfFiles, end_of, LeavesText, LeavesBest, LeavesLimit, LeavesOnly}
 use Rattle.mapf_solve.specs.declared.ask.Ask.{Ask}
 use Rattle.mapf_solve.specs.declared.run_fault.RunFault.{RunFault}
-use Rattle.mapf_solve.proofs.Answering.{answer_is_best}
+use Rattle.mapf_solve.proofs.Answering.{text_is_best, text_keeps_limit}
 use Rattle.mapf_solve.proofs.OneOut.{one_out}
 
 -- a fact of both files follows from another
@@ -19,14 +18,15 @@ of_files None scen P Q f h = tt
 of_files (Some m) None P Q f h = tt
 of_files (Some m) (Some s) P Q f h = f m s h
 
--- the text of the tree's first solution is that of an optimum
-text_is_best : (map scen : List ℕ) (ask : Ask) (bytes : List ℕ) → IsText map scen ask bytes → IsBest map scen ask bytes
-text_is_best map scen ask bytes h = answer_is_best map scen ask h.inst (stated (problem_of h.inst ask) h.plan) bytes h.asked (h.plan, h.answer, refl) h.spelled
+-- what is left without a limit is best
+pub best_is_left : (map scen : Option (List ℕ)) (ask : Ask) (old new : Option (List ℕ)) (result : Result (Unit {0}) RunFault) → ask.nodes ≡ None → LeavesText map scen ask old new result → LeavesBest map scen ask old new result
+best_is_left map scen ask old new result e h =
+    Leaves-more _ _ _ _ (λ v t. of_files map scen _ _ (λ m s. text_is_best m s ask t e)) (λ r k. tt) old new (end_of result) h
 
--- so what is left is best
-pub best_is_left : (map scen : Option (List ℕ)) (ask : Ask) (old new : Option (List ℕ)) (result : Result (Unit {0}) RunFault) → LeavesText map scen ask old new result → LeavesBest map scen ask old new result
-best_is_left map scen ask old new result h =
-    Leaves-more _ _ _ _ (λ v t. of_files map scen _ _ (λ m s. text_is_best m s ask t)) (λ r k. tt) old new (end_of result) h
+-- and with a limit it is the same text, or that the search gave up
+pub limit_is_left : (map scen : Option (List ℕ)) (ask : Ask) (n : ℕ) (old new : Option (List ℕ)) (result : Result (Unit {0}) RunFault) → ask.nodes ≡ Some n → LeavesText map scen ask old new result → LeavesLimit map scen ask n old new result
+limit_is_left map scen ask n old new result e h =
+    Leaves-more _ _ _ _ (λ v t. of_files map scen _ _ (λ m s. text_keeps_limit m s ask n t e)) (λ r k. tt) old new (end_of result) h
 
 -- and the only one
 pub only_is_left : (map scen : Option (List ℕ)) (ask : Ask) (old new : Option (List ℕ)) (result : Result (Unit {0}) RunFault) → LeavesText map scen ask old new result → LeavesOnly map scen ask old new result

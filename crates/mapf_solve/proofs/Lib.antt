@@ -1,5 +1,6 @@
 pub mod Answering
 pub mod OneOut
+mod WithoutLimit
 mod Leaving
 mod WorkedAhead
 mod WaitingNodes

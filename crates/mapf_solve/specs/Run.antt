@@ -4,7 +4,7 @@ use Rattle.mapf_plan.specs.Files.{File, End, Written, Broken, Refused, Leaves}
 use Rattle.mapf_plan.specs.declared.device.fault.DeviceFault.{DeviceFault}
 use Rattle.mapf_plan.specs.declared.device.fault.DeviceFault.TheVariants as device
 use Rattle.mapf_plan.specs.declared.device.fault.FileName.TheVariants as file
-use Rattle.mapf_solve.specs.Out.{IsText, IsRefusal, IsBest, IsOnlyOut, IsWorkers}
+use Rattle.mapf_solve.specs.Out.{IsText, IsRefusal, IsBest, KeepsLimit, IsOnlyOut, IsWorkers}
 use Rattle.mapf_solve.specs.declared.ask.Ask.{Ask}
 use Rattle.mapf_solve.specs.declared.refusal.Refusal.{Refusal}
 use Rattle.mapf_solve.specs.declared.refusal.Refusal.TheVariants as refusal
@@ -42,6 +42,11 @@ LeavesText map scen ask old new result =
 abbrev pub LeavesBest : (map scen : Option (List ℕ)) → Ask → (old new : Option (List ℕ)) → Result (Unit {0}) RunFault → Type 0
 LeavesBest map scen ask old new result =
     Leaves (λ done text. OfFiles map scen (λ m s. IsBest m s ask text)) (λ named. Unit {0}) old new (end_of result)
+
+-- with a limit of n nodes it is the same text, or that the search gave up
+abbrev pub LeavesLimit : (map scen : Option (List ℕ)) → Ask → ℕ → (old new : Option (List ℕ)) → Result (Unit {0}) RunFault → Type 0
+LeavesLimit map scen ask n old new result =
+    Leaves (λ done text. OfFiles map scen (λ m s. KeepsLimit m s ask n text)) (λ named. Unit {0}) old new (end_of result)
 
 -- with any number of workers from 1 to 64 there is no other text and no other refusal
 abbrev pub LeavesOnly : (map scen : Option (List ℕ)) → Ask → (old new : Option (List ℕ)) → Result (Unit {0}) RunFault → Type 0

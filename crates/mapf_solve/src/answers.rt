@@ -1,17 +1,18 @@
 //! The answer, from the bytes of two files to the bytes of the text.
 
-ghost use Rattle.std.specs.Prelude.{◌≡◌, ◌≢◌, ◌≤◌, IfOk, IfErr, Ok, Err};
+ghost use Rattle.std.specs.Prelude.{◌≡◌, ◌≢◌, ℕ, ◌≤◌, ◌↔◌, IfOk, IfErr, IsTrue, Some, None, Ok, Err};
 ghost use Rattle.mapf_plan.specs.Plan.{most_bound};
 ghost use Rattle.mapf_plan.specs.Text.{text};
+ghost use Rattle.mapf_tree.specs.Problem.{IsLimit};
 ghost use Rattle.mapf_tree.specs.Answered.{IsAnswerOf};
-ghost use Rattle.mapf_solve.specs.Out.{IsOut, IsBest, IsOnlyOut, IsWorkers};
+ghost use Rattle.mapf_solve.specs.Out.{IsOut, IsBest, KeepsLimit, IsOnlyOut, IsWorkers};
 
 use crate::rounds::tables;
 use crate::solving::solve_from;
 use crate::{Ask, Pace, Refusal};
 use mapf_board::{AlwaysGrants, Gate, MOST_WORKERS};
 use mapf_grid::{NoMemory, instance_of};
-use mapf_plan::{Answer, MOST_BOUND, write};
+use mapf_plan::{Answer, MOST_BOUND, MOST_NODES, write};
 use mapf_tree::Problem;
 use std::alloc::Global;
 use std::thread::Threads;
@@ -20,8 +21,9 @@ use std::thread::Threads;
 ///
 /// The text is that of the one answer of conflict-based search: a plan without conflict that costs least of all such
 /// plans, or `none` exactly if no plan without conflict costs at most the bound. It is the same for each number of
-/// workers. Faults come in the order bound, workers, map, scenario, instance; `NoMemory` may come in place of
-/// anything.
+/// workers. With a limit on nodes the text is the same, or that the search gave up, with a lower bound on the cost of
+/// every plan without conflict. Faults come in the order bound, workers, nodes, map, scenario, instance; `NoMemory` may
+/// come in place of anything.
 pub fn answer<R: Threads + Sync, G: Gate>(
     rt: &R,
     alloc: Global,
@@ -35,7 +37,11 @@ pub fn answer<R: Threads + Sync, G: Gate>(
     ensures fault { IfErr result (λ fault. fault ≢ Refusal.NoMemory → IsOut map.now scen.now ask (Err fault)) }
 
     // No plan without conflict costs less; `none` exactly if none costs at most the bound.
-    ensures best { IfOk result (λ bytes. IsBest map.now scen.now ask bytes.items) }
+    ensures best { IfOk result (λ bytes. ask.nodes ≡ None → IsBest map.now scen.now ask bytes.items) }
+
+    // With a limit of n nodes the bytes are the same, unless the tree has a node at place n that is in the cut or is the first
+    // solution: exactly then they are `gave up`, with a cost that each plan without conflict has at least.
+    ensures limit { IfOk result (λ bytes. (n : ℕ) → ask.nodes ≡ Some n → KeepsLimit map.now scen.now ask n bytes.items) }
 
     // The same bytes, or the same fault, with any number of workers.
     ensures same { IfOk result (λ bytes. IsOnlyOut map.now scen.now ask (Ok bytes.items)) }
@@ -44,7 +50,7 @@ pub fn answer<R: Threads + Sync, G: Gate>(
     text_or_fault(rt, alloc, map, scen, ask, gate)
 }
 
-/// The same, where nothing is said of other numbers of workers.
+/// The same, where nothing is said of other plans and other numbers of workers.
 fn text_or_fault<R: Threads + Sync, G: Gate>(
     rt: &R,
     alloc: Global,
@@ -55,7 +61,6 @@ fn text_or_fault<R: Threads + Sync, G: Gate>(
 ) -> Result<Vec<u8>, Refusal>
     ensures text { IfOk result (λ bytes. IsOut map.now scen.now ask (Ok bytes.items)) }
     ensures fault { IfErr result (λ fault. fault ≢ Refusal.NoMemory → IsOut map.now scen.now ask (Err fault)) }
-    ensures best { IfOk result (λ bytes. IsBest map.now scen.now ask bytes.items) }
 {
     if ask.bound > MOST_BOUND {
         return Err(Refusal::Bound);
@@ -63,11 +68,14 @@ fn text_or_fault<R: Threads + Sync, G: Gate>(
     if ask.workers < 1 || ask.workers > MOST_WORKERS as u64 {
         return Err(Refusal::Workers);
     }
+    if !is_limit(ask.nodes) {
+        return Err(Refusal::Nodes);
+    }
     let instance = instance_of(alloc, map, scen, ask.agents)?;
     let goals = instance.agents() as u64;
     let workers = ask.workers as usize;
     let tables = tables(rt, alloc, &instance, workers, gate, &AlwaysGrants)?;
-    let problem = Problem::with(instance, tables, ask.bound as u32);
+    let problem = limited(Problem::with(instance, tables, ask.bound as u32), ask.nodes);
     let answer = solve_from(
         rt,
         alloc,
@@ -81,9 +89,32 @@ fn text_or_fault<R: Threads + Sync, G: Gate>(
     Ok(spell(alloc, &problem, &answer)?)
 }
 
+/// Whether a search may be limited so: not at all, or to 1 to 1,000,000 nodes.
+fn is_limit(nodes: Option<u64>) -> bool
+    ensures { IsTrue result ↔ IsLimit nodes }
+{
+    match nodes {
+        Some(nodes) => 1 <= nodes && nodes <= MOST_NODES,
+        None => true,
+    }
+}
+
+/// The problem with this limit on nodes, if it is one.
+fn limited(problem: Problem, nodes: Option<u64>) -> Problem
+    requires fresh { problem.nodes ≡ None }
+    requires limit { IsLimit nodes }
+    ensures { result ≡ record { inst = problem.inst; bound = problem.bound; nodes = nodes } }
+{
+    match nodes {
+        Some(nodes) => problem.with_nodes(nodes),
+        None => problem,
+    }
+}
+
 /// The text of a problem's answer.
 fn spell(alloc: Global, problem: &Problem, answer: &Answer) -> Result<Vec<u8>, NoMemory>
     requires bound { problem.now.bound ≤ most_bound }
+    requires limit { IsLimit problem.now.nodes }
     requires answer { IsAnswerOf problem.now answer.now }
     ensures { IfOk result (λ bytes. bytes.items ≡ text problem.now.inst.grid answer.now) }
 {

@@ -7,4 +7,6 @@ pub struct Ask {
     pub bound: u64,
     /// How many workers may work at once: 1 to 64.
     pub workers: u64,
+    /// How many nodes a search may take before it gives up: 1 to 1,000,000; none where there is no limit.
+    pub nodes: Option<u64>,
 }

@@ -10,6 +10,9 @@ pub enum Refusal {
     /// The number of workers isn't 1 to 64.
     #[error("42 workers")]
     Workers,
+    /// The limit on nodes isn't 1 to 1,000,000.
+    #[error("44 nodes")]
+    Nodes,
     /// The first bytes are no map file.
     #[error(transparent)]
     Map(MapFault),

@@ -1,9 +1,9 @@
 //! A run from two readers to a writer.
 
-ghost use Rattle.std.specs.Prelude.{◌≢◌, ◌<◌, IfErr};
+ghost use Rattle.std.specs.Prelude.{◌≡◌, ◌≢◌, ℕ, ◌<◌, IfErr, Some, None};
 ghost use Rattle.mapf_plan.specs.Device.{Counts};
 ghost use Rattle.mapf_plan.specs.Files.{is_read_failure, is_write_failure, AreWithin};
-ghost use Rattle.mapf_solve.specs.Run.{end_of, files, LeavesText, LeavesBest, LeavesOnly};
+ghost use Rattle.mapf_solve.specs.Run.{end_of, files, LeavesText, LeavesBest, LeavesLimit, LeavesOnly};
 
 use crate::{Ask, RunFault, answer};
 use mapf_board::NoGate;
@@ -39,7 +39,11 @@ pub fn run<R: Threads + Sync, M: Source, S: Source, O: Sink>(
 
     // It is the text of a plan without conflict that costs least of all such plans, or `none` exactly if none costs at most the
     // bound.
-    ensures best { LeavesBest (M.remaining map.old) (S.remaining scen.old) ask (O.contents out.old) (O.contents out.new) result }
+    ensures best { ask.nodes ≡ None → LeavesBest (M.remaining map.old) (S.remaining scen.old) ask (O.contents out.old) (O.contents out.new) result }
+
+    // With a limit of n nodes the bytes are the same, unless the tree has a node at place n that is in the cut or is the first
+    // solution: exactly then they are `gave up`, with a cost that each plan without conflict has at least.
+    ensures limit { (n : ℕ) → ask.nodes ≡ Some n → LeavesLimit (M.remaining map.old) (S.remaining scen.old) ask n (O.contents out.old) (O.contents out.new) result }
 
     // With any number of workers from 1 to 64 the same text, or the same refusal.
     ensures same { LeavesOnly (M.remaining map.old) (S.remaining scen.old) ask (O.contents out.old) (O.contents out.new) result }

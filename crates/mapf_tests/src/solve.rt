@@ -3,5 +3,6 @@ mod changed_bytes;
 mod devices;
 mod gates;
 mod limits;
+mod node_limits;
 mod refusals;
 mod schedules;

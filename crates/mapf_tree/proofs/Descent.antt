@@ -62,7 +62,7 @@ module _ (problem : Problem) (other : List (List ℕ)) (valid : IsValid problem.
           (obeys_one_side problem node plan other w.0 (grown_all problem node inside).agents has.agents w.1.member valid obeys)
 
   -- a valid plan within the bound has a solution that costs no more, since every plan obeys the root
-  cheaper_solution : (found : PlannedNode) × IsSolution problem found × (plan_cost found.1 ≤ plan_cost other)
+  pub cheaper_solution : (found : PlannedNode) × IsSolution problem found × (plan_cost found.1 ≤ plan_cost other)
   cheaper_solution =
       let w = obeyed_is_in_cost problem (root_of problem) other valid within free in
       descend (most problem + 1) (root_of problem) w.0 (root w.1) w.1 w.2 free (omega arith)

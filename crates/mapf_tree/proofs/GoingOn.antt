@@ -8,10 +8,11 @@ use Rattle.mapf_tree.specs.declared.progress.Progress.{Progress}
 use Rattle.mapf_tree.specs.declared.progress.Progress.TheVariants.{Working, Finished}
 use Rattle.mapf_tree.specs.Problem.{Problem}
 use Rattle.mapf_tree.specs.Tree.{PlannedNode, IsMember}
-use Rattle.mapf_tree.specs.Search.{IsReached, Searched, IsSearch, IsLawful, TakesBetween, answer_of}
-use Rattle.mapf_tree.specs.Answered.{IsAnswerOf, IsBestAnswer}
+use Rattle.mapf_tree.specs.Search.{IsReached, Searched, IsSearch, IsLawful, IsEnded, TakesBetween, answer_of}
+use Rattle.mapf_tree.specs.Answered.{IsStated, IsAnswerUpTo, IsAnswerOf, IsBestAnswer}
 use Rattle.mapf_tree.specs.Turns.{TakesOne, IsStep}
 use Rattle.mapf_tree.proofs.Descent.{answer_is_optimum, none_is_none}
+use Rattle.mapf_tree.proofs.Limits.{cut_is_below}
 
 -- a search that has taken n nodes above a key, and has no answer yet
 pub record GoesOn (p : Problem) (from : Option (List ℕ)) (now : Searched) (n : ℕ) : Type 0 where
@@ -31,21 +32,26 @@ goes_first s h e =
     record { same = refl; going = e; search = h; further = λ m i r. r; took = takes_none s.problem s.last }
 
 -- one node more
-took_more : (p : Problem) (from : Option (List ℕ)) (now new : Searched) (n : ℕ) → GoesOn p from now n → TakesOne p now.last new.last → TakesBetween p from new.last (n + 1)
-took_more p from now new n g one =
-    (one.0 ∷ g.took.0, (fresh, g.took.1), omega (arith, g.took.2), λ m. ((λ c. ⊎_elim (last m) (early m) (here_or_there g.took.0 c)), (λ k. back m k)))
+pub takes_more : (p : Problem) (from now new : Option (List ℕ)) (n : ℕ) → ((m : PlannedNode) → IsMember p m → IsReached from m → IsReached now m)
+    → TakesBetween p from now n → TakesOne p now new → TakesBetween p from new (n + 1)
+takes_more p from now new n further took one =
+    (one.0 ∷ took.0, (fresh, took.1), omega (arith, took.2), λ m. ((λ c. ⊎_elim (last m) (early m) (here_or_there took.0 c)), (λ k. back m k)))
   where
-    fresh : ¬ Contains g.took.0 one.0
-    fresh c = one.2 ((g.took.3 one.0).0 c).1
+    fresh : ¬ Contains took.0 one.0
+    fresh c = one.2 ((took.3 one.0).0 c).1
 
-    last : (m : PlannedNode) → one.0 ≡ m → IsMember p m × IsReached new.last m × ¬ IsReached from m
-    last m e = subst (λ y. IsMember p y × IsReached new.last y × ¬ IsReached from y) e (one.1, (one.3 one.0 one.1).1 (inr refl), λ r. one.2 (g.further one.0 one.1 r))
+    last : (m : PlannedNode) → one.0 ≡ m → IsMember p m × IsReached new m × ¬ IsReached from m
+    last m e = subst (λ y. IsMember p y × IsReached new y × ¬ IsReached from y) e (one.1, (one.3 one.0 one.1).1 (inr refl), λ r. one.2 (further one.0 one.1 r))
 
-    early : (m : PlannedNode) → Contains g.took.0 m → IsMember p m × IsReached new.last m × ¬ IsReached from m
-    early m i = let k = (g.took.3 m).0 i in (k.0, (one.3 m k.0).1 (inl k.1), k.2)
+    early : (m : PlannedNode) → Contains took.0 m → IsMember p m × IsReached new m × ¬ IsReached from m
+    early m i = let k = (took.3 m).0 i in (k.0, (one.3 m k.0).1 (inl k.1), k.2)
 
-    back : (m : PlannedNode) → IsMember p m × IsReached new.last m × ¬ IsReached from m → Contains (one.0 ∷ g.took.0) m
-    back m k = ⊎_elim (λ r. there g.took.0 ((g.took.3 m).1 (k.0, r, k.2))) (λ e. here g.took.0 (sym e)) ((one.3 m k.0).0 k.1)
+    back : (m : PlannedNode) → IsMember p m × IsReached new m × ¬ IsReached from m → Contains (one.0 ∷ took.0) m
+    back m k = ⊎_elim (λ r. there took.0 ((took.3 m).1 (k.0, r, k.2))) (λ e. here took.0 (sym e)) ((one.3 m k.0).0 k.1)
+
+-- one node more after those of a search that goes on
+took_more : (p : Problem) (from : Option (List ℕ)) (now new : Searched) (n : ℕ) → GoesOn p from now n → TakesOne p now.last new.last → TakesBetween p from new.last (n + 1)
+took_more p from now new n g one = takes_more p from now.last new.last n g.further g.took one
 
 -- and one more with each step
 pub goes_more : (p : Problem) (from : Option (List ℕ)) (now new : Searched) (n : ℕ) → GoesOn p from now n → new.problem ≡ now.problem → IsSearch new → IsStep now new (Ok Working) → GoesOn p from new (n + 1)
@@ -73,10 +79,23 @@ taken_at_end p from now new n turns g h e (inr one) =
 pub answer_is_right : (s : Searched) (given : Answer) → IsSearch s → s.outcome ≡ Ok (Some given) → IsAnswerOf s.problem given
 answer_is_right s given h e = let k = subst (λ o. IsLawful s.problem s.waiting s.last o) e h in k.1
 
+-- and so is what is said of the nodes that it took and of those that wait
+pub ended : (s : Searched) (given : Answer) → IsSearch s → s.outcome ≡ Ok (Some given) → IsEnded s.problem s.waiting s.last given
+ended s given h e = let k = subst (λ o. IsLawful s.problem s.waiting s.last o) e h in k.2
+
 -- what is stated of the answer is best
+best_stated : (problem : Problem) (given : Answer) → IsStated problem given → IsBestAnswer problem given
+best_stated problem given (Some plan, is, e) = subst (λ a. IsBestAnswer problem a) (sym e) (answer_is_optimum problem plan is, refl)
+best_stated problem given (None, is, e) = subst (λ a. IsBestAnswer problem a) (sym e) (refl, (none_is_none problem).0 is)
+
+-- and so is what is given up at the limit on nodes
 pub best_answer : (problem : Problem) (given : Answer) → IsAnswerOf problem given → IsBestAnswer problem given
-best_answer problem given (Some plan, is, e) = subst (λ a. IsBestAnswer problem a) (sym e) (answer_is_optimum problem plan is, refl)
-best_answer problem given (None, is, e) = subst (λ a. IsBestAnswer problem a) (sym e) (refl, (none_is_none problem).0 is)
+best_answer problem given is = go problem.nodes refl is
+  where
+    go : (o : Option ℕ) → problem.nodes ≡ o → IsAnswerUpTo o problem given → IsBestAnswer problem given
+    go None e is = best_stated problem given is
+    go (Some n) e (inl (m, cut, said)) = subst (λ a. IsBestAnswer problem a) (sym said) (e, cut_is_below problem n m cut)
+    go (Some n) e (inr (never, is)) = best_stated problem given is
 
 -- a search's answer, where it has one
 answer_out : (s : Searched) (outcome : Result (Option Answer) NoMemory) (refused : NoMemory) → IsLawful s.problem s.waiting s.last outcome → IfOk (ok_or (answer_of outcome) refused) (IsAnswerOf s.problem)

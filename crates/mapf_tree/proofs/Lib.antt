@@ -11,6 +11,7 @@ pub mod Finite
 pub mod Solutions
 pub mod SearchLaws
 pub mod TakenNodes
+pub mod Limits
 pub mod Keyed
 pub mod Examples
 pub mod Tables

@@ -52,7 +52,7 @@ module _ (problem : Problem) where
   dec_reached (Some l) m = dec_not (dec_precedes l (key m))
 
   -- what isn't reached is at or below one that waits, whose key is at most its own
-  waits_above : (last : Option (List ℕ)) (p : TreeNode) (plan : List (List ℕ)) → InTree problem p → HasPlan problem p plan → ¬ IsReached last (p, plan) → (w : PlannedNode) × IsWaiting problem last w × (¬ Precedes (key (p, plan)) (key w))
+  pub waits_above : (last : Option (List ℕ)) (p : TreeNode) (plan : List (List ℕ)) → InTree problem p → HasPlan problem p plan → ¬ IsReached last (p, plan) → (w : PlannedNode) × IsWaiting problem last w × (¬ Precedes (key (p, plan)) (key w))
   waits_above last _ plan (root h) has n =
       ((root_of problem, plan), record { member = record { inside = root h; plan = has }; open_yet = n; from = inl refl }, irreflexive (key (root_of problem, plan)))
   waits_above last _ plan (side {node = p} {plan = a} {c = c} s i h f k) has n = go (waits_above last p a i h) (dec_reached last (p, a))
@@ -78,13 +78,13 @@ module _ (problem : Problem) where
     x_waits = (at.waits x).0 least.member
 
     -- nothing in the tree lies between
-    none_between : (m : PlannedNode) → IsMember problem m → ¬ IsReached last m → ¬ Precedes (key m) (key x)
+    pub none_between : (m : PlannedNode) → IsMember problem m → ¬ IsReached last m → ¬ Precedes (key m) (key x)
     none_between m h n l =
         let w = waits_above last m.0 m.1 h.inside h.plan n in
         least.least w.0 ((at.waits w.0).1 w.1) (le_before (key w.0) (key m) (key x) w.2 l)
 
     -- what was reached before is at most x
-    still : (last : Option (List ℕ)) → ¬ IsReached last x → (m : PlannedNode) → IsReached last m → ¬ Precedes (key x) (key m)
+    pub still : (last : Option (List ℕ)) → ¬ IsReached last x → (m : PlannedNode) → IsReached last m → ¬ Precedes (key x) (key m)
     still None n m r l = r
     still (Some k) n m r l = n (λ h. r (transitive k (key x) (key m) h l))
 

@@ -1,14 +1,13 @@
 -- How many nodes a search can take.
 use Rattle.std.proofs.Common.{List, [], ◌∷◌, length}
 use Rattle.std.proofs.lemmas.List.Elements.{All-from_recursion, All-contains}
-use Rattle.mapf_tree.specs.Tree.{PlannedNode, IsMember}
-use Rattle.mapf_tree.specs.Search.{EachOnce}
+use Rattle.mapf_tree.specs.Tree.{PlannedNode, IsMember, EachOnce}
 use Rattle.mapf_tree.specs.Turns.{TakenAreBounded}
 use Rattle.mapf_tree.proofs.Distinct.{Distinct, distinct_le}
 use Rattle.mapf_tree.proofs.Finite.{members}
 
 -- what stands once is distinct
-distinct : (ms : List PlannedNode) → EachOnce ms → Distinct ms
+pub distinct : (ms : List PlannedNode) → EachOnce ms → Distinct ms
 distinct [] once = tt
 distinct (m ∷ ms) once = (once.0, distinct ms once.1)
 

@@ -1,7 +1,8 @@
 -- One turn of a search over nodes.
-use Rattle.std.proofs.Common.{◌≡◌, ◌⊎◌, ℕ, List, [], ◌∷◌, Bool, true, false, Option, Some, None, is_some, IsSome, not, Result, Ok, inl, inr, subst, sym, refl, ap, ◌∙◌, ⊎_elim, Contains}
+use Rattle.std.proofs.Common.{◌≡◌, ◌⊎◌, ℕ, ◌+◌, ◌<◌, List, [], ◌∷◌, Bool, true, false, Option, Some, None, is_some, IsSome, not, Result, Ok, inl, inr, subst, sym, refl, ap, ◌∙◌, ⊎_elim, arith, Contains}
 use Rattle.mapf_grid.specs.declared.fault.NoMemory.{NoMemory}
-use Rattle.mapf_plan.specs.Plan.{plan_cost, HasNoConflict}
+use Rattle.mapf_grid.specs.Least.{IsLeast}
+use Rattle.mapf_plan.specs.Plan.{plan_cost, most_nodes, HasNoConflict}
 use Rattle.mapf_plan.specs.declared.conflict.Conflict.{Conflict}
 use Rattle.mapf_tree.specs.declared.key.Key.{Key}
 use Rattle.mapf_tree.specs.declared.side.Side.TheVariants.{Left, Right}
@@ -11,13 +12,15 @@ use Rattle.mapf_tree.specs.Family.{IsRoot, IsBranching, IsChildOf}
 use Rattle.mapf_tree.specs.OpenList.{IsRising, IsPutIfSome}
 use Rattle.mapf_plan.specs.declared.answer.Answer.{Answer}
 use Rattle.mapf_plan.specs.declared.answer.Answer.TheVariants as answer
-use Rattle.mapf_tree.specs.Problem.{Problem}
-use Rattle.mapf_tree.specs.Search.{IsReached, IsWaiting, IsTakenTo, NoneSolves, IsLawful}
-use Rattle.mapf_tree.specs.Turns.{IsSearchAt, IsTurnOf, IsTurned, TakesOne}
+use Rattle.mapf_tree.specs.Problem.{Problem, IsLimit}
+use Rattle.mapf_tree.specs.Search.{IsReached, IsWaiting, IsTakenTo, NoneSolves, IsLawful, IsCounted, TakesBetween}
+use Rattle.mapf_tree.specs.Turns.{IsSearchAt, IsTurnOf, IsTurned, IsGivenUp, GoesUpTo, TakesOne}
 use Rattle.mapf_tree.specs.Nodes.{Node, node_key, AllStand, HasNodeFor}
 use Rattle.mapf_grid.proofs.Members.{nowhere, here}
 use Rattle.mapf_tree.proofs.SearchLaws.{reached_now, reached_then, next_waits, ends_at_first, ends_at_none, starts}
-use Rattle.mapf_tree.proofs.OpenNodes.{key-stands, none_stands, conflict_stands, solved_turn, branched_turn, root_node, put_node_adds, AddsSide}
+use Rattle.mapf_tree.proofs.Limits.{is_cut, solved_before, empty_before, as_stated, as_given_up}
+use Rattle.mapf_tree.proofs.GoingOn.{takes_none, takes_more}
+use Rattle.mapf_tree.proofs.OpenNodes.{first_is_least, key-stands, none_stands, conflict_stands, solved_turn, branched_turn, root_node, put_node_adds, AddsSide}
 
 module _ (p : Problem) (last : Option (List ℕ)) (old : List Node) (taken : IsTakenTo p last old) (none : NoneSolves p last) where
   -- the search over the nodes that wait
@@ -114,6 +117,24 @@ branched_case p old rest mid new first k l r e rising all c left right put put' 
 going : (p : Problem) (old : List Node) (last : Option (List ℕ)) (outcome : Result (Option Answer) NoMemory) → IsLawful p old last outcome → outcome ≡ Ok None → IsTakenTo p last old × NoneSolves p last
 going p old last outcome h e = let k = subst (λ o. IsLawful p old last o) e h in k
 
+-- a node waits, so one more may be taken
+one_more : (p : Problem) (old new : List Node) (x : PlannedNode) (k n : ℕ) → GoesUpTo p old k → p.nodes ≡ Some n → IsTurnOf p old new x → k < n
+one_more p old new x k n up e turn =
+    ⊎_elim (λ less. less) (λ none. absurd (nowhere (subst (λ ns. Contains ns turn.least.member.0) none turn.least.member.1))) (up n e)
+
+-- the count at first
+pub counted_first : (p : Problem) (outcome : Result (Option Answer) NoMemory) → IsCounted p None 0 outcome
+counted_first p outcome = λ e n limit. (takes_none p None, omega arith)
+
+-- the count after a turn that branched
+pub counted_more : (p : Problem) (old new : List Node) (last : Option (List ℕ)) (outcome : Result (Option Answer) NoMemory) (k more : ℕ) (key : Key) → IsCounted p last k outcome → GoesUpTo p old k
+    → IsTurned p old new (variant.Branched key) → TakesOne p last (Some (key_rank key)) → (k < most_nodes → more ≡ k + 1) → IsLimit p.nodes → IsCounted p (Some (key_rank key)) more outcome
+counted_more p old new last outcome k more key counted up t one is few = λ e n limit.
+    let before = counted e n limit in
+    let less = one_more p old new t.0 k n up limit t.1 in
+    let same : more ≡ k + 1 = is (omega (arith, less, (subst IsLimit limit few).1)) in
+    (subst (TakesBetween p None (Some (key_rank key))) (sym same) (takes_more p None last (Some (key_rank key)) k (λ m h r. absurd r) before.0 one), omega (arith, same, less))
+
 -- it goes on after a turn that branched
 pub branched_lawful : (p : Problem) (old new : List Node) (last : Option (List ℕ)) (outcome : Result (Option Answer) NoMemory) (k : Key) → IsLawful p old last outcome → outcome ≡ Ok None → IsTurned p old new (variant.Branched k) → IsLawful p new (Some (key_rank k)) outcome × TakesOne p last (Some (key_rank k))
 branched_lawful p old new last outcome k h e t =
@@ -124,8 +145,9 @@ branched_lawful p old new last outcome k h e t =
     (subst (λ o. IsLawful p new (Some (key_rank k)) o) (sym e) (subst (λ r. IsTakenTo p (Some r) new × NoneSolves p (Some r)) (sym t.3) (to, none)), subst (λ r. TakesOne p last (Some r)) (sym t.3) one)
 
 -- it has the answer after a turn that took a solution
-pub solved_lawful : (p : Problem) (old new : List Node) (last : Option (List ℕ)) (outcome : Result (Option Answer) NoMemory) (k : Key) (plan : List (List ℕ)) → IsLawful p old last outcome → outcome ≡ Ok None → IsTurned p old new (variant.Solved k plan) → IsLawful p new (Some (key_rank k)) (Ok (Some (answer.Plan plan k.cost))) × TakesOne p last (Some (key_rank k))
-solved_lawful p old new last outcome k plan h e t =
+pub solved_lawful : (p : Problem) (old new : List Node) (last : Option (List ℕ)) (outcome : Result (Option Answer) NoMemory) (taken : ℕ) (k : Key) (plan : List (List ℕ)) → IsLawful p old last outcome → outcome ≡ Ok None
+    → IsCounted p last taken outcome → GoesUpTo p old taken → IsTurned p old new (variant.Solved k plan) → IsLawful p new (Some (key_rank k)) (Ok (Some (answer.Plan plan k.cost))) × TakesOne p last (Some (key_rank k))
+solved_lawful p old new last outcome taken k plan h e counted up t =
     let s = going p old last outcome h e in
     let to = taken_to p last old s.0 s.1 new t.0 t.1 in
     let is = solves p last old s.0 s.1 new t.0 t.1 t.2 in
@@ -133,14 +155,39 @@ solved_lawful p old new last outcome k plan h e t =
     let stated : answer.Plan plan k.cost ≡ answer.Plan t.0.1 (plan_cost t.0.1) = ap (λ n. answer.Plan plan n) t.5 ∙ ap (λ q. answer.Plan q (plan_cost q)) t.4 in (
       (
         subst (λ r. IsTakenTo p (Some r) new) (sym t.3) to,
-        (Some plan, subst (λ q. IsAnswer p (Some q)) (sym t.4) is, ap (λ n. answer.Plan plan n) t.5),
-        inr (t.0, is_member p last old s.0 s.1 new t.0 t.1, t.2, ap Some t.3, stated),
+        as_stated p (answer.Plan plan k.cost)
+            (λ n limit. solved_before p last (HasNodeFor p old) (at p last old s.0 s.1) t.0 t.1.least n taken (counted e n limit).0 (one_more p old new t.0 taken n up limit t.1) t.2)
+            (Some plan, subst (λ q. IsAnswer p (Some q)) (sym t.4) is, ap (λ n. answer.Plan plan n) t.5),
+        inr (inl (t.0, is_member p last old s.0 s.1 new t.0 t.1, t.2, ap Some t.3, stated)),
       ),
       subst (λ r. TakesOne p last (Some r)) (sym t.3) one,
     )
 
 -- and after a turn that found nothing
-pub empty_lawful : (p : Problem) (old new : List Node) (last : Option (List ℕ)) (outcome : Result (Option Answer) NoMemory) → IsLawful p old last outcome → outcome ≡ Ok None → IsTurned p old new variant.Empty → IsLawful p new last (Ok (Some (answer.None p.bound)))
-empty_lawful p old new last outcome h e t =
-    let s = going p old last outcome h e in
-    (subst (λ ns. IsTakenTo p last ns) (t.0 ∙ sym t.1) s.0, (None, none_left p last old s.0 s.1 t.0, refl), inl (t.1, refl))
+pub empty_lawful : (p : Problem) (old new : List Node) (last : Option (List ℕ)) (outcome : Result (Option Answer) NoMemory) (taken : ℕ) → IsLawful p old last outcome → outcome ≡ Ok None → IsCounted p last taken outcome
+    → IsTurned p old new variant.Empty → IsLawful p new last (Ok (Some (answer.None p.bound)))
+empty_lawful p old new last outcome taken h e counted t =
+    let s = going p old last outcome h e in (
+      subst (λ ns. IsTakenTo p last ns) (t.0 ∙ sym t.1) s.0,
+      as_stated p (answer.None p.bound)
+          (λ n limit. let count = counted e n limit in
+          empty_before p last (HasNodeFor p old) (at p last old s.0 s.1) (λ x has. nowhere (subst (λ ns. Contains ns has.0) t.0 has.1)) n taken count.0 count.1)
+          (None, none_left p last old s.0 s.1 t.0, refl),
+      inl (t.1, refl),
+    )
+
+-- and where it gives up
+pub given_up_lawful : (p : Problem) (waiting : List Node) (last : Option (List ℕ)) (outcome : Result (Option Answer) NoMemory) (taken : ℕ) (given : Answer) → IsLawful p waiting last outcome → outcome ≡ Ok None
+    → IsCounted p last taken outcome → IsGivenUp p waiting taken given → IsLawful p waiting last (Ok (Some given))
+given_up_lawful p waiting last outcome taken given h e counted up =
+    let s = going p waiting last outcome h e in
+    let x = s.0.stand up.first (subst (λ ns. Contains ns up.first) (sym up.waits) (here up.rest refl)) in
+    let least = subst (λ ns. IsLeast key (HasNodeFor p ns) x.0) (sym up.waits) (first_is_least p up.first up.rest x.0 (subst IsRising up.waits up.rising) x.1) in
+    let count = counted e up.nodes up.limit in
+    let all : taken ≡ up.nodes = omega (arith, count.1, up.all) in
+    let took = subst (TakesBetween p None last) all count.0 in
+    let said : given ≡ answer.GaveUp up.nodes (plan_cost x.0.1) = up.states ∙ ap (λ plan. answer.GaveUp up.nodes (plan_cost plan)) x.1.plan in (
+      s.0,
+      as_given_up p up.nodes x.0 given up.limit (is_cut p last (HasNodeFor p waiting) (at p last waiting s.0 s.1) x.0 least up.nodes took) said,
+      inr (inr (up.nodes, up.limit, took, (x.0, least, said))),
+    )

@@ -2,6 +2,7 @@
 -- is complete and optimal, and ends under a bound on the cost).
 use Rattle.std.specs.Prelude.{◌≡◌, ◌≢◌, ℕ, ◌<◌, ◌≤◌, ◌+◌, ◌*◌, ◌⊎◌, ◌↔◌, List, [], ◌∷◌, length, Option, Some, None, Contains}
 use Rattle.mapf_grid.specs.Grid.{Grid, IsFree, Next}
+use Rattle.mapf_plan.specs.declared.answer.Answer.{Answer}
 use Rattle.mapf_plan.specs.declared.conflict.Conflict.{Conflict}
 use Rattle.mapf_plan.specs.Path.{cost}
 use Rattle.mapf_plan.specs.Plan.{IsConflict, IsFirstConflict, IsValid, IsOptimum, plan_cost, path_of}
@@ -12,6 +13,7 @@ use Rattle.mapf_tree.specs.declared.side.Side.TheVariants.{Left, Right}
 use Rattle.mapf_tree.specs.Problem.{Problem}
 use Rattle.mapf_tree.specs.Tree.{TreeNode, HasPlan, InTree, IsAllowedFor, IsOwnPathOf, IsAnswer, side_of, constraints_of, constraint_on, agent_on}
 use Rattle.mapf_tree.specs.Family.{Leaves}
+use Rattle.mapf_tree.specs.Answered.{IsAnswerOf}
 
 -- each agent's path obeys the constraints of that agent
 abbrev pub ObeysNode : Problem → TreeNode → List (List ℕ) → Type 0
@@ -73,6 +75,10 @@ AnswerExists = (problem : Problem) → (answer : Option (List (List ℕ))) × Is
 -- a problem has one answer at most
 abbrev pub AnswerIsUnique : Type 0
 AnswerIsUnique = (problem : Problem) (a b : Option (List (List ℕ))) → IsAnswer problem a → IsAnswer problem b → a ≡ b
+
+-- nor has it two as they are stated, with a limit on nodes or without
+abbrev pub StatedIsUnique : Type 0
+StatedIsUnique = (problem : Problem) (a b : Answer) → IsAnswerOf problem a → IsAnswerOf problem b → a ≡ b
 
 -- the answer's plan is valid, and no valid plan costs less
 abbrev pub AnswerIsOptimum : Type 0

@@ -1,5 +1,6 @@
 pub mod Problem
 pub mod Tree
+pub mod Cut
 pub mod Answered
 pub mod Nodes
 pub mod Family

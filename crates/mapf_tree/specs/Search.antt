@@ -1,14 +1,14 @@
 -- A search: which nodes of the tree it took, and which wait (the high level of Sharon et al. 2015, best first).
-use Rattle.std.specs.Prelude.{◌≡◌, ◌⊎◌, ◌↔◌, ℕ, List, [], ◌∷◌, length, Option, Some, None, IfSome, Result, Ok, Err, Contains}
+use Rattle.std.specs.Prelude.{◌≡◌, ◌⊎◌, ◌↔◌, ◌≤◌, ℕ, List, [], length, Option, Some, None, IfSome, Result, Ok, Err, Contains}
 use Rattle.mapf_grid.specs.declared.fault.NoMemory.{NoMemory}
-use Rattle.mapf_grid.specs.Least.{Precedes}
+use Rattle.mapf_grid.specs.Least.{Precedes, IsLeast}
 use Rattle.mapf_plan.specs.declared.conflict.Conflict.{Conflict}
 use Rattle.mapf_plan.specs.Plan.{plan_cost, IsFirstConflict, HasNoConflict}
 use Rattle.mapf_plan.specs.declared.answer.Answer.{Answer}
 use Rattle.mapf_plan.specs.declared.answer.Answer.TheVariants as answer
 use Rattle.mapf_tree.specs.declared.side.Side.{Side}
 use Rattle.mapf_tree.specs.Problem.{Problem}
-use Rattle.mapf_tree.specs.Tree.{PlannedNode, IsMember, side_of, root_of, key}
+use Rattle.mapf_tree.specs.Tree.{PlannedNode, IsMember, EachOnce, side_of, root_of, key}
 use Rattle.mapf_tree.specs.Answered.{IsAnswerOf}
 use Rattle.mapf_tree.specs.Nodes.{Node, AllStand, HasNodeFor}
 
@@ -42,20 +42,38 @@ pub record IsTakenTo (problem : Problem) (last : Option (List ℕ)) (nodes : Lis
   pub stand : AllStand problem nodes
   pub waits : (m : PlannedNode) → HasNodeFor problem nodes m ↔ IsWaiting problem last m
 
+-- exactly n nodes of the tree have keys above the one and up to the other
+abbrev pub TakesBetween : Problem → Option (List ℕ) → Option (List ℕ) → ℕ → Type 0
+TakesBetween problem from to n =
+    (taken : List PlannedNode) × EachOnce taken × (length taken ≡ n)
+    × ((m : PlannedNode) → Contains taken m ↔ (IsMember problem m × IsReached to m × ¬ IsReached from m))
+
 -- the last node that was taken is a solution, and its plan is the answer
 abbrev pub IsSolvedBy : Problem → Option (List ℕ) → Answer → Type 0
 IsSolvedBy problem last given =
     (x : PlannedNode) × IsMember problem x × HasNoConflict x.1 × (last ≡ Some (key x)) × (given ≡ answer.Plan x.1 (plan_cost x.1))
 
--- a search has its answer from the last node that it took, or because nothing waits
+-- as many nodes are taken as may be, and a node waits: the least cost of those that wait is stated
+abbrev pub HasGivenUp : Problem → List Node → Option (List ℕ) → Answer → Type 0
+HasGivenUp problem nodes last given =
+    (n : ℕ) × (problem.nodes ≡ Some n) × TakesBetween problem None last n
+    × ((x : PlannedNode) × IsLeast key (HasNodeFor problem nodes) x × (given ≡ answer.GaveUp n (plan_cost x.1)))
+
+-- a search has its answer from the last node that it took, because nothing waits, or because it may take no more
 abbrev pub IsEnded : Problem → List Node → Option (List ℕ) → Answer → Type 0
-IsEnded problem nodes last given = ((nodes ≡ []) × (given ≡ answer.None problem.bound)) ⊎ IsSolvedBy problem last given
+IsEnded problem nodes last given =
+    ((nodes ≡ []) × (given ≡ answer.None problem.bound)) ⊎ (IsSolvedBy problem last given ⊎ HasGivenUp problem nodes last given)
 
 -- while there is no answer yet, no taken node is a solution; an answer is the right one, and nothing was taken after it; after memory ran out nothing is said
 abbrev pub IsLawful : Problem → List Node → Option (List ℕ) → Result (Option Answer) NoMemory → Type 0
 IsLawful problem nodes last (Ok None) = IsTakenTo problem last nodes × NoneSolves problem last
 IsLawful problem nodes last (Ok (Some given)) = IsTakenTo problem last nodes × IsAnswerOf problem given × IsEnded problem nodes last given
 IsLawful problem nodes last (Err _) = Unit {0}
+
+-- a search without an answer yet has taken so many nodes, and no more than it may
+abbrev pub IsCounted : Problem → Option (List ℕ) → ℕ → Result (Option Answer) NoMemory → Type 0
+IsCounted problem last taken outcome =
+    outcome ≡ Ok None → (n : ℕ) → problem.nodes ≡ Some n → TakesBetween problem None last taken × (taken ≤ n)
 
 -- the problem, the nodes that wait, the key of the last taken node, and what came of it: an answer, none yet, or out of memory
 pub record Searched : Type 0 where
@@ -66,17 +84,6 @@ pub record Searched : Type 0 where
 
 abbrev pub IsSearch : Searched → Type 0
 IsSearch s = IsLawful s.problem s.waiting s.last s.outcome
-
--- each once
-abbrev pub EachOnce : List PlannedNode → Type 0
-EachOnce [] = Unit {0}
-EachOnce (m ∷ ms) = (¬ Contains ms m) × EachOnce ms
-
--- exactly n nodes of the tree have keys above the one and up to the other
-abbrev pub TakesBetween : Problem → Option (List ℕ) → Option (List ℕ) → ℕ → Type 0
-TakesBetween problem from to n =
-    (taken : List PlannedNode) × EachOnce taken × (length taken ≡ n)
-    × ((m : PlannedNode) → Contains taken m ↔ (IsMember problem m × IsReached to m × ¬ IsReached from m))
 
 -- the answer, where there is one
 abbrev pub answer_of : Result (Option Answer) NoMemory → Option Answer

@@ -1,5 +1,5 @@
 -- The constraint tree, its solutions and the answer (Sharon et al. 2015).
-use Rattle.std.specs.Prelude.{◌≡◌, ℕ, ◌<◌, ◌≤◌, List, [], ◌∷◌, ◌++◌, length, map, replicate, slice_index, slice_index_or, slice_set, Option, Some, None}
+use Rattle.std.specs.Prelude.{◌≡◌, ℕ, ◌<◌, ◌≤◌, List, [], ◌∷◌, ◌++◌, length, map, replicate, slice_index, slice_index_or, slice_set, Option, Some, None, Contains}
 use Rattle.mapf_grid.specs.Least.{IsLeast}
 use Rattle.mapf_plan.specs.declared.conflict.Conflict.{Conflict}
 use Rattle.mapf_plan.specs.declared.conflict.Conflict.TheVariants as conflict
@@ -67,6 +67,11 @@ pub data InTree (problem : Problem) : TreeNode → Type 0 where
 -- a node with its plan
 abbrev pub PlannedNode : Type 0
 PlannedNode = TreeNode × List (List ℕ)
+
+-- each once
+abbrev pub EachOnce : List PlannedNode → Type 0
+EachOnce [] = Unit {0}
+EachOnce (m ∷ ms) = (¬ Contains ms m) × EachOnce ms
 
 -- a node of the tree, with its plan
 pub record IsMember (problem : Problem) (m : PlannedNode) : Type 0 where

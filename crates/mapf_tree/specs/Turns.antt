@@ -1,18 +1,20 @@
 -- What a search does turn by turn: it takes the nodes of the tree in the order of their keys, and ends with the answer.
 use Rattle.std.specs.List.{AllByRecursion}
-use Rattle.std.specs.Prelude.{◌≡◌, ◌≢◌, ◌≤◌, length, [], ℕ, ◌⊎◌, ◌↔◌, List, Option, Some, None, Result, Ok, Err, IsErr, Contains}
+use Rattle.std.specs.Prelude.{◌≡◌, ◌≢◌, ◌<◌, ◌≤◌, length, [], ◌∷◌, ℕ, ◌⊎◌, ◌↔◌, List, Option, Some, None, Result, Ok, Err, IsErr, Contains}
 use Rattle.mapf_grid.specs.declared.fault.NoMemory.{NoMemory}
 use Rattle.mapf_grid.specs.Least.{IsLeast}
 use Rattle.mapf_plan.specs.Plan.{plan_cost, HasNoConflict}
 use Rattle.mapf_plan.specs.declared.answer.Answer.{Answer}
+use Rattle.mapf_plan.specs.declared.answer.Answer.TheVariants as answer
 use Rattle.mapf_tree.specs.declared.progress.Progress.{Progress}
 use Rattle.mapf_tree.specs.declared.progress.Progress.TheVariants.{Working, Finished}
 use Rattle.mapf_tree.specs.declared.turn.Turn.{Turn}
 use Rattle.mapf_tree.specs.declared.turn.Turn.TheVariants as turn
 use Rattle.mapf_tree.specs.Problem.{Problem}
-use Rattle.mapf_tree.specs.Tree.{PlannedNode, IsMember, root_of, key, key_rank, IsFirstSolution, IsAnswer}
+use Rattle.mapf_tree.specs.Tree.{PlannedNode, IsMember, EachOnce, root_of, key, key_rank, IsFirstSolution, IsAnswer}
 use Rattle.mapf_tree.specs.Nodes.{Node, AllStand, HasNodeFor}
-use Rattle.mapf_tree.specs.Search.{Searched, IsReached, IsChild, IsWaiting, NoneSolves, EachOnce}
+use Rattle.mapf_tree.specs.OpenList.{IsRising}
+use Rattle.mapf_tree.specs.Search.{Searched, IsReached, IsChild, IsWaiting, NoneSolves}
 
 -- no solution was reached, and just those wait that are to wait
 pub record IsSearchAt (problem : Problem) (last : Option (List ℕ)) (Waits : PlannedNode → Type 0) : Type 0 where
@@ -62,6 +64,21 @@ IsTurned problem old new turn.Empty = (old ≡ []) × (new ≡ [])
 IsTurned problem old new (turn.Solved k plan) =
     (x : PlannedNode) × IsTurnOf problem old new x × HasNoConflict x.1 × (key_rank k ≡ key x) × (plan ≡ x.1) × (k.cost ≡ plan_cost plan)
 IsTurned problem old new (turn.Branched k) = (x : PlannedNode) × IsTurnOf problem old new x × (¬ HasNoConflict x.1) × (key_rank k ≡ key x)
+
+-- as many nodes are taken as may be, and a node waits: the first one's cost is stated
+pub record IsGivenUp (problem : Problem) (waiting : List Node) (taken : ℕ) (given : Answer) : Type 0 where
+  pub nodes : ℕ
+  pub limit : problem.nodes ≡ Some nodes
+  pub all : nodes ≤ taken
+  pub first : Node
+  pub rest : List Node
+  pub waits : waiting ≡ first ∷ rest
+  pub rising : IsRising waiting
+  pub states : given ≡ answer.GaveUp nodes (plan_cost first.plan)
+
+-- one node more may be taken, or none waits
+abbrev pub GoesUpTo : Problem → List Node → ℕ → Type 0
+GoesUpTo problem waiting taken = (n : ℕ) → problem.nodes ≡ Some n → (taken < n) ⊎ (waiting ≡ [])
 
 -- one node more of the tree is reached
 abbrev pub TakesOne : Problem → Option (List ℕ) → Option (List ℕ) → Type 0

@@ -1,5 +1,5 @@
 -- The roots of two worked trees (the constraint tree is of Sharon et al. 2015; the grids are this project's).
-use Rattle.std.specs.Prelude.{true, false, [], ◌∷◌, ◌≡◌, ℕ, List}
+use Rattle.std.specs.Prelude.{true, false, [], ◌∷◌, ◌≡◌, ℕ, List, None}
 use Rattle.mapf_plan.specs.declared.conflict.Conflict.TheVariants.{Vertex, Swapping}
 use Rattle.mapf_plan.specs.Plan.{IsFirstConflict}
 use Rattle.mapf_low.specs.declared.constraint.Constraint.TheVariants as constraint
@@ -12,6 +12,7 @@ abbrev pub two_by_two : Problem
 two_by_two = record {
   inst = record { grid = record { width = 2; height = 2; free = true ∷ true ∷ true ∷ true ∷ [] }; starts = 0 ∷ 1 ∷ []; goals = 1 ∷ 0 ∷ [] };
   bound = 4;
+  nodes = None;
 }
 
 -- each goes straight to its goal
@@ -23,6 +24,7 @@ abbrev pub corridor_with_bay : Problem
 corridor_with_bay = record {
   inst = record { grid = record { width = 3; height = 2; free = true ∷ true ∷ true ∷ false ∷ true ∷ false ∷ [] }; starts = 1 ∷ 0 ∷ []; goals = 1 ∷ 2 ∷ [] };
   bound = 4;
+  nodes = None;
 }
 
 -- one agent stays, and the other goes through it

@@ -1,7 +1,7 @@
 //! What holds of the constraint tree, its answer and a search in it: functions that do nothing,
 //! each with one law as its contract.
 
-ghost use Rattle.mapf_tree.specs.Laws.{OneAgentsAnswer, ObeysOneSide, ConstraintIsNew, ConstraintIsEarly, ObeyedIsInCost, NoneIsDearer, DepthIsBounded, TreeIsFinite, AnswerExists, AnswerIsUnique, AnswerIsOptimum, NoneIsNone};
+ghost use Rattle.mapf_tree.specs.Laws.{OneAgentsAnswer, ObeysOneSide, ConstraintIsNew, ConstraintIsEarly, ObeyedIsInCost, NoneIsDearer, DepthIsBounded, TreeIsFinite, AnswerExists, AnswerIsUnique, StatedIsUnique, AnswerIsOptimum, NoneIsNone};
 ghost use Rattle.mapf_tree.specs.Turns.{SearchStarts, TurnTakesNext, EndsAtAnswer, TakenAreBounded};
 ghost use Rattle.mapf_tree.specs.Worked.{WorkedRoot};
 
@@ -53,6 +53,11 @@ pub fn answer_exists()
 /// An instance has one answer at most under a bound.
 pub fn answer_is_unique()
     ensures { AnswerIsUnique }
+{}
+
+/// An instance has one stated answer at most under a bound and a limit on nodes.
+pub fn stated_is_unique()
+    ensures { StatedIsUnique }
 {}
 
 /// The plan of the answer is valid and within the bound, and no valid plan costs less.

@@ -11,6 +11,7 @@ mod family;
 mod first;
 mod key;
 pub mod laws;
+mod limit;
 mod node;
 mod open_list;
 mod problem;

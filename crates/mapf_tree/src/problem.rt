@@ -1,19 +1,21 @@
-ghost use Rattle.std.specs.Prelude.{◌≡◌, ◌<◌, ◌≤◌, IfOk, IfErr, length, slice_index};
+ghost use Rattle.std.specs.Prelude.{◌≡◌, ◌<◌, ◌≤◌, IfOk, IfErr, Some, None, length, slice_index};
 ghost use Rattle.mapf_low.specs.Walk.{AreDistances};
-ghost use Rattle.mapf_tree.specs.Problem.{HasDistances};
-ghost use Rattle.mapf_plan.specs.Plan.{most_bound};
+ghost use Rattle.mapf_tree.specs.Problem.{HasDistances, IsLimit};
+ghost use Rattle.mapf_plan.specs.Plan.{most_bound, most_nodes};
 
 use mapf_grid::{Instance, NoMemory};
 use mapf_low::Distances;
 use std::alloc::Global;
 use std::marker::Model;
 
-/// What a search solves: an instance, each goal's distances, and a bound on the sum of costs.
+/// What a search solves: an instance, each goal's distances, a bound on the sum of costs, and a limit on how many nodes
+/// are taken, if there is one.
 #[derive(Drop)]
 pub struct Problem {
     instance: Instance,
     distances: Vec<Distances>,
     bound: u32,
+    nodes: Option<u64>,
 }
 
 impl Model for Problem {
@@ -21,9 +23,9 @@ impl Model for Problem {
 
     ghost Value = { Problem };
 
-    ghost view = { λ p. record { inst = p.instance; bound = p.bound } };
+    ghost view = { λ p. record { inst = p.instance; bound = p.bound; nodes = p.nodes } };
 
-    ghost invariant = { λ p. IsReady (record { inst = p.instance; bound = p.bound }) p.distances.items };
+    ghost invariant = { λ p. IsReady (record { inst = p.instance; bound = p.bound; nodes = p.nodes }) p.distances.items };
 }
 
 impl Problem {
@@ -36,7 +38,7 @@ impl Problem {
         bound: u32,
     ) -> Result<Problem, (Instance, NoMemory)>
         requires { bound ≤ most_bound }
-        ensures made { IfOk result (λ p. p ≡ record { inst = instance; bound = bound }) }
+        ensures made { IfOk result (λ p. p ≡ record { inst = instance; bound = bound; nodes = None }) }
         ensures err { IfErr result (λ e. e.0 ≡ instance) }
     {
         match distances_to_goals(alloc, &instance) {
@@ -44,6 +46,7 @@ impl Problem {
                 instance,
                 distances,
                 bound,
+                nodes: None,
             }),
             Err(fault) => Err((instance, fault)),
         }
@@ -53,13 +56,35 @@ impl Problem {
     pub fn with(instance: Instance, distances: Vec<Distances>, bound: u32) -> Problem
         requires bound { bound ≤ most_bound }
         requires distances { HasDistances instance distances.items }
-        ensures { result ≡ record { inst = instance; bound = bound } }
+        ensures { result ≡ record { inst = instance; bound = bound; nodes = None } }
     {
         prove_eq!(distances.len(), instance.agents());
         Problem {
             instance,
             distances,
             bound,
+            nodes: None,
+        }
+    }
+
+    /// The same problem, where a search takes at most so many nodes. It gives up where it would take one more: the answer
+    /// is then [`Answer::GaveUp`](mapf_plan::Answer::GaveUp), with a lower bound on the cost of every plan without conflict.
+    pub fn with_nodes(self, nodes: u64) -> Problem
+        requires some { 0 < nodes }
+        requires few { nodes ≤ most_nodes }
+        ensures { result ≡ record { inst = self.inst; bound = self.bound; nodes = Some nodes } }
+    {
+        let Problem {
+            instance,
+            distances,
+            bound,
+            nodes: _before,
+        } = self;
+        Problem {
+            instance,
+            distances,
+            bound,
+            nodes: Some(nodes),
         }
     }
 
@@ -85,6 +110,14 @@ impl Problem {
         ensures small { result ≤ most_bound }
     {
         self.bound
+    }
+
+    /// How many nodes a search may take, from 1 to 1,000,000; none where there is no limit.
+    pub fn nodes(&self) -> Option<u64>
+        ensures nodes { result ≡ self.now.nodes }
+        ensures limit { IsLimit self.now.nodes }
+    {
+        self.nodes
     }
 }
 

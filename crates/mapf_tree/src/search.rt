@@ -3,6 +3,7 @@ ghost use Rattle.std.specs.Option.{option_copied, option_map};
 ghost use Rattle.mapf_plan.specs.declared.answer.Answer.{Answer};
 ghost use Rattle.mapf_tree.specs.Tree.{key_rank};
 
+use crate::limit::given_up;
 use crate::turn::{Turn, put_if_some, take_turn};
 use crate::{Children, Key, Node, OpenList, Problem, Progress, root};
 use mapf_grid::NoMemory;
@@ -16,19 +17,22 @@ pub struct Search<'p> {
     problem: &'p Problem,
     waiting: OpenList,
     last: Option<Key>,
+    /// How many nodes were taken, where there is a limit.
+    taken: u64,
     outcome: Result<Option<Answer>, NoMemory>,
 }
 
 impl<'p> Model for Search<'p> {
     ghost use Rattle.std.specs.Option.{option_map};
     ghost use Rattle.mapf_tree.specs.Tree.{key_rank};
-    ghost use Rattle.mapf_tree.specs.Search.{Searched, IsLawful};
+    ghost use Rattle.mapf_tree.specs.Search.{Searched, IsLawful, IsCounted};
 
     ghost Value = { Searched };
 
     ghost view = { λ s. record { problem = s.problem.now; waiting = s.waiting; last = option_map key_rank s.last; outcome = s.outcome } };
 
-    ghost invariant = { λ s. IsLawful s.problem.now s.waiting (option_map key_rank s.last) s.outcome };
+    ghost invariant = { λ s. IsLawful s.problem.now s.waiting (option_map key_rank s.last) s.outcome
+        × IsCounted s.problem.now (option_map key_rank s.last) s.taken s.outcome };
 }
 
 impl<'p> Search<'p> {
@@ -65,11 +69,14 @@ impl<'p> Search<'p> {
             problem,
             waiting,
             last: None,
+            taken: 0,
             outcome: Ok(None),
         })
     }
 
-    /// Takes up to so many nodes, and fewer only if that gives the answer; what has its answer takes no more.
+    /// Takes up to so many nodes, and fewer only if that gives the answer; what has its answer takes no more. Where the
+    /// problem has a limit on nodes, the turn after that many nodes takes none if a node waits, and the answer is that
+    /// the search gave up.
     pub fn go<C: Children>(&mut self, children: &mut C, turns: u64) -> Result<Progress, NoMemory>
         requires { C.serves children.old self.old.problem }
 
@@ -83,7 +90,7 @@ impl<'p> Search<'p> {
         ensures finished { result ≡ Ok Progress.Finished → (given : Answer) × (self.new.outcome ≡ Ok (Some given)) × IsAnswerOf self.new.problem given }
         ensures no_memory { OnErr result (IsErr self.new.outcome) }
 
-        // With the answer no more were taken than it needs: the last one is the solution, or nothing waits.
+        // With the answer no more were taken than it needs: the last one is the solution, nothing waits, or no more may be taken.
         ensures within { result ≡ Ok Progress.Finished → (n : ℕ) × (n ≤ turns) × TakesBetween self.new.problem self.old.last self.new.last n }
         ensures ended { (given : Answer) → self.new.outcome ≡ Ok (Some given) → IsEnded self.new.problem self.new.waiting self.new.last given }
 
@@ -128,7 +135,7 @@ impl<'p> Search<'p> {
         }
     }
 
-    /// Takes one node.
+    /// Takes one node, or gives up where the problem's limit says so.
     fn step<C: Children>(&mut self, children: &mut C) -> Result<Progress, NoMemory>
         requires serves { C.serves children.old self.old.problem }
         requires open_yet { self.old.outcome ≡ Ok None }
@@ -137,9 +144,14 @@ impl<'p> Search<'p> {
         ensures search { IsSearch self.new }
         ensures step { IsStep self.old self.new result }
     {
+        if let Some(given) = given_up(self.problem, &self.waiting, self.taken) {
+            self.outcome = Ok(Some(given));
+            return Ok(Progress::Finished);
+        }
         match take_turn(self.problem, &mut self.waiting, children) {
             Ok(Turn::Branched(key)) => {
                 self.last = Some(key);
+                self.taken = self.taken.saturating_add(1);
                 Ok(Progress::Working)
             }
             Ok(Turn::Solved { key, plan }) => {
@@ -180,6 +192,7 @@ impl<'p> Search<'p> {
             problem: _problem,
             waiting: _waiting,
             last: _last,
+            taken: _taken,
             outcome,
         } = self;
         outcome.ok().flatten()

@@ -9,7 +9,7 @@ const LINE: &[u8] = b"type octile\nheight 1\nwidth 3\nmap\n...\n";
 
 const BAY: &[u8] = b"type octile\nheight 2\nwidth 3\nmap\n...\n@.@\n";
 
-/// What an answer says: its cost and each path's cells by their numbers, or its bound.
+/// What an answer says: its cost and each path's cells by their numbers, or its bound, or its nodes and least cost.
 fn said(alloc: Global, answer: &Answer) -> Result<String, Fail> {
     let mut text = String::new(alloc);
     match answer {
@@ -21,6 +21,7 @@ fn said(alloc: Global, answer: &Answer) -> Result<String, Fail> {
             }
         }
         Answer::None { bound } => write!(&mut text, "none {bound}")?,
+        Answer::GaveUp { nodes, least } => write!(&mut text, "gave up {nodes}, least {least}")?,
     }
     Ok(text)
 }
@@ -63,6 +64,21 @@ fn no_plan(rt: HostRuntime) -> Result<(), Fail> {
     expect(&rt, rt.alloc(), LINE, b"none 1000000\n", "none 1000000")
 }
 
+#[test]
+fn a_search_that_gave_up(rt: HostRuntime) -> Result<(), Fail> {
+    for (text, words) in [
+        ("gave up 5 4\n", "gave up 5, least 4"),
+        ("gave up 1 0\n", "gave up 1, least 0"),
+        (
+            "gave up 1000000 1000000\n",
+            "gave up 1000000, least 1000000",
+        ),
+    ] {
+        expect(&rt, rt.alloc(), LINE, text.as_bytes(), words)?;
+    }
+    Ok(())
+}
+
 /// The fault of these bytes on this map, if they have one.
 fn fault_of(alloc: Global, map: &[u8], bytes: &[u8]) -> Result<Option<TextFault>, Fail> {
     let map = Map::read(alloc, map)?;
@@ -98,6 +114,14 @@ fn tells_the_first_fault(rt: HostRuntime) -> Result<(), Fail> {
         ("none \n", Some(TextFault::Head)),
         ("none 1000001\n", Some(TextFault::Head)),
         ("none 1000000\n", None),
+        ("gave up 5 4\n", None),
+        ("gave up 5 4", Some(TextFault::Head)),
+        ("gave up 5 4\n ", Some(TextFault::Line { line: 2 })),
+        ("gave up 0 4\n", Some(TextFault::Head)),
+        ("gave up 1000001 4\n", Some(TextFault::Head)),
+        ("gave up 5 1000001\n", Some(TextFault::Head)),
+        ("gave up 05 4\n", Some(TextFault::Head)),
+        ("gave up 5\n", Some(TextFault::Head)),
         ("", Some(TextFault::Head)),
     ] {
         assert_eq!(rt;

@@ -10,7 +10,7 @@ use thiserror::Error;
 #[derive(Clone, Copy, Debug, PartialEq, Eq, Error)]
 pub enum TextFault {
     /// The first line, with its LF, is no head: neither `plan` with a number of agents and a cost nor
-    /// `none` with a bound, within their limits.
+    /// `none` with a bound nor `gave up` with a number of nodes and a cost, within their limits.
     #[error("31 head line")]
     Head,
     /// The line is missing, has no LF or isn't positions parted by single spaces; or it stands behind

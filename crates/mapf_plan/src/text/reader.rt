@@ -2,7 +2,8 @@ ghost use Rattle.std.specs.Prelude.{◌≡◌, ◌≢◌, ℕ, List, ◌+◌, �
 ghost use Rattle.std.specs.List.{AllZip};
 ghost use Rattle.mapf_grid.specs.Instance.{most_agents};
 ghost use Rattle.mapf_plan.specs.Path.{most_cells};
-ghost use Rattle.mapf_plan.specs.ReadText.{IsPlace, IsLine, IsCellAt, IsFirstOutside, IsFirstLine, IsPathLine, ArePlanNumbers, AreLinesOf, IsTextOf, IsTextFault, IsLineFault, HasLinesFault};
+ghost use Rattle.mapf_plan.specs.ReadText.{IsPlace, IsLine, IsCellAt, IsFirstOutside, IsFirstLine, IsPathLine, AreTwoNumbers, AreLinesOf, IsTextOf, IsTextFault, IsLineFault, HasLinesFault};
+ghost use Rattle.mapf_plan.specs.Plan.{most_stated};
 ghost use Rattle.mapf_plan.specs.Head.{IsHead};
 ghost use Rattle.mapf_plan.specs.declared.answer.Answer.{Answer as AnswerValue};
 ghost use Rattle.mapf_plan.specs.declared.text.reader.Head.{Head as HeadValue};
@@ -10,7 +11,7 @@ ghost use Rattle.mapf_plan.specs.declared.text.reader.Head.{Head as HeadValue};
 use super::TextFault;
 use super::cut::cut_at;
 use super::number::number;
-use crate::{Answer, MOST_BOUND, MOST_STATED, Path, Plan};
+use crate::{Answer, MOST_BOUND, MOST_NODES, MOST_STATED, Path, Plan};
 use mapf_grid::{Cell, MOST_AGENTS, Map};
 use std::alloc::Global;
 
@@ -22,6 +23,7 @@ const MOST_COORDINATE: u64 = 999_999_999;
 enum Head {
     Plan { agents: usize, cost: u64 },
     None { bound: u32 },
+    GaveUp { nodes: u64, least: u64 },
 }
 
 /// The answer whose text on this map these bytes are: what [`write`](super::write) would give for it,
@@ -48,6 +50,10 @@ pub fn read_answer(alloc: Global, bytes: &[u8], map: &Map) -> Result<Answer, Tex
             expect_end(rest, 2)?;
             Ok(Answer::None { bound })
         }
+        Head::GaveUp { nodes, least } => {
+            expect_end(rest, 2)?;
+            Ok(Answer::GaveUp { nodes, least })
+        }
     }
 }
 
@@ -56,8 +62,13 @@ fn read_head(line: &[u8]) -> Option<Head>
     ensures { MatchOption result ((head : HeadValue) → ¬ IsHead line.now head) (IsHead line.now) }
 {
     if let Some(numbers) = behind(line, b"plan ") {
-        let (agents, cost) = read_plan_numbers(numbers)?;
+        let (agents, cost) = read_two_numbers(numbers, MOST_AGENTS, MOST_STATED)?;
+        let agents = agents as usize;
         return Some(Head::Plan { agents, cost });
+    }
+    if let Some(numbers) = behind(line, b"gave up ") {
+        let (nodes, least) = read_two_numbers(numbers, MOST_NODES, MOST_BOUND)?;
+        return Some(Head::GaveUp { nodes, least });
     }
     let bound = number(behind(line, b"none ")?, MOST_BOUND)?;
     Some(Head::None {
@@ -76,17 +87,20 @@ fn behind<'a>(line: &'a [u8], front: &[u8]) -> Option<&'a [u8]>
     }
 }
 
-/// The number of agents and the cost.
-fn read_plan_numbers(numbers: &[u8]) -> Option<(usize, u64)>
-    ensures { MatchOption result ((pair : ℕ × ℕ) → ¬ ArePlanNumbers numbers.now pair) (ArePlanNumbers numbers.now) }
+/// Two numbers parted by a space, the first of them above 0, each up to its limit.
+fn read_two_numbers(numbers: &[u8], most_first: u64, most_second: u64) -> Option<(u64, u64)>
+    requires first { most_first ≤ most_stated }
+    requires second { most_second ≤ most_stated }
+    ensures { MatchOption result ((pair : ℕ × ℕ) → ¬ AreTwoNumbers most_first most_second numbers.now pair)
+        (AreTwoNumbers most_first most_second numbers.now) }
 {
-    let (agents, cost) = cut_at(numbers, b' ')?;
-    let agents = number(agents, MOST_AGENTS)?;
-    let cost = number(cost, MOST_STATED)?;
-    if agents == 0 {
+    let (first, second) = cut_at(numbers, b' ')?;
+    let first = number(first, most_first)?;
+    let second = number(second, most_second)?;
+    if first == 0 {
         return None;
     }
-    Some((agents as usize, cost))
+    Some((first, second))
 }
 
 /// The lines of the agents, from line 2 on, and nothing behind them.

@@ -8,7 +8,8 @@ use crate::{Answer, Path};
 use mapf_grid::{Cell, Map, NoMemory};
 use std::alloc::Global;
 
-/// The text of an answer: a plan as its head and a line for each agent, or `none` with the bound.
+/// The text of an answer: a plan as its head and a line for each agent, or `none` with the bound, or `gave up` with
+/// the number of nodes and the cost.
 ///
 /// Each answer has one text. The positions are written by the map's columns and rows.
 pub fn write(alloc: Global, answer: &Answer, map: &Map) -> Result<Vec<u8>, NoMemory>
@@ -22,6 +23,7 @@ pub fn write(alloc: Global, answer: &Answer, map: &Map) -> Result<Vec<u8>, NoMem
             push_lines(&mut text, plan.paths(), map)?;
         }
         Answer::None { bound } => push_none(&mut text, *bound)?,
+        Answer::GaveUp { nodes, least } => push_gave_up(&mut text, *nodes, *least)?,
     }
     Ok(text.into_bytes())
 }
@@ -43,6 +45,17 @@ fn push_none(text: &mut String, bound: u32) -> Result<(), NoMemory>
         ++ (codes "none " ++ (decimal bound ++ codes "\n"))) }
 {
     push_number(text, "none ", bound)?;
+    text.push_str("\n")?;
+    Ok(())
+}
+
+/// The whole text where the search gave up.
+fn push_gave_up(text: &mut String, nodes: u64, least: u64) -> Result<(), NoMemory>
+    ensures { OnOk result (string_bytes text.new ≡ string_bytes text.old
+        ++ (codes "gave up " ++ (decimal nodes ++ (codes " " ++ (decimal least ++ codes "\n"))))) }
+{
+    push_number(text, "gave up ", nodes)?;
+    push_number(text, " ", least)?;
     text.push_str("\n")?;
     Ok(())
 }

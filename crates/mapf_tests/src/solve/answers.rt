@@ -20,6 +20,7 @@ pub(super) fn answered<R: Threads + Sync>(
         agents: worked.agents,
         bound,
         workers,
+        nodes: None,
     };
     answer(rt, alloc, worked.map, worked.scen, ask, &NoGate)
 }

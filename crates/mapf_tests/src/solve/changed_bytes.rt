@@ -42,6 +42,7 @@ fn is_sound<R: Threads + Sync>(
         agents: 2,
         bound: 4,
         workers: 1,
+        nodes: None,
     };
     match answer(rt, alloc, map, scen, ask, &NoGate) {
         Ok(text) => {

@@ -83,6 +83,7 @@ fn run_over<R: Threads + Sync, M: Read, S: Read>(
         agents: 1,
         bound,
         workers: 1,
+        nodes: None,
     };
     run(
         rt,

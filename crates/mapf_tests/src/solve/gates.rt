@@ -141,6 +141,7 @@ fn answered<R: Threads + Sync>(
         agents: 2,
         bound: 9,
         workers,
+        nodes: None,
     };
     answer(rt, alloc, CROSSING.map, CROSSING.scen, ask, gate).ok()
 }

@@ -39,6 +39,7 @@ fn answered_at_once<R: Threads + Sync>(
         agents,
         bound: 0,
         workers: 1,
+        nodes: None,
     };
     answer(rt, alloc, map.as_bytes(), scen.as_bytes(), ask, &NoGate)
 }

@@ -1,10 +1,10 @@
 //! What searches of small trees find.
 
-ghost use Rattle.std.specs.Prelude.{◌≤◌};
+ghost use Rattle.std.specs.Prelude.{◌<◌, ◌≤◌};
 
 use super::problem_of;
 use super::texts::{letters, push_paths};
-use crate::worked::{BAY, CANNOT_PASS, CHANGE, CROSSING, RING, Worked};
+use crate::worked::{ALONG, BAY, CANNOT_PASS, CHANGE, CROSSING, RING, Worked};
 use mapf_plan::Answer;
 use mapf_tree::{ByChild, Problem, Progress, Search, solve_alone};
 use std::alloc::Global;
@@ -19,6 +19,7 @@ fn push_answer(text: &mut String, answer: &Answer) -> Result<(), Fail> {
             push_paths(text, plan.paths())?;
         }
         Answer::None { bound } => write!(text, "none {bound}")?,
+        Answer::GaveUp { nodes, least } => write!(text, "gave up {nodes} {least}")?,
     }
     Ok(())
 }
@@ -64,6 +65,60 @@ fn two_change_places(rt: HostRuntime) -> Result<(), Fail> {
 #[test]
 fn the_left_of_two_solutions(rt: HostRuntime) -> Result<(), Fail> {
     expect(&rt, rt.alloc(), &CROSSING, 9, "plan 5: 1 1 4 7; 3 4 5;")
+}
+
+/// The search in the tree of these files finds this where it may take so many nodes.
+fn expect_within(
+    rt: &impl Abort,
+    alloc: Global,
+    worked: &Worked,
+    bound: u32,
+    nodes: u64,
+    text: &str,
+) -> Result<(), Fail>
+    requires bound { bound ≤ 1000000 }
+    requires some { 0 < nodes }
+    requires few { nodes ≤ 1000000 }
+{
+    let problem = problem_of(alloc, worked, bound)?.with_nodes(nodes);
+    let mut found = String::new(alloc);
+    push_answer(&mut found, &solve_alone(alloc, &problem)?)?;
+    assert_eq!(rt; found.as_str(), text);
+    Ok(())
+}
+
+/// The sixth node in key order is the first solution.
+#[test]
+fn gives_up_before_the_sixth_node(rt: HostRuntime) -> Result<(), Fail> {
+    let alloc = rt.alloc();
+    expect_within(&rt, alloc, &BAY, 4, 6, "plan 4: 1 4 1; 0 1 2;")?;
+    expect_within(&rt, alloc, &BAY, 4, 5, "gave up 5 4")?;
+    expect_within(&rt, alloc, &BAY, 4, 2, "gave up 2 4")?;
+    expect_within(&rt, alloc, &BAY, 4, 1, "gave up 1 3")
+}
+
+/// The tree has three nodes and no solution.
+#[test]
+fn gives_up_only_where_a_node_waits(rt: HostRuntime) -> Result<(), Fail> {
+    expect_within(&rt, rt.alloc(), &CHANGE, 3, 3, "none 3")?;
+    expect_within(&rt, rt.alloc(), &CHANGE, 3, 2, "gave up 2 3")
+}
+
+/// The tree is empty.
+#[test]
+fn nothing_to_take(rt: HostRuntime) -> Result<(), Fail> {
+    expect_within(&rt, rt.alloc(), &ALONG, 1, 1, "none 1")
+}
+
+/// The turn that gives up takes no node.
+#[test]
+fn the_turn_after_the_limit_takes_no_node(rt: HostRuntime) -> Result<(), Fail> {
+    let problem = problem_of(rt.alloc(), &BAY, 4)?.with_nodes(2);
+    assert_eq!(rt;
+        taken(rt.alloc(), &problem, 3)?.as_str(),
+        ", R, R. gave up 2 4"
+    );
+    Ok(())
 }
 
 /// The nodes that so many turns take, a full stop where the search is finished, and its answer.

@@ -8,4 +8,4 @@ use Rattle.mapf_solve.proofs.answers.spell.Goals as goal
 pub write-requires : goal.write-requires
 write-requires c =
     subst (λ (g : Grid). CanWrite g c.args.answer.now) (sym (c.map.ensures.map ∙ ap (λ (i : Instance). i.grid) c.instance.ensures.instance))
-    (can_write c.args.problem.now c.args.answer.now c.instance.ensures.sound.sizes c.requires.bound c.requires.answer)
+    (can_write c.args.problem.now c.args.answer.now c.instance.ensures.sound.sizes c.requires.bound c.requires.limit c.requires.answer)

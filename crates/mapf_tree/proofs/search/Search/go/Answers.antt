@@ -1,7 +1,7 @@
 use Rattle.std.proofs.Common.{◌≡◌, ◌+◌, Ok, subst, arith}
 use Rattle.mapf_tree.specs.declared.progress.Progress.TheVariants.{Finished}
 use Rattle.mapf_tree.specs.Turns.{IsStep}
-use Rattle.mapf_tree.proofs.GoingOn.{goes_on, taken_between, taken_at_end}
+use Rattle.mapf_tree.proofs.GoingOn.{goes_on, taken_between, taken_at_end, ended}
 use Rattle.mapf_tree.proofs.search.Search.go.Goals as goal
 
 pub loop-taken-preserved : goal.loop-taken-preserved
@@ -21,3 +21,6 @@ pub returns-in-Finished-2-clause-within : goal.returns-in-Finished-2-clause-with
 returns-in-Finished-2-clause-within g c e =
     let step : IsStep c.loop-taken.self c.step.new.self (Ok Finished) = subst (λ r. IsStep c.loop-taken.self c.step.new.self (Ok r)) c.in-Finished-2.is c.in_ok-step.ensures.step in
     taken_at_end c.args.self.now.problem c.args.self.now.last c.loop-taken.self c.step.new.self c.loop-taken._taken c.args.turns c.loop-taken.invariant.0 (omega arith) c.in_ok-step.ensures.problem step.1
+
+pub returns-in-Finished-2-clause-ended : goal.returns-in-Finished-2-clause-ended
+returns-in-Finished-2-clause-ended g c = λ given e. ended c.step.new.self given c.in_ok-step.ensures.search e

@@ -1,12 +1,12 @@
-use Rattle.std.proofs.Common.{Ok, Some, inl, inr, refl, subst, ap, ◌∙◌}
+use Rattle.std.proofs.Common.{arith, Ok, Some, inl, inr, refl, subst, ap, ◌∙◌}
 use Rattle.std.specs.Option.{option_map}
 use Rattle.mapf_plan.specs.declared.answer.Answer.TheVariants as answer
 use Rattle.mapf_tree.specs.Tree.{key_rank}
 use Rattle.mapf_tree.specs.Search.{Searched, IsLawful}
 use Rattle.mapf_tree.specs.Turns.{TakesOne, IsTurned}
-use Rattle.mapf_tree.proofs.TurnLemmas.{branched_lawful, solved_lawful, empty_lawful}
+use Rattle.mapf_tree.proofs.TurnLemmas.{branched_lawful, counted_more, solved_lawful, empty_lawful, given_up_lawful}
 use Rattle.mapf_tree.proofs.search.Search.step.Goals as goal
-use Rattle.mapf_tree.proofs.search.Search.step.Goals.{In-Ok-Branched, In-Ok-Solved, In-Ok-Empty}
+use Rattle.mapf_tree.proofs.search.Search.step.Goals.{In-Some, In-Ok-Branched, In-Ok-Solved, In-Ok-Empty}
 
 -- a turn that branched: the search goes on, with one node more taken
 branched : (g : _) (c : In-Ok-Branched g) →
@@ -14,7 +14,7 @@ branched : (g : _) (c : In-Ok-Branched g) →
     × TakesOne c.self.inside.problem.now (option_map key_rank c.self.inside.last) (Some (key_rank c.in-Ok-Branched.key))
 branched g c =
     branched_lawful c.self.inside.problem.now c.self.inside.waiting c.take_turn.new.waiting (option_map key_rank c.self.inside.last)
-    c.self.inside.outcome c.in-Ok-Branched.key c.self.invariant
+    c.self.inside.outcome c.in-Ok-Branched.key c.self.invariant.0
     (ap (λ (s : Searched). s.outcome) c.self.view_is ∙ c.requires.open_yet)
     (subst (λ t. IsTurned c.self.inside.problem.now c.self.inside.waiting c.take_turn.new.waiting t) c.in-Ok-Branched.field-0-is c.in-Ok-Branched.ensures.turned)
 
@@ -24,8 +24,8 @@ solved : (g : _) (c : In-Ok-Solved g) →
     × TakesOne c.self.inside.problem.now (option_map key_rank c.self.inside.last) (Some (key_rank c.in-Ok-Solved.key))
 solved g c =
     solved_lawful c.self.inside.problem.now c.self.inside.waiting c.take_turn.new.waiting (option_map key_rank c.self.inside.last)
-    c.self.inside.outcome c.in-Ok-Solved.key c.in-Ok-Solved.plan c.self.invariant
-    (ap (λ (s : Searched). s.outcome) c.self.view_is ∙ c.requires.open_yet)
+    c.self.inside.outcome c.self.inside.taken c.in-Ok-Solved.key c.in-Ok-Solved.plan c.self.invariant.0
+    (ap (λ (s : Searched). s.outcome) c.self.view_is ∙ c.requires.open_yet) c.self.invariant.1 c.in_default.ensures.turn
     (subst (λ t. IsTurned c.self.inside.problem.now c.self.inside.waiting c.take_turn.new.waiting t) c.in-Ok-Solved.field-0-is c.in-Ok-Solved.ensures.turned)
 
 -- a turn that found nothing: the search has its answer
@@ -33,12 +33,34 @@ empty : (g : _) (c : In-Ok-Empty g) →
     IsLawful c.self.inside.problem.now c.take_turn.new.waiting (option_map key_rank c.self.inside.last) (Ok (Some (answer.None c.self.inside.problem.now.bound)))
 empty g c =
     empty_lawful c.self.inside.problem.now c.self.inside.waiting c.take_turn.new.waiting (option_map key_rank c.self.inside.last)
-    c.self.inside.outcome c.self.invariant
-    (ap (λ (s : Searched). s.outcome) c.self.view_is ∙ c.requires.open_yet)
+    c.self.inside.outcome c.self.inside.taken c.self.invariant.0
+    (ap (λ (s : Searched). s.outcome) c.self.view_is ∙ c.requires.open_yet) c.self.invariant.1
     (subst (λ t. IsTurned c.self.inside.problem.now c.self.inside.waiting c.take_turn.new.waiting t) c.in-Ok-Empty.field-0-is c.in-Ok-Empty.ensures.turned)
 
+-- the search gives up
+gave_up : (g : _) (c : In-Some g) → IsLawful c.self.inside.problem.now c.self.inside.waiting (option_map key_rank c.self.inside.last) (Ok (Some c.in-Some.given))
+gave_up g c =
+    given_up_lawful c.self.inside.problem.now c.self.inside.waiting (option_map key_rank c.self.inside.last) c.self.inside.outcome c.self.inside.taken c.in-Some.given
+    c.self.invariant.0 (ap (λ (s : Searched). s.outcome) c.self.view_is ∙ c.requires.open_yet) c.self.invariant.1 c.in-Some.ensures.turn
+
 pub invariant_of-self : goal.invariant_of-self
-invariant_of-self g c = (branched g (goal.at.invariant_of-self g c).In-Ok-Branched).0
+invariant_of-self g c = (gave_up g (goal.at.invariant_of-self g c).In-Some, λ e. cc)
+
+pub returns-in-Some-clause-search : goal.returns-in-Some-clause-search
+returns-in-Some-clause-search g c = gave_up g (goal.at.returns-in-Some-clause-search g c).In-Some
+
+pub returns-in-Some-clause-step : goal.returns-in-Some-clause-step
+returns-in-Some-clause-step g c = ((_, refl), inl (ap (λ (s : Searched). s.last) c.self.view_is))
+
+pub invariant_of-self-in-Ok-Branched : goal.invariant_of-self-in-Ok-Branched
+invariant_of-self-in-Ok-Branched g c =
+    let turned = branched g (goal.at.invariant_of-self-in-Ok-Branched g c).In-Ok-Branched in (
+      turned.0,
+      counted_more c.self.inside.problem.now c.self.inside.waiting c.take_turn.new.waiting (option_map key_rank c.self.inside.last) c.self.inside.outcome c.self.inside.taken _ c.in-Ok-Branched.key
+          c.self.invariant.1 c.in_default.ensures.turn
+          (subst (λ t. IsTurned c.self.inside.problem.now c.self.inside.waiting c.take_turn.new.waiting t) c.in-Ok-Branched.field-0-is c.in-Ok-Branched.ensures.turned)
+          turned.1 (λ l. omega (arith, c.saturating_add-self-inside.ensures, l)) c.in_default.ensures.limit,
+    )
 
 pub returns-in-Ok-Branched-clause-search : goal.returns-in-Ok-Branched-clause-search
 returns-in-Ok-Branched-clause-search g c = (branched g (goal.at.returns-in-Ok-Branched-clause-search g c).In-Ok-Branched).0
@@ -51,7 +73,7 @@ returns-in-Ok-Branched-clause-step g c = (
 )
 
 pub invariant_of-self-in-Ok-Solved : goal.invariant_of-self-in-Ok-Solved
-invariant_of-self-in-Ok-Solved g c = (solved g (goal.at.invariant_of-self-in-Ok-Solved g c).In-Ok-Solved).0
+invariant_of-self-in-Ok-Solved g c = ((solved g (goal.at.invariant_of-self-in-Ok-Solved g c).In-Ok-Solved).0, λ e. cc)
 
 pub returns-in-Ok-Solved-clause-search : goal.returns-in-Ok-Solved-clause-search
 returns-in-Ok-Solved-clause-search g c = (solved g (goal.at.returns-in-Ok-Solved-clause-search g c).In-Ok-Solved).0
@@ -64,7 +86,7 @@ returns-in-Ok-Solved-clause-step g c = (
 )
 
 pub invariant_of-self-in-Ok-Empty : goal.invariant_of-self-in-Ok-Empty
-invariant_of-self-in-Ok-Empty g c = rw c.bound-bound.ensures.bound (empty g (goal.at.invariant_of-self-in-Ok-Empty g c).In-Ok-Empty)
+invariant_of-self-in-Ok-Empty g c = (rw c.bound-bound.ensures.bound (empty g (goal.at.invariant_of-self-in-Ok-Empty g c).In-Ok-Empty), λ e. cc)
 
 pub returns-in-Ok-Empty-clause-search : goal.returns-in-Ok-Empty-clause-search
 returns-in-Ok-Empty-clause-search g c = rw c.bound-bound.ensures.bound (empty g (goal.at.returns-in-Ok-Empty-clause-search g c).In-Ok-Empty)

@@ -1,0 +1,160 @@
+-- The limit on nodes: where a search gives up, and where it doesn't.
+use Rattle.std.proofs.Common.{◌≡◌, ℕ, ◌<◌, ◌≤◌, List, ◌∷◌, length, map, Option, Some, None, inl, inr, subst, sym, refl, ap, ◌∙◌, ⊎_elim, arith, Contains}
+use Rattle.std.proofs.lemmas.Bool.{cases_lt}
+use Rattle.mapf_grid.specs.Least.{Precedes, IsLeast}
+use Rattle.mapf_grid.proofs.Decide.{by_cases}
+use Rattle.mapf_grid.proofs.Members.{here_or_there}
+use Rattle.mapf_grid.proofs.Ranks.{by_compare, irreflexive, asymmetric, transitive, before_le, first_le}
+use Rattle.mapf_plan.specs.Plan.{plan_cost, HasNoConflict, IsValid}
+use Rattle.mapf_plan.specs.declared.answer.Answer.{Answer}
+use Rattle.mapf_plan.specs.declared.answer.Answer.TheVariants as answer
+use Rattle.mapf_plan.proofs.Conflicts.{first_conflict}
+use Rattle.mapf_tree.specs.Problem.{Problem}
+use Rattle.mapf_tree.specs.Tree.{PlannedNode, IsMember, IsSolution, key, turn}
+use Rattle.mapf_tree.specs.Cut.{IsAtPlace, IsInCut, IsCutAt}
+use Rattle.mapf_tree.specs.Answered.{stated, IsStated, IsAnswerUpTo, IsAnswerOf}
+use Rattle.mapf_tree.specs.Search.{IsReached, IsWaiting, TakesBetween}
+use Rattle.mapf_tree.specs.Turns.{IsSearchAt}
+use Rattle.mapf_tree.specs.Laws.{StatedIsUnique}
+use Rattle.mapf_tree.proofs.Descent.{cheaper_solution}
+use Rattle.mapf_tree.proofs.Distinct.{distinct_le}
+use Rattle.mapf_tree.proofs.SearchLaws.{dec_reached, waits_above, x_waits, none_between, still, ends_at_first}
+use Rattle.mapf_tree.proofs.TakenNodes.{distinct}
+use Rattle.mapf_tree.proofs.Unique.{same_member, answer_is_unique}
+
+module _ (p : Problem) (last : Option (List ℕ)) (Waits : PlannedNode → Type 0) (at : IsSearchAt p last Waits) where
+  module _ (x : PlannedNode) (least : IsLeast key Waits x) where
+    waits : IsWaiting p last x
+    waits = x_waits p last Waits x at least
+
+    -- what comes before x is taken
+    before_is_reached : (y : PlannedNode) → IsMember p y → Precedes (key y) (key x) → IsReached last y
+    before_is_reached y h l = by_cases (dec_reached p last y) (λ r. r) (λ n. absurd (none_between p last Waits x at least y h n l))
+
+    -- and what is taken comes before x
+    reached_is_before : (y : PlannedNode) → IsMember p y → IsReached last y → Precedes (key y) (key x)
+    reached_is_before y h r =
+        by_compare (key y) (key x) (λ e. absurd (waits.open_yet (subst (IsReached last) (same_member p y x h waits.member e) r))) (λ l. l)
+        (λ l. absurd (still p last Waits x at least last waits.open_yet y r l))
+
+    -- so x is at the place of the number of taken nodes
+    at_place : (n : ℕ) → TakesBetween p None last n → IsAtPlace p n x
+    at_place n took = record {
+      member = waits.member;
+      before = took.0;
+      once = took.1;
+      count = took.2;
+      each = λ y. (
+        (λ c. let h = (took.3 y).0 c in (h.0, reached_is_before y h.0 h.1)),
+        (λ h. (took.3 y).1 (h.0, before_is_reached y h.0 h.1, λ r. r)),
+      );
+    }
+
+    -- no solution comes before x
+    none_solves_before : (s : PlannedNode) → IsSolution p s → ¬ Precedes (key s) (key x)
+    none_solves_before s is l = at.none_yet s is.planned (before_is_reached s is.planned l) is.no_conflict
+
+    -- a node with a conflict comes before each solution
+    in_cut : (¬ HasNoConflict x.1) → IsInCut p x
+    in_cut conflict = (
+      waits.member,
+      λ s is. by_compare (key x) (key s) (λ e. absurd (conflict (subst (λ y. HasNoConflict y.1) (sym (same_member p x s waits.member is.planned e)) is.no_conflict)))
+          (λ l. l) (λ l. absurd (none_solves_before s is l)),
+    )
+
+    -- where as many nodes are taken as may be, the search gives up at x
+    pub is_cut : (n : ℕ) → TakesBetween p None last n → IsCutAt p n x
+    is_cut n took = (
+      at_place n took,
+      ⊎_elim (λ c. inl (in_cut (λ free. free c.0 c.1.member))) (λ free. inr (ends_at_first p last Waits x at least free)) (first_conflict x.1),
+    )
+
+    -- where fewer are taken and x is a solution, it doesn't
+    pub solved_before : (n k : ℕ) → TakesBetween p None last k → k < n → HasNoConflict x.1 → (m : PlannedNode) → ¬ IsCutAt p n m
+    solved_before n k took less free m is =
+        let fewer : length is.0.before ≤ length took.0 = distinct_le is.0.before took.0 (distinct is.0.before is.0.once) inside in
+        omega (arith, less, fewer, is.0.count, took.2)
+      where
+        solves : IsSolution p x
+        solves = record { planned = waits.member; no_conflict = free }
+
+        no_later : ¬ Precedes (key x) (key m)
+        no_later = ⊎_elim (λ cut l. asymmetric (key x) (key m) l (cut.1 x solves)) (λ first. first.least x solves) is.1
+
+        inside : (y : PlannedNode) → Contains is.0.before y → Contains took.0 y
+        inside y c =
+            let h = (is.0.each y).0 c in
+            (took.3 y).1 (h.0, before_is_reached y h.0 (before_le (key y) (key m) (key x) h.1 no_later), λ r. r)
+
+  -- where nothing waits and no more are taken than may be, it doesn't either
+  pub empty_before : ((x : PlannedNode) → ¬ Waits x) → (n k : ℕ) → TakesBetween p None last k → k ≤ n → (m : PlannedNode) → ¬ IsCutAt p n m
+  empty_before empty n k took few m is =
+      let fewer : length (m ∷ is.0.before) ≤ length took.0 = distinct_le (m ∷ is.0.before) took.0 (not_itself, distinct is.0.before is.0.once) inside in
+      omega (arith, few, fewer, is.0.count, took.2)
+    where
+      not_itself : ¬ Contains is.0.before m
+      not_itself c = irreflexive (key m) ((is.0.each m).0 c).1
+
+      taken : (y : PlannedNode) → IsMember p y → Contains took.0 y
+      taken y h =
+          by_cases (dec_reached p last y) (λ r. (took.3 y).1 (h, r, λ s. s))
+          (λ n. let w = waits_above p last y.0 y.1 h.inside h.plan n in absurd (empty w.0 ((at.waits w.0).1 w.1)))
+
+      inside : (y : PlannedNode) → Contains (m ∷ is.0.before) y → Contains took.0 y
+      inside y c = ⊎_elim (λ e. subst (Contains took.0) e (taken m is.0.member)) (λ i. taken y ((is.0.each y).0 i).0) (here_or_there is.0.before c)
+
+-- where the search doesn't give up, the answer is that without a limit
+pub as_stated : (p : Problem) (given : Answer) → ((n : ℕ) → p.nodes ≡ Some n → (m : PlannedNode) → ¬ IsCutAt p n m) → IsStated p given → IsAnswerOf p given
+as_stated p given never is = go p.nodes refl
+  where
+    go : (o : Option ℕ) → p.nodes ≡ o → IsAnswerUpTo o p given
+    go None e = is
+    go (Some n) e = inr (never n e, is)
+
+-- and where it does, the cost of the node is the answer
+pub as_given_up : (p : Problem) (n : ℕ) (m : PlannedNode) (given : Answer) → p.nodes ≡ Some n → IsCutAt p n m → given ≡ answer.GaveUp n (plan_cost m.1) → IsAnswerOf p given
+as_given_up p n m given e is said = subst (λ o. IsAnswerUpTo o p given) (sym e) (inl (m, is, said))
+
+-- that node costs no more than any valid plan: within the bound a solution costs no more than the plan
+pub cut_is_below : (p : Problem) (n : ℕ) (m : PlannedNode) → IsCutAt p n m → (plan : List (List ℕ)) → IsValid p.inst plan → plan_cost m.1 ≤ plan_cost plan
+cut_is_below p n m is plan valid =
+    ⊎_elim (λ over. omega (arith, over, is.0.member.plan.within)) within (cases_lt p.bound (plan_cost plan))
+  where
+    no_later : (s : PlannedNode) → IsSolution p s → ¬ Precedes (key s) (key m)
+    no_later s solves = ⊎_elim (λ cut l. asymmetric (key s) (key m) l (cut.1 s solves)) (λ first. first.least s solves) is.1
+
+    within : plan_cost plan ≤ p.bound → plan_cost m.1 ≤ plan_cost plan
+    within h =
+        let w = cheaper_solution p plan valid h in
+        let l : plan_cost m.1 ≤ plan_cost w.0.1 =
+        first_le (plan_cost m.1) (plan_cost w.0.1) (length m.0.name ∷ map turn m.0.name) (length w.0.0.name ∷ map turn w.0.0.name) (no_later w.0 w.1) in
+        omega (arith, l, w.2)
+
+-- one node is at a place: two would be as many as the later one has before it
+earlier_at : (p : Problem) (n : ℕ) (a b : PlannedNode) → IsAtPlace p n a → IsAtPlace p n b → ¬ Precedes (key a) (key b)
+earlier_at p n a b h k l =
+    let fewer : length (a ∷ h.before) ≤ length k.before = distinct_le (a ∷ h.before) k.before ((λ c. irreflexive (key a) ((h.each a).0 c).1), distinct h.before h.once) inside in
+    omega (arith, fewer, h.count, k.count)
+  where
+    inside : (y : PlannedNode) → Contains (a ∷ h.before) y → Contains k.before y
+    inside y c =
+        ⊎_elim (λ e. subst (Contains k.before) e ((k.each a).1 (h.member, l)))
+        (λ i. let o = (h.each y).0 i in (k.each y).1 (o.0, transitive (key y) (key a) (key b) o.1 l)) (here_or_there h.before c)
+
+same_place : (p : Problem) (n : ℕ) (a b : PlannedNode) → IsAtPlace p n a → IsAtPlace p n b → a ≡ b
+same_place p n a b h k =
+    by_compare (key a) (key b) (λ e. same_member p a b h.member k.member e) (λ l. absurd (earlier_at p n a b h k l)) (λ l. absurd (earlier_at p n b a k h l))
+
+without_limit : (p : Problem) (a b : Answer) → IsStated p a → IsStated p b → a ≡ b
+without_limit p a b (x, is, e) (y, other, f) = e ∙ ap (stated p) (answer_is_unique p x y is other) ∙ sym f
+
+-- so the stated answer is one
+pub stated_is_unique : StatedIsUnique
+stated_is_unique p a b = go p.nodes
+  where
+    go : (o : Option ℕ) → IsAnswerUpTo o p a → IsAnswerUpTo o p b → a ≡ b
+    go None is other = without_limit p a b is other
+    go (Some n) (inl (m, cut, e)) (inl (k, other, f)) = e ∙ ap (λ (x : PlannedNode). answer.GaveUp n (plan_cost x.1)) (same_place p n m k cut.0 other.0) ∙ sym f
+    go (Some n) (inl (m, cut, e)) (inr (never, other)) = absurd (never m cut)
+    go (Some n) (inr (never, is)) (inl (k, other, f)) = absurd (never k other)
+    go (Some n) (inr (never, is)) (inr (none, other)) = without_limit p a b is other
