@@ -1,8 +1,8 @@
 #!/usr/bin/env python3
 """Makes the benchmark's maps and scenarios, the same everywhere: docs/BENCHMARK.md has the rule.
 
-Usage: instances.py FOLDER [large]. It writes NAME.map and NAME.scen for each map into the folder; with `large` those of
-tables of distances alone.
+Usage: instances.py FOLDER [large|shapes]. It writes NAME.map and NAME.scen for each map into the folder; with `large`
+those of tables of distances alone, with `shapes` those on which planners take long, and plans for two of them.
 """
 import os
 import sys
@@ -178,18 +178,49 @@ def distances(folder):
         write(folder, name, grid, lines)
 
 
+def rest(folder):
+    """1,000 agents on open ground of 512 by 512, each at its goal; and in `wait` the last goes one step. Its plan there
+    waits 99,999 times before it goes, while the others stay."""
+    cells = [(x, y) for y in range(2) for x in range(512)][:1000]
+    for name, goals in (("rest-512-512", cells), ("wait-512-512", cells[:-1] + [(488, 1)])):
+        lines = ["version 1"]
+        for start, goal in zip(cells, goals):
+            length = goal[0] - start[0]
+            lines.append(f"0\t{name}.map\t512\t512\t{start[0]}\t{start[1]}\t{goal[0]}\t{goal[1]}\t{length}")
+        write(folder, name, empty(512, 512), lines)
+    plan = [f"{x},{y}" for x, y in cells[:-1]] + ["487,1 " * 100000 + "488,1"]
+    write_lines(folder, "wait-512-512.plan", ["plan 1000 100000"] + plan)
+
+
+def snake(folder, steps):
+    """One agent goes through a corridor of so many steps, from end to end."""
+    grid, cells = corridor(steps + 1, 2046)
+    name = f"corridor-{steps}"
+    places = f"{cells[0][0]}\t{cells[0][1]}\t{cells[steps][0]}\t{cells[steps][1]}"
+    write(folder, name, grid, ["version 1", f"0\t{name}.map\t{len(grid[0])}\t{len(grid)}\t{places}\t{steps}"])
+    write_lines(folder, f"{name}.plan", [f"plan 1 {steps}", " ".join(f"{x},{y}" for x, y in cells)])
+
+
 def write(folder, name, grid, lines):
     header = ["type octile", f"height {len(grid)}", f"width {len(grid[0])}", "map"]
     rows = ["".join("." if free else "@" for free in row) for row in grid]
-    for suffix, text in ((".map", header + rows), (".scen", lines)):
-        with open(os.path.join(folder, name + suffix), "w", encoding="ascii", newline="\n") as file:
-            file.write("\n".join(text) + "\n")
+    write_lines(folder, name + ".map", header + rows)
+    write_lines(folder, name + ".scen", lines)
+
+
+def write_lines(folder, name, lines):
+    with open(os.path.join(folder, name), "w", encoding="ascii", newline="\n") as file:
+        file.write("\n".join(lines) + "\n")
 
 
 def main():
     folder = sys.argv[1]
     if sys.argv[2:] == ["large"]:
         distances(folder)
+        return
+    if sys.argv[2:] == ["shapes"]:
+        rest(folder)
+        snake(folder, 1000000)
         return
     seed = 1
     for name, make in (

@@ -1,0 +1,50 @@
+"""Runs of the program and of the plain pass, for the scripts that time them: docs/BENCHMARK.md."""
+import os
+import shutil
+import subprocess
+import sys
+import time
+
+HERE = os.path.dirname(os.path.abspath(__file__))
+
+
+def measured(words):
+    """The milliseconds and the greatest resident memory, in MB, of a run; and its output."""
+    begin = time.monotonic()
+    process = subprocess.Popen(words, stdout=subprocess.PIPE)
+    text = process.stdout.read().decode()
+    _, _, usage = os.wait4(process.pid, 0)
+    return (time.monotonic() - begin) * 1000, usage.ru_maxrss / 1024, text
+
+
+def middle(numbers):
+    return sorted(numbers)[len(numbers) // 2]
+
+
+def program(given):
+    """The program that is to be timed: the one that was given, or else that of ./mapf, which is built first."""
+    if given:
+        return given[0]
+    if subprocess.run([os.path.join(HERE, "..", "mapf"), "--help"], stdout=subprocess.DEVNULL).returncode != 0:
+        sys.exit("the program was not built")
+    return os.path.join(HERE, "..", "crates", "mapf", "out", "mapf")
+
+
+def instances(folder, kind):
+    subprocess.run([sys.executable, os.path.join(HERE, "instances.py"), folder, kind], check=True)
+
+
+def plain_pass(folder):
+    """The plain pass, built in the folder; none where there is no C compiler."""
+    if not shutil.which("cc"):
+        return None
+    peer = os.path.join(folder, "plain_distances")
+    subprocess.run(["cc", "-O2", "-o", peer, os.path.join(HERE, "plain_distances.c")], check=True)
+    return peer
+
+
+def plain(peer, name, agents):
+    """The plain pass on an instance: milliseconds of reading, of the tables, and its memory."""
+    _, memory, text = measured([peer, name + ".map", name + ".scen", str(agents)])
+    reading, tables, _ = text.split()
+    return int(reading) / 1000, int(tables) / 1000, memory
