@@ -5,11 +5,15 @@
 // first, so that the refused one is the allocation of that place in an answer or a verdict.
 #![tactic(auto)]
 
-use mapf_board::NoGate;
+ghost use Rattle.std.specs.Prelude.{◌≡◌, ◌*◌};
+
+use mapf_board::{AlwaysGrants, Left, Live, NoGate, Owner, Pair, Task, Work, WorkerSeat};
 use mapf_check::Verdict;
 use mapf_cli::{CheckFault, check_run};
+use mapf_grid::{NoMemory, instance_of};
 use mapf_plan::{Counted, DeviceFault};
 use mapf_solve::{Ask, Refusal, answer};
+use mapf_tree::{ByChild, Node, OpenList, Problem, Progress, Search, Side, child, root};
 use std::alloc::Global;
 use std::thread::Threads;
 
@@ -39,6 +43,14 @@ const CROSSING: Worked = Worked {
     scen: b"version 1\n0 open.map 3 3 1 0 1 2 2\n0 open.map 3 3 0 1 2 1 2\n",
     bound: 9,
     plan: b"plan 2 5\n1,0 1,0 1,1 1,2\n0,1 1,1 2,1\n",
+};
+
+/// Four cells in a square; two agents change places.
+const CHANGE: Worked = Worked {
+    map: b"type octile\nheight 2\nwidth 2\nmap\n..\n..\n",
+    scen: b"version 1\n0 square.map 2 2 0 0 1 0 1\n0 square.map 2 2 1 0 0 0 1\n",
+    bound: 6,
+    plan: b"plan 2 4\n0,0 0,1 1,1 1,0\n1,0 0,0\n",
 };
 
 #[derive(Drop)]
@@ -85,17 +97,192 @@ fn is_refused(alloc: Global, count: u64) -> bool {
     })
 }
 
+/// What is the square of a number?
+struct Squares;
+
+impl Task for Squares {
+    type Job = u32;
+
+    type Answer = u64;
+
+    ghost fits = { λ n square. square ≡ n * n };
+}
+
+impl Work for Squares {
+    fn number(&self, job: &u32) -> u64 {
+        u64::from(*job)
+    }
+
+    fn perform(&self, job: u32) -> Result<Pair<Squares>, u32> {
+        Ok(Pair::of(job, u64::from(job) * u64::from(job)))
+    }
+}
+
+type Board = (Live<Squares>, Owner<Squares>, Vec<WorkerSeat<Squares>>);
+
+/// A board of three slots with a job in the first and in the last; that of the middle was done and collected.
+fn board_of_two_jobs(alloc: Global) -> Result<Board, NoMemory> {
+    let (live, mut owner, mut workers) = Live::new(alloc, 3, 2).map_err(|_| NoMemory)?;
+    for slot in 0..3 {
+        let _ = live.post(&mut owner, slot, 5 + slot as u32);
+    }
+    let mut worker = workers.pop().unwrap();
+    if live.claim(&mut worker, 1).is_ok() {
+        live.work_off(&Squares, &NoGate, &AlwaysGrants, &mut worker);
+    }
+    workers.push(worker)?;
+    let _ = live.collect(&mut owner, 1);
+    Ok((live, owner, workers))
+}
+
+/// A refused `close` hands everything back, and the next one gives both jobs.
+fn closed(alloc: Global) -> Outcome {
+    let Ok((live, owner, workers)) = board_of_two_jobs(alloc) else {
+        return Outcome::NoMemory;
+    };
+    let all = match live.close(alloc, owner, workers) {
+        Ok(all) => Some(all),
+        Err((live, owner, workers)) => live.close(alloc, owner, workers).ok(),
+    };
+    match all.as_deref() {
+        Some([(0, Left::Job(5)), (2, Left::Job(7))]) => Outcome::Right,
+        _ => Outcome::Wrong,
+    }
+}
+
+fn problem_of(alloc: Global, worked: &Worked) -> Option<Problem> {
+    let instance = instance_of(alloc, worked.map, worked.scen, 2).ok()?;
+    Problem::new(alloc, instance, worked.bound as u32).ok()
+}
+
+/// The first nodes of the tree by levels, in the order of their keys.
+fn first_nodes(alloc: Global, problem: &Problem, count: usize) -> Option<Vec<Node>> {
+    let mut nodes = Vec::new(alloc);
+    nodes.push(root(alloc, problem).ok()??).ok()?;
+    let mut parent = 0;
+    while nodes.len() < count {
+        for side in [Side::Left, Side::Right] {
+            let node = nodes.get(parent)?;
+            if node.conflict().is_none() {
+                continue;
+            }
+            if let Some(below) = child(alloc, problem, node, side).ok()? {
+                nodes.push(below).ok()?;
+            }
+        }
+        parent += 1;
+    }
+    let mut waiting = OpenList::new(alloc);
+    while let Some(node) = nodes.pop() {
+        waiting.put(node).ok()?;
+    }
+    take_all(&mut waiting, &mut nodes)?;
+    Some(nodes)
+}
+
+/// Takes the nodes out, in the order of their keys.
+fn take_all(waiting: &mut OpenList, nodes: &mut Vec<Node>) -> Option<()> {
+    while let Some(node) = waiting.take_least() {
+        nodes.push(node).ok()?;
+    }
+    Some(())
+}
+
+fn copies(alloc: Global, nodes: &[Node]) -> Option<Vec<Node>> {
+    let mut same = Vec::with_capacity(alloc, nodes.len()).ok()?;
+    for node in nodes {
+        same.push(node.copy(alloc).ok()?).ok()?;
+    }
+    Some(same)
+}
+
+fn is_same(one: &Node, other: &Node) -> bool {
+    one.key() == other.key() && one.conflict() == other.conflict()
+}
+
+/// Whether these nodes wait and no other, in this order.
+fn lists(waiting: &OpenList, nodes: &[Node]) -> bool {
+    waiting.first(nodes.len() + 1).count() == nodes.len()
+        && waiting
+            .first(nodes.len())
+            .zip(nodes)
+            .all(|(waits, node)| is_same(waits, node))
+}
+
+/// Puts the nodes into a list of their own, the last first, and takes them out again. Some where a `put` was refused:
+/// whether it gave its node back and left the list as it was, and the next one put it in.
+fn fill(alloc: Global, nodes: &mut Vec<Node>, same: &[Node]) -> Option<bool> {
+    let mut waiting = OpenList::new(alloc);
+    while let Some(node) = nodes.pop() {
+        let place = nodes.len();
+        if let Err(node) = waiting.put(node) {
+            let is_as_before = is_same(&node, &same[place]) && lists(&waiting, &same[place + 1..]);
+            let is_put = waiting.put(node).is_ok() && lists(&waiting, &same[place..]);
+            return Some(is_as_before && is_put);
+        }
+    }
+    take_all(&mut waiting, nodes)?;
+    None
+}
+
+/// Fills lists until a `put` is refused. Each takes as many allocations as the one before, so it is enough to shift that
+/// place by fewer than a list takes.
+fn filled(alloc: Global, shift: u64) -> Option<bool> {
+    let problem = problem_of(alloc, &CHANGE)?;
+    let mut nodes = first_nodes(alloc, &problem, 20)?;
+    let same = copies(alloc, nodes.as_slice())?;
+    let _ = is_refused(alloc, shift);
+    (0..REFUSED).find_map(|_| fill(alloc, &mut nodes, same.as_slice()))
+}
+
+/// A search of two turns, which answers that memory ran out also from then on.
+fn searched(alloc: Global, place: u64) -> Outcome {
+    let Some(problem) = problem_of(alloc, &CROSSING) else {
+        return Outcome::Wrong;
+    };
+    let Ok(mut search) = Search::new(alloc, &problem) else {
+        return Outcome::Wrong;
+    };
+    let mut children = ByChild::new(alloc);
+    let _ = is_refused(alloc, REFUSED - place);
+    match search.go(&mut children, 2) {
+        Ok(Progress::Finished) if search.answer().is_some() => Outcome::Right,
+        Err(NoMemory) if is_out_of_memory(&mut search, &mut children) => Outcome::NoMemory,
+        _ => Outcome::Wrong,
+    }
+}
+
+/// Whether the search answers that memory ran out, and no answer.
+fn is_out_of_memory(search: &mut Search<'_>, children: &mut ByChild) -> bool {
+    search.go(children, 2).is_err() && search.answer().is_none()
+}
+
 /// What comes of the work of this letter where the allocation of this place in it is refused, and whether none was.
 fn worked_out<R: Threads + Sync>(rt: &R, alloc: Global, letter: u8, place: u64) -> (Outcome, bool) {
-    let _ = is_refused(alloc, REFUSED - place);
     let outcome = match letter {
+        b'f' => match filled(alloc, place) {
+            Some(true) => Outcome::Right,
+            _ => Outcome::Wrong,
+        },
+        b'g' => searched(alloc, place),
+        _ => {
+            let _ = is_refused(alloc, REFUSED - place);
+            unprepared(rt, alloc, letter)
+        }
+    };
+    (outcome, is_refused(alloc, REFUSED))
+}
+
+/// What comes of a work whose first allocation is the first of all.
+fn unprepared<R: Threads + Sync>(rt: &R, alloc: Global, letter: u8) -> Outcome {
+    match letter {
         b'a' => answered(rt, alloc, &BAY, 1),
         b'b' => answered(rt, alloc, &BAY, 2),
         b'c' => answered(rt, alloc, &CROSSING, 1),
         b'd' => answered(rt, alloc, &CROSSING, 2),
-        _ => judged(alloc, &BAY),
-    };
-    (outcome, is_refused(alloc, REFUSED))
+        b'e' => judged(alloc, &BAY),
+        _ => closed(alloc),
+    }
 }
 
 /// Whether it is right, or wanting memory that was refused.
