@@ -11,9 +11,9 @@ returns-in_ok-push_number-in-Vertex-3 c =
     let second = codes " " ++ decimal c.in-Vertex.second in
     let cell = codes " cell " ++ position c.args.map.now c.in-Vertex.cell in
     let time = codes " time " ++ decimal c.in-Vertex.time in
-    let agents = pushed_two start first second c.in_ok-push_number-in-Vertex.ensures c.in_ok-push_number-in-Vertex-2.ensures in
-    let place = pushed_two start (first ++ second) cell agents c.in_ok-push_position-in-Vertex.ensures in
-    rw c.in-Vertex.is (pushed_two start (first ++ second ++ cell) time place c.in_ok-push_number-in-Vertex-3.ensures)
+    let agents = pushed_two start first second c.in_ok-push_number-in-Vertex.ensures.appended c.in_ok-push_number-in-Vertex-2.ensures.appended in
+    let place = pushed_two start (first ++ second) cell agents c.in_ok-push_position-in-Vertex.ensures.appended in
+    rw c.in-Vertex.is (pushed_two start (first ++ second ++ cell) time place c.in_ok-push_number-in-Vertex-3.ensures.appended)
 
 pub returns-in_ok-push_number-in-Swapping-3 : goal.returns-in_ok-push_number-in-Swapping-3
 returns-in_ok-push_number-in-Swapping-3 c =
@@ -23,7 +23,7 @@ returns-in_ok-push_number-in-Swapping-3 c =
     let from = codes " from " ++ position c.args.map.now c.in-Swapping.from in
     let to = codes " to " ++ position c.args.map.now c.in-Swapping.to in
     let time = codes " time " ++ decimal c.in-Swapping.time in
-    let agents = pushed_two start first second c.in_ok-push_number-in-Swapping.ensures c.in_ok-push_number-in-Swapping-2.ensures in
-    let left = pushed_two start (first ++ second) from agents c.in_ok-push_position-in-Swapping.ensures in
-    let there = pushed_two start (first ++ second ++ from) to left c.in_ok-push_position-in-Swapping-2.ensures in
-    rw c.in-Swapping.is (pushed_two start (first ++ second ++ from ++ to) time there c.in_ok-push_number-in-Swapping-3.ensures)
+    let agents = pushed_two start first second c.in_ok-push_number-in-Swapping.ensures.appended c.in_ok-push_number-in-Swapping-2.ensures.appended in
+    let left = pushed_two start (first ++ second) from agents c.in_ok-push_position-in-Swapping.ensures.appended in
+    let there = pushed_two start (first ++ second ++ from) to left c.in_ok-push_position-in-Swapping-2.ensures.appended in
+    rw c.in-Swapping.is (pushed_two start (first ++ second ++ from ++ to) time there c.in_ok-push_number-in-Swapping-3.ensures.appended)

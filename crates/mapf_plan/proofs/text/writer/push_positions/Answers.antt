@@ -8,5 +8,5 @@ use Rattle.mapf_plan.proofs.text.writer.push_positions.Goals as goal
 pub returns-in_ok-push_position : goal.returns-in_ok-push_position
 returns-in_ok-push_position c =
     IfOk-equal _ _ _ _ c.push_further.ensures
-    (rw (c.in_ok-push_position.ensures, append_assoc)
+    (rw (c.in_ok-push_position.ensures.appended, append_assoc)
     (ap (λ l. string_bytes c.args.text.now ++ l) (join_with_byte-first (position c.args.map.now) 32 c.args.path.now _ c.first-item.is (omega arith))))
