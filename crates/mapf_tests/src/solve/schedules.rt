@@ -83,6 +83,14 @@ fn is_plan(answer: Option<Answer>, cost: u64, first: &[u32], second: &[u32]) -> 
     }
 }
 
+/// Whether it is that no plan costs at most this bound.
+fn is_none(answer: Option<Answer>, limit: u32) -> bool {
+    match answer {
+        Some(Answer::None { bound }) => bound == limit,
+        _ => false,
+    }
+}
+
 /// What two workers answer who are granted memory by a supply.
 fn supplied<R: Threads + Sync, S: Supply>(
     rt: &R,
@@ -110,12 +118,13 @@ fn answers_with<R: Threads + Sync, S: Supply>(rt: &R, alloc: Global, supply: &S)
         4,
         &[0, 2, 3, 1],
         &[1, 0],
-    ) && is_plan(
-        supplied(rt, alloc, &CROSSING, 9, supply),
-        5,
-        &[1, 1, 4, 7],
-        &[3, 4, 5],
-    )
+    ) && is_none(supplied(rt, alloc, &CHANGE, 3, supply), 3)
+        && is_plan(
+            supplied(rt, alloc, &CROSSING, 9, supply),
+            5,
+            &[1, 1, 4, 7],
+            &[3, 4, 5],
+        )
 }
 
 #[test]
@@ -176,10 +185,8 @@ fn answers_at<R: Threads + Sync>(
         4,
         &[0, 2, 3, 1],
         &[1, 0],
-    ) && matches!(
-        paced(rt, alloc, &CANNOT_PASS, 6, workers, pace),
-        Some(Answer::None { bound: 6 })
-    )
+    ) && is_none(paced(rt, alloc, &CHANGE, 3, workers, pace), 3)
+        && is_none(paced(rt, alloc, &CANNOT_PASS, 6, workers, pace), 6)
 }
 
 /// Whether they have their answers with workers of no turn and of one, and with sessions of one node and of two.
