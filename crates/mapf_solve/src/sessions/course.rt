@@ -126,7 +126,7 @@ fn lead<'p, 's, G: Gate>(
     (course, desk)
 }
 
-/// The coordinator's part of a session, and beside it that of the workers, who begin first.
+/// The coordinator's part of a session, and beside it that of the workers.
 fn side_by_side<'p, 's, R: Threads + Sync, G: Gate, S: Supply>(
     rt: &R,
     live: &Live<SideWork<'p>>,
