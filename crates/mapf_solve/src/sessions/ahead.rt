@@ -67,18 +67,6 @@ impl<'p> Entry<'p> {
             Side::Right => self.right = known,
         }
     }
-
-    /// Slots are remembered no longer.
-    fn forget_slots(&mut self)
-        ensures { (p : Problem) → IsEntryOf p self.old → IsEntryOf p self.new }
-    {
-        if let Known::Posted(_) = self.left {
-            self.left = Known::Nothing;
-        }
-        if let Known::Posted(_) = self.right {
-            self.right = Known::Nothing;
-        }
-    }
 }
 
 /// What is known of the children of nodes of a problem's tree that wait.
@@ -172,9 +160,24 @@ impl<'p> Ahead<'p> {
     pub(crate) fn note_undone(&mut self, job: &SideJob<'p>)
         ensures { self.new ≡ self.old }
     {
+        self.set(job, Known::Undone);
+    }
+
+    /// A job is posted no longer.
+    pub(crate) fn forget(&mut self, job: &SideJob<'p>)
+        ensures { self.new ≡ self.old }
+    {
+        self.set(job, Known::Nothing);
+    }
+
+    /// Another thing is known of the child that a job is for, where its node still waits.
+    fn set(&mut self, job: &SideJob<'p>, known: Known<'p>)
+        requires { IsKnownOf self.old known }
+        ensures { self.new ≡ self.old }
+    {
         let below = self.entries.len();
         if let Ok(place) = place_of(&self.entries, below, job.node().key()) {
-            set_known(&mut self.entries, place, job.side(), Known::Undone);
+            set_known(&mut self.entries, place, job.side(), known);
         }
     }
 
@@ -199,13 +202,6 @@ impl<'p> Ahead<'p> {
             None => false,
         }
     }
-
-    /// The slots are those of a board that is closed.
-    pub(crate) fn forget_slots(&mut self)
-        ensures { self.new ≡ self.old }
-    {
-        forget_all_slots(&mut self.entries);
-    }
 }
 
 /// Another thing is known of the child with this place and side.
@@ -214,24 +210,6 @@ fn set_known<'p>(entries: &mut Vec<Entry<'p>>, place: usize, side: Side, known: 
     ensures { (p : Problem) → All (IsEntryOf p) entries.old.items → IsKnownOf p known.entry → All (IsEntryOf p) entries.new.items }
 {
     entries[place].set(side, known);
-}
-
-/// No slot is remembered any longer.
-fn forget_all_slots(entries: &mut Vec<Entry<'_>>)
-    ensures { (p : Problem) → All (IsEntryOf p) entries.old.items → All (IsEntryOf p) entries.new.items }
-{
-    for place in 0..entries.len() {
-        forget_slots_at(entries, place);
-    }
-}
-
-/// The slots of the children with this place are remembered no longer.
-fn forget_slots_at(entries: &mut Vec<Entry<'_>>, place: usize)
-    ensures { (p : Problem) → All (IsEntryOf p) entries.old.items → All (IsEntryOf p) entries.new.items }
-{
-    if place < entries.len() {
-        entries[place].forget_slots();
-    }
 }
 
 /// Puts an entry in at a place. False where memory runs out.

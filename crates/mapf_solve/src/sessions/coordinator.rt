@@ -1,11 +1,10 @@
 //! The coordinator of a session, who posts jobs on a live board and takes back what becomes of them.
 
-ghost use Rattle.std.specs.Prelude.{◌≡◌, ◌<◌, ◌≤◌, All, IfSome, IfOk, Some};
-ghost use Rattle.mapf_board.specs.Owners.{currents, current_in};
-ghost use Rattle.mapf_board.specs.declared.limits.TheConstants.{MOST_SLOTS, MOST_WORKERS};
+ghost use Rattle.std.specs.Prelude.{◌≡◌, ◌≤◌, All, IfSome};
+ghost use Rattle.mapf_board.specs.Owners.{currents};
+ghost use Rattle.mapf_board.specs.declared.limits.TheConstants.{MOST_WORKERS};
 ghost use Rattle.mapf_tree.specs.Nodes.{AllStand};
 ghost use Rattle.mapf_tree.specs.Family.{IsBranching};
-ghost use Rattle.mapf_solve.specs.Jobs.{HasNoNew};
 ghost use Rattle.mapf_solve.specs.Ahead.{AreSidesOf, IsGivenOf, IsKnownOf};
 
 use crate::sessions::ahead::{Ahead, Known};
@@ -99,25 +98,25 @@ impl<'p> Coordinator<'p> {
         }
     }
 
-    /// Keeps a child that a worker worked out, where its node still waits.
-    fn keep_answer(&mut self, given: Given<'p>)
+    /// Keeps what a board leaves that is closed, which is something for each slot that has a job: the children that were
+    /// worked out, and no job.
+    pub(crate) fn keep_all(&mut self, left: Vec<(usize, Given<'p>)>)
+        requires { All (λ x. IsGivenOf self.old.ahead x.1) left.items }
+        ensures { self.new.ahead ≡ self.old.ahead }
+    {
+        for (_slot, given) in left {
+            self.keep_last(given);
+        }
+    }
+
+    /// Keeps what a closed board leaves in a slot: a child that was worked out, where its node still waits, and no job.
+    fn keep_last(&mut self, given: Given<'p>)
         requires { IsGivenOf self.old.ahead given }
         ensures { self.new.ahead ≡ self.old.ahead }
     {
         match given {
             Left::Answer(pair) => self.ahead.keep(Worked::by(pair)),
-            Left::Job(_) => {}
-        }
-    }
-
-    /// Keeps what a board leaves that is closed: the children that were worked out, and no slot.
-    pub(crate) fn keep_all(&mut self, left: Vec<(usize, Given<'p>)>)
-        requires { All (λ x. IsGivenOf self.old.ahead x.1) left.items }
-        ensures { self.new.ahead ≡ self.old.ahead }
-    {
-        self.ahead.forget_slots();
-        for (_slot, given) in left {
-            self.keep_answer(given);
+            Left::Job(job) => self.ahead.forget(&job),
         }
     }
 
@@ -164,75 +163,46 @@ impl<'p> Coordinator<'p> {
         true
     }
 
-    /// The children of the node whose turn is next: as workers made them, or worked out now.
+    /// What became of the jobs for the children of the node whose turn is next. What is missing is worked out as it is
+    /// needed.
     pub(crate) fn ready<G: Gate>(
         &mut self,
         desk: &mut Desk<'_, SideWork<'p>>,
         waiting: &OpenList,
         gate: &G,
     ) -> Ready<'p>
-        requires nodes { AllStand self.old.ahead waiting.now }
         requires jobs { AreSidesOf self.old.ahead (currents desk.old.owner) }
         ensures problem { self.new.ahead ≡ self.old.ahead }
         ensures live { desk.new.live ≡ desk.old.live }
         ensures jobs { AreSidesOf self.old.ahead (currents desk.new.owner) }
         ensures ready { result ≡ self.old.ahead }
     {
-        let problem = self.ahead.problem();
-        let mut left = None;
-        let mut right = None;
-        if let Some(node) = waiting.first(1).next() {
-            if node.conflict().is_some() {
-                let known = self.ahead.take(node);
-                left = self.side(desk, node, Side::Left, known.0, gate);
-                right = self.side(desk, node, Side::Right, known.1, gate);
-            }
-        }
-        Ready::new(self.alloc, problem, left, right)
+        let (left, right) = match waiting.first(1).next() {
+            Some(node) => self.ahead.take(node),
+            None => (Known::Nothing, Known::Nothing),
+        };
+        let left = self.fetch(desk, left, gate);
+        let right = self.fetch(desk, right, gate);
+        Ready::new(self.alloc, self.ahead.problem(), left, right)
     }
 
-    /// A child of a node whose turn it is, of which this is known. None where memory runs out.
-    fn side<G: Gate>(
-        &mut self,
+    /// A child of which this is known; where it was posted, what became of its job. None where it is still to be worked out.
+    fn fetch<G: Gate>(
+        &self,
         desk: &mut Desk<'_, SideWork<'p>>,
-        node: &Node,
-        side: Side,
         known: Known<'p>,
         gate: &G,
     ) -> Option<Worked<'p>>
-        requires node { IsBranching self.old.ahead node.now }
-        requires known { IsKnownOf self.old.ahead known }
-        requires jobs { AreSidesOf self.old.ahead (currents desk.old.owner) }
-        ensures problem { self.new.ahead ≡ self.old.ahead }
+        requires known { IsKnownOf self.now.ahead known }
+        requires jobs { AreSidesOf self.now.ahead (currents desk.old.owner) }
         ensures live { desk.new.live ≡ desk.old.live }
-        ensures jobs { AreSidesOf self.old.ahead (currents desk.new.owner) }
-        ensures worked { IfSome result (λ w. w.job.problem ≡ self.old.ahead) }
+        ensures jobs { AreSidesOf self.now.ahead (currents desk.new.owner) }
+        ensures worked { IfSome result (λ w. w.job.problem ≡ self.now.ahead) }
     {
-        let worked = match known {
+        match known {
             Known::Worked(worked) => Some(worked),
-            Known::Posted(slot) => fetched(desk, slot, gate),
+            Known::Posted(slot) => Some(Worked::by(desk.fetch(slot, gate)?)),
             Known::Nothing | Known::Undone => None,
-        };
-        match worked {
-            Some(worked) => Some(worked),
-            None => Worked::alone(self.alloc, self.ahead.problem(), node, side),
         }
-    }
-}
-
-/// What became of the job of a slot; where nobody claimed it, it is performed now.
-fn fetched<'p, G: Gate>(
-    desk: &mut Desk<'_, SideWork<'p>>,
-    slot: usize,
-    gate: &G,
-) -> Option<Worked<'p>>
-    requires { slot < MOST_SLOTS }
-    ensures live { desk.new.live ≡ desk.old.live }
-    ensures jobs { HasNoNew (currents desk.old.owner) (currents desk.new.owner) }
-    ensures current { IfSome result (λ w. current_in desk.old.owner slot ≡ Some w.job) }
-{
-    match desk.fetch(slot, gate) {
-        Some(pair) => Some(Worked::by(pair)),
-        None => None,
     }
 }

@@ -86,12 +86,11 @@ impl<'p> Course<'p> {
 }
 
 /// Takes the next node, whose children these are. A search that found no memory goes on no more.
-fn take_next<'p>(search: &mut Search<'p>, ready: Ready<'p>) -> Progress
+fn take_next<'p>(search: &mut Search<'p>, mut ready: Ready<'p>) -> Progress
     requires { ready ≡ search.old.problem }
     ensures problem { search.new.problem ≡ search.old.problem }
     ensures working { result ≡ Progress.Working → (search.new.outcome ≡ Ok None) × TakesBetween search.old.problem search.old.last search.new.last 1 }
 {
-    let mut ready = ready;
     match search.go(&mut ready, 1) {
         Ok(progress) => progress,
         Err(_) => Progress::Finished,
@@ -100,8 +99,8 @@ fn take_next<'p>(search: &mut Search<'p>, ready: Ready<'p>) -> Progress
 
 /// The coordinator's part of a session, at most so many turns; then the board is shut.
 fn lead<'p, 's, G: Gate>(
-    course: Course<'p>,
-    desk: Desk<'s, SideWork<'p>>,
+    mut course: Course<'p>,
+    mut desk: Desk<'s, SideWork<'p>>,
     turns: u64,
     gate: &G,
 ) -> (Course<'p>, Desk<'s, SideWork<'p>>)
@@ -113,8 +112,6 @@ fn lead<'p, 's, G: Gate>(
     ensures jobs { AreSidesOf course.entry.coordinator.ahead (currents result.1.owner) }
     ensures working { result.0.progress ≡ Progress.Working → (result.0.search.outcome ≡ Ok None) × TakesOn course.entry.search.problem course.entry.search.last result.0.search.last }
 {
-    let mut course = course;
-    let mut desk = desk;
     course.turn(&mut desk, gate);
     for _turn in 1..turns {
         match course.progress {
@@ -184,14 +181,13 @@ pub(crate) fn session<'p, R: Threads + Sync, G: Gate, S: Supply>(
     pace: Pace,
     gate: &G,
     supply: &S,
-    course: Course<'p>,
+    mut course: Course<'p>,
 ) -> Result<Course<'p>, NoMemory>
     requires workers { (0 < workers) × (workers ≤ MOST_WORKERS) }
     requires open_yet { course.search.outcome ≡ Ok None }
     ensures problem { IfOk result (λ c. c.search.problem ≡ course.entry.search.problem) }
     ensures working { IfOk result (λ c. c.progress ≡ Progress.Working → (c.search.outcome ≡ Ok None) × TakesOn course.entry.search.problem course.entry.search.last c.search.last) }
 {
-    let mut course = course;
     let work = SideWork::new(alloc);
     let Ok((live, owner, seats)) = Live::<SideWork<'p>>::new(alloc, MOST_SLOTS, workers) else {
         return Err(NoMemory);

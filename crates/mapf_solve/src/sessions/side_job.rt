@@ -85,26 +85,6 @@ impl<'p> Model for Worked<'p> {
 }
 
 impl<'p> Worked<'p> {
-    /// A child of a node, worked out without a gate; none where memory runs out.
-    pub(crate) fn alone(
-        alloc: Global,
-        problem: &'p Problem,
-        node: &Node,
-        side: Side,
-    ) -> Option<Worked<'p>>
-        requires { IsBranching problem.now node.now }
-        ensures { IfSome result (λ w. w.job.problem ≡ problem.now) }
-    {
-        let Ok(child) = child(alloc, problem, node, side) else {
-            return None;
-        };
-        let Ok(copy) = node.copy(alloc) else {
-            return None;
-        };
-        let job = SideJob::of(problem, copy, side, 0);
-        Some(Worked { job, child })
-    }
-
     /// What a worker worked out, whatever the gate was.
     pub(crate) fn by(pair: Pair<SideWork<'p>>) -> Worked<'p>
         ensures { result.job ≡ pair.entry.0 }
