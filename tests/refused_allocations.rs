@@ -9,12 +9,13 @@ ghost use Rattle.std.specs.Prelude.{◌≡◌, ◌*◌};
 
 use mapf_board::{AlwaysGrants, Left, Live, NoGate, Owner, Pair, Task, Work, WorkerSeat};
 use mapf_check::Verdict;
-use mapf_cli::{CheckFault, check_run};
+use mapf_cli::{CheckFault, call, check_run};
 use mapf_grid::{NoMemory, instance_of};
 use mapf_plan::{Counted, DeviceFault};
 use mapf_solve::{Ask, Refusal, answer};
 use mapf_tree::{ByChild, Node, OpenList, Problem, Progress, Search, Side, child, root};
 use std::alloc::Global;
+use std::rt::Files;
 use std::thread::Threads;
 
 /// The number of the refused allocation, which the script gives.
@@ -87,6 +88,51 @@ fn judged(alloc: Global, worked: &Worked) -> Outcome {
         )) => Outcome::NoMemory,
         _ => Outcome::Wrong,
     }
+}
+
+/// Command lines of the program, on files that the script writes: those of the corridor with a bay.
+const SOLVE: &[&str] = &[
+    "mapf", "solve", "--map", "map", "--scen", "scen", "--agents", "2", "--bound", "4", "--workers", "2",
+];
+const CHECK: &[&str] = &[
+    "mapf", "check", "--map", "map", "--scen", "scen", "--agents", "2", "--plan", "plan",
+];
+
+fn words_of(alloc: Global, words: &[&str]) -> Option<Vec<String>> {
+    let mut all = Vec::with_capacity(alloc, words.len()).ok()?;
+    for word in words {
+        let mut text = String::new(alloc);
+        text.push_str(word).ok()?;
+        all.push(text).ok()?;
+    }
+    Some(all)
+}
+
+/// What the program says to these words: what is right, with the status 0; or that there is no memory, with the status 4 and
+/// nothing on its output.
+fn called<R: Files + Threads + Sync>(
+    rt: &R,
+    alloc: Global,
+    words: &[&str],
+    right: &[u8],
+    place: u64,
+) -> Option<Outcome> {
+    let words = words_of(alloc, words)?;
+    let mut out = Vec::with_capacity(alloc, 100).ok()?;
+    let mut err = Vec::with_capacity(alloc, 100).ok()?;
+    let _ = is_refused(alloc, REFUSED - place);
+    let status = call(
+        rt,
+        alloc,
+        words,
+        &mut Counted::of(&mut out),
+        &mut Counted::of(&mut err),
+    );
+    Some(match status {
+        0 if out.as_slice() == right && err.is_empty() => Outcome::Right,
+        4 if out.is_empty() && err.as_slice() == b"mapf: 43 no memory\n".as_slice() => Outcome::NoMemory,
+        _ => Outcome::Wrong,
+    })
 }
 
 /// Whether one of so many allocations is refused.
@@ -258,13 +304,15 @@ fn is_out_of_memory(search: &mut Search<'_>, children: &mut ByChild) -> bool {
 }
 
 /// What comes of the work of this letter where the allocation of this place in it is refused, and whether none was.
-fn worked_out<R: Threads + Sync>(rt: &R, alloc: Global, letter: u8, place: u64) -> (Outcome, bool) {
+fn worked_out<R: Files + Threads + Sync>(rt: &R, alloc: Global, letter: u8, place: u64) -> (Outcome, bool) {
     let outcome = match letter {
         b'f' => match filled(alloc, place) {
             Some(true) => Outcome::Right,
             _ => Outcome::Wrong,
         },
         b'g' => searched(alloc, place),
+        b'i' => called(rt, alloc, SOLVE, BAY.plan, place).unwrap_or(Outcome::Wrong),
+        b'j' => called(rt, alloc, CHECK, b"valid 4\n", place).unwrap_or(Outcome::Wrong),
         _ => {
             let _ = is_refused(alloc, REFUSED - place);
             unprepared(rt, alloc, letter)
@@ -286,7 +334,7 @@ fn unprepared<R: Threads + Sync>(rt: &R, alloc: Global, letter: u8) -> Outcome {
 }
 
 /// Whether it is right, or wanting memory that was refused.
-fn is_right_or_wanting<R: Threads + Sync>(rt: &R, alloc: Global, letter: u8, place: u64) -> bool {
+fn is_right_or_wanting<R: Files + Threads + Sync>(rt: &R, alloc: Global, letter: u8, place: u64) -> bool {
     match worked_out(rt, alloc, letter, place) {
         (Outcome::Right, _) => true,
         (Outcome::NoMemory, is_untouched) => !is_untouched,
@@ -295,6 +343,6 @@ fn is_right_or_wanting<R: Threads + Sync>(rt: &R, alloc: Global, letter: u8, pla
 }
 
 /// Whether it is right and has fewer allocations than that.
-fn is_untouched<R: Threads + Sync>(rt: &R, alloc: Global, letter: u8, place: u64) -> bool {
+fn is_untouched<R: Files + Threads + Sync>(rt: &R, alloc: Global, letter: u8, place: u64) -> bool {
     matches!(worked_out(rt, alloc, letter, place), (Outcome::Right, true))
 }
