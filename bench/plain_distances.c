@@ -1,8 +1,9 @@
 /* A plain breadth-first pass, to compare with: MAP SCEN AGENTS.
  *
  * It reads a map of MovingAI's format, makes one table of distances for the goal of each of the scenario's first rows,
- * four bytes a cell, and keeps them all. It prints the microseconds of reading and of all tables, and the sum of the
- * distances from the starts. Files are taken to be well formed. docs/BENCHMARK.md tells how it is used. */
+ * four bytes a cell, and keeps them all; then it writes each agent's way down its table into one text. It prints the
+ * microseconds of reading, of all tables and of the text, and the text's length. Files are taken to be well formed.
+ * docs/BENCHMARK.md tells how it is used. */
 #include <stdint.h>
 #include <stdio.h>
 #include <stdlib.h>
@@ -80,16 +81,44 @@ static double microseconds(void) {
     return now.tv_sec * 1e6 + now.tv_nsec / 1e3;
 }
 
+static char *decimal(char *text, uint32_t number) {
+    char digits[10];
+    int count = 0;
+    do digits[count++] = '0' + number % 10; while (number /= 10);
+    while (count) *text++ = digits[--count];
+    return text;
+}
+
+/* The next cell on a way to the goal, or the same one at the goal. */
+static uint32_t next(const struct map *map, const uint32_t *table, uint32_t cell) {
+    uint32_t distance = table[cell] - 1, cells = map->width * map->height;
+    if (table[cell] == 0) return cell;
+    if (cell >= map->width && table[cell - map->width] == distance) return cell - map->width;
+    if (cell % map->width > 0 && table[cell - 1] == distance) return cell - 1;
+    if (cell % map->width + 1 < map->width && table[cell + 1] == distance) return cell + 1;
+    return cell + map->width < cells ? cell + map->width : cell;
+}
+
+static char *way(const struct map *map, const uint32_t *table, uint32_t cell, char *text) {
+    for (uint32_t left = table[cell]; ; left--, cell = next(map, table, cell)) {
+        text = decimal(text, cell % map->width);
+        *text++ = ',';
+        text = decimal(text, cell / map->width);
+        *text++ = left ? ' ' : '\n';
+        if (!left) return text;
+    }
+}
+
 int main(int count, char **words) {
     if (count != 4) {
         fputs("usage: plain_distances MAP SCEN AGENTS\n", stderr);
         return 2;
     }
-    double begin = microseconds(), reading, tables = 0;
+    double begin = microseconds(), reading, tables = 0, writing = 0;
     struct map map = read_map(file_bytes(words[1]));
     const char *row = file_bytes(words[2]);
     reading = microseconds() - begin;
-    uint64_t sum = 0;
+    size_t length = 0;
     for (int agent = 0; agent < atoi(words[3]); agent++) {
         uint32_t start_x, start_y, goal_x, goal_y;
         row = strchr(row, '\n') + 1;
@@ -97,8 +126,13 @@ int main(int count, char **words) {
         begin = microseconds();
         const uint32_t *table = distances_to(&map, goal_y * map.width + goal_x);
         tables += microseconds() - begin;
-        sum += table[start_y * map.width + start_x];
+        begin = microseconds();
+        uint32_t start = start_y * map.width + start_x;
+        char *text = allocated(12 * ((size_t)table[start] + 1));
+        length += way(&map, table, start, text) - text;
+        free(text);
+        writing += microseconds() - begin;
     }
-    printf("%.0f %.0f %llu\n", reading, tables, (unsigned long long)sum);
+    printf("%.0f %.0f %.0f %llu\n", reading, tables, writing, (unsigned long long)length);
     return 0;
 }

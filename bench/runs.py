@@ -34,17 +34,19 @@ def instances(folder, kind):
     subprocess.run([sys.executable, os.path.join(HERE, "instances.py"), folder, kind], check=True)
 
 
-def plain_pass(folder):
-    """The plain pass, built in the folder; none where there is no C compiler."""
+def plain_programs(folder):
+    """The plain pass and the plain check, built in the folder; none where there is no C compiler."""
     if not shutil.which("cc"):
         return None
-    peer = os.path.join(folder, "plain_distances")
-    subprocess.run(["cc", "-O2", "-o", peer, os.path.join(HERE, "plain_distances.c")], check=True)
-    return peer
+    peers = []
+    for name in ("plain_distances", "plain_check"):
+        peers.append(os.path.join(folder, name))
+        subprocess.run(["cc", "-O2", "-o", peers[-1], os.path.join(HERE, name + ".c")], check=True)
+    return peers
 
 
 def plain(peer, name, agents):
-    """The plain pass on an instance: milliseconds of reading, of the tables, and its memory."""
+    """The plain pass on an instance: milliseconds of reading and of the tables, and its memory."""
     _, memory, text = measured([peer, name + ".map", name + ".scen", str(agents)])
-    reading, tables, _ = text.split()
+    reading, tables, _, _ = text.split()
     return int(reading) / 1000, int(tables) / 1000, memory
