@@ -67,7 +67,7 @@ impl Constraints {
     }
 
     /// The constraints, in an order of their own.
-    pub(crate) fn as_slice(&self) -> &[Constraint]
+    pub fn as_slice(&self) -> &[Constraint]
         ensures { result.now ≡ self.now }
     {
         self.sorted.as_slice()

@@ -1,5 +1,5 @@
 -- One change more at the end of a chain.
-use Rattle.std.proofs.Common.{◌≡◌, ◌≢◌, ◌↔◌, ℕ, suc, ◌+◌, ◌<◌, ◌≤◌, List, [], ◌∷◌, ◌++◌, length, take, take_all, map, get_or, set, All, Option, Result, Ok, Err, IfOk, replicate, ap₂, refl, sym, ap, ◌∙◌, subst, arith, Contains}
+use Rattle.std.proofs.Common.{◌≡◌, ◌≢◌, ◌↔◌, ℕ, suc, ◌+◌, ◌<◌, ◌≤◌, List, [], ◌∷◌, ◌++◌, length, take, take_all, map, get_or, set, All, Option, Some, None, option_map, Result, Ok, Err, IfOk, IfSome, replicate, ap₂, refl, sym, ap, ◌∙◌, subst, arith, Contains}
 use Rattle.std.proofs.Math.Seq.{take-suc}
 use Rattle.std.proofs.lemmas.List.{length-set, length-map, length_push, get_or-map}
 use Rattle.std.proofs.lemmas.List.Elements.{All-push}
@@ -8,7 +8,7 @@ use Rattle.mapf_low.specs.declared.constraint.Constraint.{Constraint}
 use Rattle.mapf_plan.specs.Plan.{path_of, plan_cost}
 use Rattle.mapf_plan.specs.declared.conflict.Conflict.{Conflict}
 use Rattle.mapf_tree.specs.declared.side.Side.{Side}
-use Rattle.mapf_tree.specs.Nodes.{Node, node_of, IsConflictOf, IsSameSet, AgreesWith, Changed, changed_plan, changed_sets}
+use Rattle.mapf_tree.specs.Nodes.{Node, node_of, IsConflictOf, IsSameSet, AgreesWith, Changed, IsTurnedTo, changed_plan, changed_sets}
 use Rattle.mapf_tree.proofs.ConstraintSets.{IsWith, IsWith-cons}
 
 -- the last change is made last
@@ -37,12 +37,18 @@ taken_more f xs k x inside is =
     ∙ ap (λ y. take k (map f xs) ++ y ∷ []) (get_or-map f xs k x (f x) inside ∙ ap f (sym is))
 
 -- an agent's path after one change more
-pub path_more : (plan : List (List ℕ)) (xs : List Changed) (x : Changed) (agent : ℕ) (old new : List ℕ) → agent < length plan → old ≡ path_of (changed_plan plan xs) agent →
-    (x.agent ≡ agent → new ≡ x.path) → (x.agent ≢ agent → new ≡ old) → new ≡ path_of (changed_plan plan (xs ++ x ∷ [])) agent
-path_more plan xs x agent old new inside is own other =
+pub turned_more : {X : Type 0} (value : X → List ℕ) (plan : List (List ℕ)) (xs : List Changed) (x : Changed) (agent : ℕ) (old new : Option X) → agent < length plan → IsTurnedTo plan xs agent (option_map value old) →
+    (x.agent ≡ agent → option_map value new ≡ Some x.path) → (x.agent ≢ agent → new ≡ old) → IsTurnedTo plan (xs ++ x ∷ []) agent (option_map value new)
+turned_more value plan xs x agent old new inside is own other =
     let within = subst (λ n. agent < n) (sym (length-changed_plan plan xs)) inside in
-    set_cases (λ q. new ≡ q) (changed_plan plan xs) x.agent agent x.path [] within own (λ n. other n ∙ is)
-    ∙ ap (λ p. path_of p agent) (sym (changed_plan-push plan xs x))
+    set_cases (λ q. q ≡ path_of (changed_plan plan (xs ++ x ∷ [])) agent → IsTurnedTo plan (xs ++ x ∷ []) agent (option_map value new)) (changed_plan plan xs) x.agent agent x.path [] within
+    (λ e h. subst (IsTurnedTo plan (xs ++ x ∷ []) agent) (sym (own e)) (sym h))
+    (λ n h. subst (λ r. IsTurnedTo plan (xs ++ x ∷ []) agent (option_map value r)) (sym (other n)) (kept (option_map value old) h is))
+    (ap (λ p. path_of p agent) (sym (changed_plan-push plan xs x)))
+  where
+    kept : (found : Option (List ℕ)) → path_of (changed_plan plan xs) agent ≡ path_of (changed_plan plan (xs ++ x ∷ [])) agent → IsTurnedTo plan xs agent found → IsTurnedTo plan (xs ++ x ∷ []) agent found
+    kept None h is = sym h ∙ is
+    kept (Some path) h is = sym h ∙ is
 
 -- an agent's constraints after one change more
 pub sets_more : (sets : List (List Constraint)) (xs : List Changed) (x : Changed) (agent : ℕ) (old new : List Constraint) → agent < length sets →
@@ -79,6 +85,13 @@ module _ (name : List Side) (root : List (List ℕ)) (xs : List Changed) (confli
   all_at_root plan changes e f all =
       subst (λ l. All (λ x. x.agent < length plan) l) (sym f)
       (subst (λ n. All (λ x. x.agent < n) xs) (length-changed_plan root xs ∙ sym (ap length e)) all)
+
+  -- a path that one of a node's changes gave an agent is the agent's
+  pub turned_at : {X : Type 0} (value : X → List ℕ) (agent : ℕ) (found : Option X) (changes : List Changed) → changes ≡ xs → agent < length node.plan →
+      ((plan : List (List ℕ)) → agent < length plan → IsTurnedTo plan changes agent (option_map value found)) → IfSome found (λ p. value p ≡ path_of node.plan agent)
+  turned_at value agent None changes e inside turned = tt
+  turned_at value agent (Some p) changes e inside turned =
+      sym (turned root (at_root agent root refl inside)) ∙ ap (λ l. path_of (changed_plan root l) agent) e ∙ ap (λ (n : Node). path_of n.plan agent) is
 
   -- an agent's constraints, as they are gathered from the changes
   pub sets_at : (agent : ℕ) (set : List Constraint) (changes : List Changed) → changes ≡ xs → agent < length node.plan →

@@ -18,6 +18,8 @@ pub mod Tables
 pub mod RootNodes
 pub mod Chains
 pub mod SideNodes
+pub mod Queries
+pub mod SameSets
 pub mod Rising
 pub mod OpenNodes
 pub mod TurnLemmas

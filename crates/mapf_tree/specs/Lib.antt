@@ -4,6 +4,7 @@ pub mod Cut
 pub mod Answered
 pub mod Nodes
 pub mod Family
+pub mod SideQuery
 pub mod Laws
 pub mod OpenList
 pub mod Search

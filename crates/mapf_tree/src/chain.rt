@@ -1,10 +1,10 @@
 //! What a chain of changes makes of the root's plan, and of no constraints.
 
-ghost use Rattle.std.specs.Prelude.{◌≡◌, ◌≢◌, ◌↔◌, ◌<◌, ℕ, ◌⊎◌, [], All, length, map, replicate, slice_index_or, IfOk, Contains};
+ghost use Rattle.std.specs.Prelude.{◌≡◌, ◌≢◌, ◌↔◌, ◌<◌, ℕ, ◌⊎◌, [], All, length, map, replicate, slice_index_or, option_map, List, Some, IfOk, Contains};
 ghost use Rattle.std.specs.Arc.{arc_value};
 ghost use Rattle.mapf_plan.specs.Plan.{path_of};
 ghost use Rattle.mapf_low.specs.declared.constraint.Constraint.{Constraint};
-ghost use Rattle.mapf_tree.specs.Nodes.{changed_plan, changed_sets};
+ghost use Rattle.mapf_tree.specs.Nodes.{IsTurnedTo, changed_plan, changed_sets};
 
 use crate::change::Change;
 use crate::current_paths::CurrentPaths;
@@ -19,20 +19,34 @@ pub(crate) fn path_after<'a>(root: &'a Plan, changes: &'a [Arc<Change>], agent: 
     requires { agent < length root.now }
     ensures { result.now ≡ path_of (changed_plan root.now (map arc_value changes.now)) agent }
 {
-    let mut path = &root.paths()[agent];
+    match turned_path(changes, agent) {
+        Some(path) => path,
+        None => &root.paths()[agent],
+    }
+}
+
+/// An agent's path as its last change left it; none where no change is the agent's.
+pub(crate) fn turned_path<'a>(changes: &'a [Arc<Change>], agent: usize) -> Option<&'a Arc<Path>>
+    ensures { (root : List (List ℕ)) → agent < length root → IsTurnedTo root (map arc_value changes.now) agent (option_map (λ p. arc_value p.now) result) }
+{
+    let mut path = None;
     for change in changes {
-        path = path_with(path, change, agent);
+        path = turned_once(path, change, agent);
     }
     path
 }
 
 /// An agent's path after one change more.
-fn path_with<'a>(path: &'a Path, change: &'a Change, agent: usize) -> &'a Path
-    ensures own { change.now.agent ≡ agent → result.now ≡ change.now.path }
-    ensures other { change.now.agent ≢ agent → result.now ≡ path.now }
+fn turned_once<'a>(
+    path: Option<&'a Arc<Path>>,
+    change: &'a Change,
+    agent: usize,
+) -> Option<&'a Arc<Path>>
+    ensures own { change.now.agent ≡ agent → option_map (λ p. arc_value p.now) result ≡ Some change.now.path }
+    ensures other { change.now.agent ≢ agent → result ≡ path.entry }
 {
     if change.agent == agent {
-        &change.path
+        Some(&change.path)
     } else {
         path
     }

@@ -1,13 +1,14 @@
 use mapf_low::Constraint;
 use mapf_plan::Path;
 use std::marker::Model;
+use std::sync::Arc;
 
 /// What one turn of a node's name changed: an agent is forbidden something more, and has another path from then on.
 #[derive(Drop)]
 pub(crate) struct Change {
     pub(crate) agent: usize,
     pub(crate) constraint: Constraint,
-    pub(crate) path: Path,
+    pub(crate) path: Arc<Path>,
 }
 
 impl Model for Change {
@@ -16,7 +17,7 @@ impl Model for Change {
 
     ghost Value = { Changed };
 
-    ghost view = { λ c. record { agent = c.agent; constraint = c.constraint; path = c.path } };
+    ghost view = { λ c. record { agent = c.agent; constraint = c.constraint; path = c.path.value } };
 
     ghost invariant = { λ c. HasTwoEnds c.constraint };
 }

@@ -1,16 +1,15 @@
 //! The members of the constraint tree: its root, and the children of a node.
 
-ghost use Rattle.std.specs.Prelude.{◌≡◌, ◌<◌, ◌≤◌, [], length, IfOk, None, MatchOption};
-ghost use Rattle.mapf_plan.specs.Plan.{plan_cost, most_bound};
-ghost use Rattle.mapf_tree.specs.Family.{AreRootPaths, IsBranching, IsChildOf, IsOwn, IsOwnWithin, IsRoot, Leaves};
+ghost use Rattle.std.specs.Prelude.{◌<◌, ◌≤◌, [], length, IfOk, None, MatchOption};
+ghost use Rattle.mapf_plan.specs.Plan.{most_bound};
+ghost use Rattle.mapf_tree.specs.Family.{AreRootPaths, IsBranching, IsChildOf, IsOwn, IsOwnWithin, IsRoot};
 
-use crate::change::Change;
-use crate::sides::{agent_of, constraint_of};
-use crate::{Node, Problem, Side};
+use crate::{Node, Problem, Side, SideQuery};
 use mapf_grid::NoMemory;
 use mapf_low::{Constraints, cheapest};
 use mapf_plan::{Path, Plan};
 use std::alloc::Global;
+use std::sync::Arc;
 
 /// The root: no constraint, and every agent's own path; none exactly where that isn't in the tree.
 pub fn root(alloc: Global, problem: &Problem) -> Result<Option<Node>, NoMemory>
@@ -50,20 +49,12 @@ pub fn child(
     requires { IsBranching problem.now node.now }
     ensures { IfOk result (IsChildOf problem.now node.now side) }
 {
-    let conflict = node.conflict().unwrap();
-    let agent = agent_of(&conflict, side);
-    let constraint = constraint_of(&conflict, side);
-    let constraints = node.constraints(alloc, agent)?.and(constraint)?;
-    let limit = left_for(problem, node, agent);
-    let Some(path) = own_path(alloc, problem, agent, &constraints, limit)? else {
-        return Ok(None);
+    let query = SideQuery::of(alloc, problem, node, side)?;
+    let path = match query.own_path(alloc)? {
+        Some(path) => Some(Arc::new(alloc, path)?),
+        None => None,
     };
-    let change = Change {
-        agent,
-        constraint,
-        path,
-    };
-    Ok(Some(node.changed(alloc, side, change)?))
+    query.child(alloc, node, path)
 }
 
 /// An agent's own path under no constraints; none exactly where it may take no path.
@@ -90,20 +81,8 @@ fn root_paths(alloc: Global, problem: &Problem) -> Result<Option<Vec<Path>>, NoM
     Ok(Some(paths))
 }
 
-/// What the other agents' paths leave of the bound: with a dearer path of this agent no plan is in the tree.
-fn left_for(problem: &Problem, node: &Node, agent: usize) -> u32
-    requires agent { agent < length node.now.plan }
-    requires within { plan_cost node.now.plan ≤ problem.now.bound }
-    ensures leaves { Leaves problem.now node.now.plan agent result }
-    ensures small { result ≤ most_bound }
-    ensures bounded { problem.now.bound ≤ most_bound }
-{
-    let others = node.key().cost - u64::from(node.path(agent).cost());
-    (u64::from(problem.bound()) - others) as u32
-}
-
 /// An agent's own path under these constraints, at a cost of at most the limit.
-fn own_path(
+pub(crate) fn own_path(
     alloc: Global,
     problem: &Problem,
     agent: usize,

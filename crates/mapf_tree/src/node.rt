@@ -1,9 +1,9 @@
-ghost use Rattle.std.specs.Prelude.{◌≡◌, ◌↔◌, ◌+◌, ◌<◌, ◌≤◌, [], ◌∷◌, ◌++◌, length, replicate, slice_get, slice_set, slice_index_or, map, Some, IfOk, IsSome, MatchOption, Contains};
+ghost use Rattle.std.specs.Prelude.{◌≡◌, ◌↔◌, ◌+◌, ◌<◌, ◌≤◌, [], ◌∷◌, ◌++◌, length, replicate, slice_get, slice_set, slice_index_or, map, Some, IfOk, IfSome, IsSome, MatchOption, Contains};
 ghost use Rattle.std.specs.Arc.{arc_value};
 ghost use Rattle.mapf_plan.specs.Plan.{path_of, plan_cost, most_bound};
 ghost use Rattle.mapf_tree.specs.Nodes.{Changed};
 
-use crate::chain::{constraints_after, path_after, paths_after, shared};
+use crate::chain::{constraints_after, path_after, paths_after, shared, turned_path};
 use crate::change::Change;
 use crate::current_paths::CurrentPaths;
 use crate::{Key, Side};
@@ -165,6 +165,14 @@ impl Node {
         ensures { result.now ≡ path_of self.now.plan agent }
     {
         path_after(&self.root, &self.changes, agent)
+    }
+
+    /// An agent's path as a turn of the name gave it; none where it has the root's.
+    pub(crate) fn turned_path(&self, agent: usize) -> Option<&Arc<Path>>
+        requires { agent < length self.now.plan }
+        ensures { IfSome result (λ path. arc_value path.now ≡ path_of self.now.plan agent) }
+    {
+        turned_path(&self.changes, agent)
     }
 
     /// The agents' paths.

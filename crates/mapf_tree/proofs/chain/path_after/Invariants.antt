@@ -1,8 +1,0 @@
-use Rattle.std.proofs.Common.{◌≡◌, take, map}
-use Rattle.std.specs.Arc.{arc_value}
-use Rattle.mapf_plan.specs.Plan.{path_of}
-use Rattle.mapf_tree.specs.Nodes.{changed_plan}
-use Rattle.mapf_tree.proofs.chain.path_after.Given as goal
-
-abbrev pub invariant-loop-change : goal.invariant-loop-change
-invariant-loop-change l = l.path ≡ path_of (changed_plan l.root (take l.change-index (map arc_value l.changes))) l.agent

@@ -1,0 +1,30 @@
+-- What the child on a side of a node's conflict asks of the low level (Sharon et al. 2015): the agent on that side has one
+-- constraint more, and the other agents keep their paths.
+use Rattle.std.specs.Prelude.{◌≡◌, ℕ, ◌↔◌, ◌⊎◌, List, [], slice_index_or, Option, Some, Contains}
+use Rattle.mapf_plan.specs.declared.conflict.Conflict.{Conflict}
+use Rattle.mapf_low.specs.declared.constraint.Constraint.{Constraint}
+use Rattle.mapf_tree.specs.declared.side.Side.{Side}
+use Rattle.mapf_tree.specs.Problem.{Problem}
+use Rattle.mapf_tree.specs.Tree.{agent_on, constraint_on}
+use Rattle.mapf_tree.specs.Nodes.{Node}
+use Rattle.mapf_tree.specs.Family.{IsOwnWithin, Leaves}
+
+-- a side, its agent, what that is forbidden more, all that it is forbidden then, and what its path may cost
+pub record SideQuery : Type 0 where
+  pub problem : Problem
+  pub side : Side
+  pub agent : ℕ
+  pub constraint : Constraint
+  pub constraints : List Constraint
+  pub limit : ℕ
+
+-- the query of a side of a node: its path may cost what the other agents' paths leave of the bound
+pub record IsQueryOf (node : Node) (query : SideQuery) : Type 0 where
+  pub agent : (c : Conflict) → node.conflict ≡ Some c → query.agent ≡ agent_on c query.side
+  pub constraint : (c : Conflict) → node.conflict ≡ Some c → query.constraint ≡ constraint_on c query.side
+  pub constraints : (x : Constraint) → Contains query.constraints x ↔ ((x ≡ query.constraint) ⊎ Contains (slice_index_or node.constraints query.agent []) x)
+  pub leaves : Leaves query.problem node.plan query.agent query.limit
+
+-- the own path that a query asks for, or none where there is none
+abbrev pub IsFoundBy : SideQuery → Option (List ℕ) → Type 0
+IsFoundBy query = IsOwnWithin query.problem query.limit query.agent query.constraints

@@ -1,0 +1,264 @@
+//! Own paths that were searched before.
+
+ghost use Rattle.std.specs.Prelude.{◌≡◌, All, option_map, IfOk, IfSome};
+ghost use Rattle.std.specs.Arc.{arc_value};
+ghost use Rattle.mapf_tree.specs.Problem.{Problem};
+ghost use Rattle.mapf_tree.specs.Family.{IsBranching, IsChildOf};
+ghost use Rattle.mapf_tree.specs.SideQuery.{IsFoundBy};
+
+use crate::{Children, Node, OpenList, Problem, Side, SideQuery};
+use mapf_grid::NoMemory;
+use mapf_low::Constraint;
+use mapf_plan::Path;
+use std::alloc::Global;
+use std::collections::BTreeMap;
+use std::marker::Model;
+use std::sync::Arc;
+
+/// What a query was answered: the own path that it asks for, shared with the nodes that have it; none where there is none.
+#[derive(Drop)]
+struct Found<'p> {
+    query: SideQuery<'p>,
+    path: Option<Arc<Path>>,
+}
+
+impl<'p> Model for Found<'p> {
+    ghost use Rattle.std.specs.Prelude.{option_map};
+    ghost use Rattle.std.specs.Arc.{arc_value};
+    ghost use Rattle.mapf_tree.specs.SideQuery.{SideQuery, IsFoundBy};
+
+    ghost Value = { SideQuery };
+
+    ghost view = { λ f. f.query };
+
+    ghost invariant = { λ f. IsFoundBy f.query (option_map arc_value f.path) };
+}
+
+impl<'p> Found<'p> {
+    /// What another query is answered by it: the own path, or that there is none. None where this doesn't tell.
+    fn answer(&self, query: &SideQuery<'_>) -> Option<Option<&Arc<Path>>>
+        requires { query.now.problem ≡ self.now.problem }
+        ensures { IfSome result (λ path. IsFoundBy query.now (option_map (λ p. arc_value p.now) path)) }
+    {
+        if !self.query.is_alike(query) {
+            return None;
+        }
+        match &self.path {
+            Some(path) if path.cost() <= query.limit() => Some(Some(path)),
+            Some(_) => Some(None),
+            None if query.limit() <= self.query.limit() => Some(None),
+            None => None,
+        }
+    }
+}
+
+/// Own paths of one agent that were searched before, and for each set of constraints where the newest of them stands.
+#[derive(Drop)]
+struct OfAgent<'p> {
+    problem: &'p Problem,
+    found: Vec<Found<'p>>,
+    places: BTreeMap<Vec<Constraint>, usize>,
+}
+
+impl<'p> Model for OfAgent<'p> {
+    ghost use Rattle.std.specs.Prelude.{◌≡◌, All};
+    ghost use Rattle.mapf_tree.specs.Problem.{Problem};
+
+    ghost Value = { Problem };
+
+    ghost view = { λ a. a.problem.now };
+
+    ghost invariant = { λ a. All (λ f. f.problem ≡ a.problem.now) a.found.items };
+}
+
+impl<'p> OfAgent<'p> {
+    /// Nothing was searched yet.
+    fn new(alloc: Global, problem: &'p Problem) -> OfAgent<'p>
+        ensures { result ≡ problem.now }
+    {
+        OfAgent {
+            problem,
+            found: Vec::new(alloc),
+            places: BTreeMap::new(alloc),
+        }
+    }
+
+    /// What a query is answered, where that is known.
+    fn answer(&self, query: &SideQuery<'_>) -> Option<Option<&Arc<Path>>>
+        requires { query.now.problem ≡ self.now }
+        ensures { IfSome result (λ path. IsFoundBy query.now (option_map (λ p. arc_value p.now) path)) }
+    {
+        let place = *self.places.get(query.constraints())?;
+        self.found.get(place)?.answer(query)
+    }
+
+    /// Remembers what a query was answered. It is forgotten where memory runs out.
+    fn remember(&mut self, alloc: Global, query: SideQuery<'p>, path: Option<Arc<Path>>)
+        requires problem { query.problem ≡ self.old }
+        requires path { IsFoundBy query (option_map arc_value path) }
+        ensures { self.new ≡ self.old }
+    {
+        if let Ok(key) = query.constraints().to_vec(alloc) {
+            let place = self.found.len();
+            if self.found.push(Found { query, path }).is_ok() {
+                let _before = self.places.insert(key, place);
+            }
+        }
+    }
+}
+
+/// Own paths that were searched before for nodes of a problem's tree, and shared with the nodes that have them.
+///
+/// In a large tree an agent meets the same set of constraints again and again, in either order of the turns; its own path is
+/// then searched once.
+#[derive(Drop)]
+pub struct OwnPaths<'p> {
+    alloc: Global,
+    problem: &'p Problem,
+    agents: Vec<OfAgent<'p>>,
+}
+
+impl<'p> Model for OwnPaths<'p> {
+    ghost use Rattle.std.specs.Prelude.{◌≡◌, All};
+    ghost use Rattle.mapf_tree.specs.Problem.{Problem};
+
+    ghost Value = { Problem };
+
+    ghost view = { λ o. o.problem.now };
+
+    ghost invariant = { λ o. All (λ a. a ≡ o.problem.now) o.agents.items };
+}
+
+impl<'p> OwnPaths<'p> {
+    /// Nothing was searched yet.
+    pub fn new(alloc: Global, problem: &'p Problem) -> Result<OwnPaths<'p>, NoMemory>
+        ensures { IfOk result (λ o. o ≡ problem.now) }
+    {
+        let count = problem.instance().agents();
+        let mut agents = Vec::with_capacity(alloc, count)?;
+        for _agent in 0..count {
+            agents.push(OfAgent::new(alloc, problem))?;
+        }
+        Ok(OwnPaths {
+            alloc,
+            problem,
+            agents,
+        })
+    }
+
+    /// The child of a node of the tree on one side of its conflict; none exactly where that isn't in the tree. Its path is
+    /// searched only where it isn't known.
+    pub fn child(&mut self, node: &Node, side: Side) -> Result<Option<Node>, NoMemory>
+        requires { IsBranching self.old node.now }
+        ensures problem { self.new ≡ self.old }
+        ensures child { IfOk result (IsChildOf self.old node.now side) }
+    {
+        let query = SideQuery::of(self.alloc, self.problem, node, side)?;
+        let path = self.own_path(&query)?;
+        query.child(self.alloc, node, path)
+    }
+
+    /// Whether the path of a node's child on one side is known, or that there is no such child.
+    pub fn knows(&self, node: &Node, side: Side) -> bool
+        requires { IsBranching self.now node.now }
+    {
+        match SideQuery::of(self.alloc, self.problem, node, side) {
+            Ok(query) => self.known(&query).is_some(),
+            Err(_) => false,
+        }
+    }
+
+    /// Remembers the path of a node's child on one side, or that there is no such child, where that was worked out elsewhere.
+    /// It is forgotten where memory runs out.
+    pub fn learn(&mut self, node: &Node, side: Side, child: &Option<Node>)
+        requires node { IsBranching self.old node.now }
+        requires child { IsChildOf self.old node.now side child.now }
+        ensures { self.new ≡ self.old }
+    {
+        if let Ok(query) = SideQuery::of(self.alloc, self.problem, node, side) {
+            if let Some(path) = query.answer_in(node, child) {
+                self.learn_path(&query, path);
+            }
+        }
+    }
+
+    /// Remembers what a query was answered, which is shared once more.
+    fn learn_path(&mut self, query: &SideQuery<'p>, path: Option<&Arc<Path>>)
+        requires problem { query.now.problem ≡ self.old }
+        requires path { IsFoundBy query.now (option_map (λ p. arc_value p.now) path) }
+        ensures { self.new ≡ self.old }
+    {
+        if let Ok(path) = shared(path) {
+            self.remember(query, &path);
+        }
+    }
+
+    /// The own path that a query asks for; none where there is none.
+    fn own_path(&mut self, query: &SideQuery<'p>) -> Result<Option<Arc<Path>>, NoMemory>
+        requires { query.now.problem ≡ self.old }
+        ensures problem { self.new ≡ self.old }
+        ensures path { IfOk result (λ path. IsFoundBy query.now (option_map arc_value path)) }
+    {
+        if let Some(known) = self.known(query) {
+            return shared(known);
+        }
+        let path = match query.own_path(self.alloc)? {
+            Some(path) => Some(Arc::new(self.alloc, path)?),
+            None => None,
+        };
+        self.remember(query, &path);
+        Ok(path)
+    }
+
+    /// What a query is answered, where that is known.
+    fn known(&self, query: &SideQuery<'p>) -> Option<Option<&Arc<Path>>>
+        requires { query.now.problem ≡ self.now }
+        ensures { IfSome result (λ path. IsFoundBy query.now (option_map (λ p. arc_value p.now) path)) }
+    {
+        self.agents.get(query.agent())?.answer(query)
+    }
+
+    /// Remembers what a query was answered. It is forgotten where memory runs out.
+    fn remember(&mut self, query: &SideQuery<'p>, path: &Option<Arc<Path>>)
+        requires problem { query.now.problem ≡ self.old }
+        requires path { IsFoundBy query.now (option_map arc_value path.now) }
+        ensures { self.new ≡ self.old }
+    {
+        let Ok(query) = query.copy() else { return };
+        let Ok(path) = shared(path.as_ref()) else {
+            return;
+        };
+        let agent = query.agent();
+        if agent < self.agents.len() {
+            self.agents[agent].remember(self.alloc, query, path);
+        }
+    }
+}
+
+impl<'p> Children for OwnPaths<'p> {
+    ghost use Rattle.std.specs.Prelude.{◌≡◌};
+
+    ghost serves = { λ o p. o ≡ p };
+
+    fn both(
+        &mut self,
+        _problem: &Problem,
+        node: &Node,
+    ) -> Result<(Option<Node>, Option<Node>), NoMemory> {
+        let left = self.child(node, Side::Left)?;
+        let right = self.child(node, Side::Right)?;
+        Ok((left, right))
+    }
+
+    fn ahead(&mut self, _problem: &Problem, _waiting: &OpenList) {}
+}
+
+/// The same path, shared once more.
+fn shared(path: Option<&Arc<Path>>) -> Result<Option<Arc<Path>>, NoMemory>
+    ensures { IfOk result (λ other. option_map arc_value other ≡ option_map (λ p. arc_value p.now) path.entry) }
+{
+    match path {
+        Some(path) => Ok(Some(Arc::try_clone(path)?)),
+        None => Ok(None),
+    }
+}

@@ -1,0 +1,186 @@
+//! What the child on a side of a node's conflict asks of the low level.
+
+ghost use Rattle.std.specs.Prelude.{◌≡◌, ◌<◌, ◌≤◌, length, option_map, IfOk, IfSome, IsTrue};
+ghost use Rattle.std.specs.Arc.{arc_value};
+ghost use Rattle.mapf_plan.specs.Plan.{plan_cost, most_bound};
+ghost use Rattle.mapf_tree.specs.Family.{IsBranching, IsChildOf, Leaves};
+
+use crate::change::Change;
+use crate::family::own_path;
+use crate::sides::{agent_of, constraint_of};
+use crate::{Node, Problem, Side};
+use mapf_grid::NoMemory;
+use mapf_low::{Constraint, Constraints};
+use mapf_plan::Path;
+use std::alloc::Global;
+use std::marker::Model;
+use std::sync::Arc;
+
+/// The own path that a side of a node's conflict asks for: that of an agent under these constraints, the newest of which is
+/// the side's, at a cost of at most the limit.
+#[derive(Drop)]
+pub struct SideQuery<'p> {
+    problem: &'p Problem,
+    side: Side,
+    agent: usize,
+    constraint: Constraint,
+    constraints: Constraints,
+    limit: u32,
+}
+
+impl<'p> Model for SideQuery<'p> {
+    ghost use Rattle.std.specs.Prelude.{◌<◌, ◌≤◌, length};
+    ghost use Rattle.mapf_plan.specs.Plan.{most_bound};
+    ghost use Rattle.mapf_low.specs.Kept.{HasTwoEnds};
+    ghost use Rattle.mapf_tree.specs.SideQuery.{SideQuery};
+
+    ghost Value = { SideQuery };
+
+    ghost view = { λ q. record { problem = q.problem.now; side = q.side; agent = q.agent; constraint = q.constraint; constraints = q.constraints; limit = q.limit } };
+
+    ghost invariant = { λ q. (q.agent < length q.problem.now.inst.starts) × (q.problem.now.bound ≤ most_bound) × (q.limit ≤ most_bound) × HasTwoEnds q.constraint };
+}
+
+impl<'p> SideQuery<'p> {
+    ghost use Rattle.mapf_tree.specs.SideQuery.{IsQueryOf, IsFoundBy};
+
+    /// The query of a side of a node of the tree.
+    pub fn of(
+        alloc: Global,
+        problem: &'p Problem,
+        node: &Node,
+        side: Side,
+    ) -> Result<SideQuery<'p>, NoMemory>
+        requires { IsBranching problem.now node.now }
+        ensures problem { IfOk result (λ q. q.problem ≡ problem.now) }
+        ensures side { IfOk result (λ q. q.side ≡ side) }
+        ensures query { IfOk result (IsQueryOf node.now) }
+    {
+        let conflict = node.conflict().unwrap();
+        let agent = agent_of(&conflict, side);
+        let constraint = constraint_of(&conflict, side);
+        Ok(SideQuery {
+            problem,
+            side,
+            agent,
+            constraint,
+            constraints: node.constraints(alloc, agent)?.and(constraint)?,
+            limit: left_for(problem, node, agent),
+        })
+    }
+
+    /// An equal query.
+    pub(crate) fn copy(&self) -> Result<SideQuery<'p>, NoMemory>
+        ensures { IfOk result (λ other. other ≡ self.now) }
+    {
+        Ok(SideQuery {
+            problem: self.problem,
+            side: self.side,
+            agent: self.agent,
+            constraint: self.constraint,
+            constraints: self.constraints.copy()?,
+            limit: self.limit,
+        })
+    }
+
+    /// The agent.
+    pub(crate) fn agent(&self) -> usize
+        ensures { result ≡ self.now.agent }
+    {
+        self.agent
+    }
+
+    /// What the path may cost at most.
+    pub(crate) fn limit(&self) -> u32
+        ensures { result ≡ self.now.limit }
+    {
+        self.limit
+    }
+
+    /// What the agent is forbidden, in an order of its own.
+    pub(crate) fn constraints(&self) -> &[Constraint]
+        ensures { result.now ≡ self.now.constraints }
+    {
+        self.constraints.as_slice()
+    }
+
+    /// Whether another query is for the same agent with the same constraints.
+    pub(crate) fn is_alike(&self, other: &SideQuery<'_>) -> bool
+        ensures agent { IsTrue result → self.now.agent ≡ other.now.agent }
+        ensures constraints { IsTrue result → self.now.constraints ≡ other.now.constraints }
+    {
+        self.agent == other.agent && self.constraints.as_slice() == other.constraints.as_slice()
+    }
+
+    /// The own path that it asks for; none where there is none.
+    pub fn own_path(&self, alloc: Global) -> Result<Option<Path>, NoMemory>
+        ensures { IfOk result (IsFoundBy self.now) }
+    {
+        own_path(
+            alloc,
+            self.problem,
+            self.agent,
+            &self.constraints,
+            self.limit,
+        )
+    }
+
+    /// What the child of the node whose side it is tells of the own path that it asks for: it is the child's, and without a
+    /// child there is none.
+    pub(crate) fn answer_in<'n>(
+        &self,
+        node: &Node,
+        child: &'n Option<Node>,
+    ) -> Option<Option<&'n Arc<Path>>>
+        requires node { IsBranching self.now.problem node.now }
+        requires query { IsQueryOf node.now self.now }
+        requires child { IsChildOf self.now.problem node.now self.now.side child.now }
+        ensures { IfSome result (λ path. IsFoundBy self.now (option_map (λ p. arc_value p.now) path)) }
+    {
+        match child {
+            Some(child) => Some(Some(child.turned_path(self.agent)?)),
+            None => Some(None),
+        }
+    }
+
+    /// The child of the node whose side it is, from the own path that it asks for; none exactly where that isn't in the tree.
+    pub fn child(
+        self,
+        alloc: Global,
+        node: &Node,
+        path: Option<Arc<Path>>,
+    ) -> Result<Option<Node>, NoMemory>
+        requires node { IsBranching self.problem node.now }
+        requires query { IsQueryOf node.now self }
+        requires path { IsFoundBy self (option_map arc_value path) }
+        ensures { IfOk result (IsChildOf self.entry.problem node.now self.entry.side) }
+    {
+        let SideQuery {
+            side,
+            agent,
+            constraint,
+            ..
+        } = self;
+        let Some(path) = path else {
+            return Ok(None);
+        };
+        let change = Change {
+            agent,
+            constraint,
+            path,
+        };
+        Ok(Some(node.changed(alloc, side, change)?))
+    }
+}
+
+/// What the other agents' paths leave of the bound: with a dearer path of this agent no plan is in the tree.
+fn left_for(problem: &Problem, node: &Node, agent: usize) -> u32
+    requires agent { agent < length node.now.plan }
+    requires within { plan_cost node.now.plan ≤ problem.now.bound }
+    ensures leaves { Leaves problem.now node.now.plan agent result }
+    ensures small { result ≤ most_bound }
+    ensures bounded { problem.now.bound ≤ most_bound }
+{
+    let others = node.key().cost - u64::from(node.path(agent).cost());
+    (u64::from(problem.bound()) - others) as u32
+}
