@@ -93,7 +93,7 @@ pub(crate) fn solve_from<R: Threads + Sync, G: Gate, S: Supply>(
     let agents = problem.instance().agents() as u64;
     let root = root(rt, alloc, problem, first, workers, gate, supply)?;
     let search = Search::from_root(alloc, problem, root)?;
-    let coordinator = Coordinator::new(alloc, problem, workers, first.saturating_add(agents));
+    let coordinator = Coordinator::new(alloc, problem, workers, first.saturating_add(agents))?;
     let mut course = Course::new(search, coordinator);
     loop {
         course = session(rt, alloc, workers, pace, gate, supply, course)?;

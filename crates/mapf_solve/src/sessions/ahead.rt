@@ -22,6 +22,8 @@ pub(crate) enum Known<'p> {
     Worked(Worked<'p>),
     /// A worker gave its job back for want of memory.
     Undone,
+    /// Its path is known, or that there is no such child; no job for it is needed.
+    Searched,
 }
 
 /// What is known of the children of the node of this key.
@@ -140,6 +142,15 @@ impl<'p> Ahead<'p> {
     {
         if place < self.entries.len() {
             set_known(&mut self.entries, place, side, Known::Posted(slot));
+        }
+    }
+
+    /// The path of this child of the node with that place is known.
+    pub(crate) fn set_searched(&mut self, place: usize, side: Side)
+        ensures { self.new ≡ self.old }
+    {
+        if place < self.entries.len() {
+            set_known(&mut self.entries, place, side, Known::Searched);
         }
     }
 

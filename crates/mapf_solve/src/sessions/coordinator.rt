@@ -1,10 +1,11 @@
 //! The coordinator of a session, who posts jobs on a live board and takes back what becomes of them.
 
-ghost use Rattle.std.specs.Prelude.{◌≡◌, ◌≤◌, All, IfSome};
+ghost use Rattle.std.specs.Prelude.{◌≡◌, ◌≤◌, All, IfOk, IfSome, Ok, None};
 ghost use Rattle.mapf_board.specs.Owners.{currents};
 ghost use Rattle.mapf_board.specs.declared.limits.TheConstants.{MOST_WORKERS};
 ghost use Rattle.mapf_tree.specs.Nodes.{AllStand};
 ghost use Rattle.mapf_tree.specs.Family.{IsBranching};
+ghost use Rattle.mapf_tree.specs.Search.{TakesBetween};
 ghost use Rattle.mapf_solve.specs.Ahead.{AreSidesOf, IsGivenOf, IsKnownOf};
 
 use crate::sessions::ahead::{Ahead, Known};
@@ -12,7 +13,8 @@ use crate::sessions::desk::Desk;
 use crate::sessions::ready::Ready;
 use crate::sessions::side_job::{SideJob, SideWork, Worked};
 use mapf_board::{Gate, Left, MOST_SLOTS, Pair};
-use mapf_tree::{Node, OpenList, Problem, Side};
+use mapf_grid::NoMemory;
+use mapf_tree::{Node, OpenList, Problem, Progress, Search, Side};
 use std::alloc::Global;
 
 /// Who posts jobs for the children of nodes that wait.
@@ -20,10 +22,12 @@ use std::alloc::Global;
 pub(crate) struct Coordinator<'p> {
     alloc: Global,
     ahead: Ahead<'p>,
+    ready: Ready<'p>,
     /// Of how many waiting nodes children are worked ahead.
     nodes: usize,
     /// The number of the next job.
     next: u64,
+    pub ghost one_problem: { ready ≡ ahead },
 }
 
 /// What a board gives back for a job.
@@ -36,16 +40,17 @@ impl<'p> Coordinator<'p> {
         problem: &'p Problem,
         workers: usize,
         next: u64,
-    ) -> Coordinator<'p>
+    ) -> Result<Coordinator<'p>, NoMemory>
         requires { workers ≤ MOST_WORKERS }
-        ensures { result.ahead ≡ problem.now }
+        ensures { IfOk result (λ c. c.ahead ≡ problem.now) }
     {
-        Coordinator {
+        Ok(Coordinator {
             alloc,
             ahead: Ahead::new(alloc, problem),
+            ready: Ready::new(alloc, problem)?,
             nodes: 4 * workers,
             next,
-        }
+        })
     }
 
     /// Collects what is done, and posts jobs for the children of the first waiting nodes, where nothing is known of a child,
@@ -93,9 +98,18 @@ impl<'p> Coordinator<'p> {
         ensures { self.new.ahead ≡ self.old.ahead }
     {
         match given {
-            Left::Answer(pair) => self.ahead.keep(Worked::by(pair)),
+            Left::Answer(pair) => self.keep_worked(Worked::by(pair)),
             Left::Job(job) => self.ahead.note_undone(&job),
         }
+    }
+
+    /// Keeps a child that was worked out, where its node still waits, and its path in any case.
+    fn keep_worked(&mut self, worked: Worked<'p>)
+        requires { worked.job.problem ≡ self.old.ahead }
+        ensures { self.new.ahead ≡ self.old.ahead }
+    {
+        self.ready.learn(&worked);
+        self.ahead.keep(worked);
     }
 
     /// Keeps what a board leaves that is closed, which is something for each slot that has a job: the children that were
@@ -115,7 +129,7 @@ impl<'p> Coordinator<'p> {
         ensures { self.new.ahead ≡ self.old.ahead }
     {
         match given {
-            Left::Answer(pair) => self.ahead.keep(Worked::by(pair)),
+            Left::Answer(pair) => self.keep_worked(Worked::by(pair)),
             Left::Job(job) => self.ahead.forget(&job),
         }
     }
@@ -132,7 +146,7 @@ impl<'p> Coordinator<'p> {
             && self.post_side(desk, node, Side::Right, place)
     }
 
-    /// Posts the job for a child of which nothing is known. False where no slot is free.
+    /// Posts the job for a child of which nothing is known, not even its path. False where no slot is free.
     fn post_side(
         &mut self,
         desk: &mut Desk<'_, SideWork<'p>>,
@@ -149,6 +163,10 @@ impl<'p> Coordinator<'p> {
         if !self.ahead.is_unknown(place, side) {
             return true;
         }
+        if self.ready.knows(node, side) {
+            self.ahead.set_searched(place, side);
+            return true;
+        }
         let Some(slot) = desk.free_slot() else {
             return false;
         };
@@ -163,19 +181,18 @@ impl<'p> Coordinator<'p> {
         true
     }
 
-    /// What became of the jobs for the children of the node whose turn is next. What is missing is worked out as it is
-    /// needed.
-    pub(crate) fn ready<G: Gate>(
+    /// Fetches what became of the jobs for the children of the node whose turn is next. What is missing is worked out as it
+    /// is needed.
+    pub(crate) fn make_ready<G: Gate>(
         &mut self,
         desk: &mut Desk<'_, SideWork<'p>>,
         waiting: &OpenList,
         gate: &G,
-    ) -> Ready<'p>
+    )
         requires jobs { AreSidesOf self.old.ahead (currents desk.old.owner) }
         ensures problem { self.new.ahead ≡ self.old.ahead }
         ensures live { desk.new.live ≡ desk.old.live }
         ensures jobs { AreSidesOf self.old.ahead (currents desk.new.owner) }
-        ensures ready { result ≡ self.old.ahead }
     {
         let (left, right) = match waiting.first(1).next() {
             Some(node) => self.ahead.take(node),
@@ -183,26 +200,44 @@ impl<'p> Coordinator<'p> {
         };
         let left = self.fetch(desk, left, gate);
         let right = self.fetch(desk, right, gate);
-        Ready::new(self.alloc, self.ahead.problem(), left, right)
+        self.ready.bring(left, right);
+    }
+
+    /// Takes the next node, whose children are those that are ready. A search that found no memory goes on no more.
+    pub(crate) fn take_next(&mut self, search: &mut Search<'p>) -> Progress
+        requires { self.old.ahead ≡ search.old.problem }
+        ensures ahead { self.new.ahead ≡ self.old.ahead }
+        ensures problem { search.new.problem ≡ search.old.problem }
+        ensures working { result ≡ Progress.Working → (search.new.outcome ≡ Ok None) × TakesBetween search.old.problem search.old.last search.new.last 1 }
+    {
+        match search.go(&mut self.ready, 1) {
+            Ok(progress) => progress,
+            Err(_) => Progress::Finished,
+        }
     }
 
     /// A child of which this is known; where it was posted, what became of its job. None where it is still to be worked out.
     fn fetch<G: Gate>(
-        &self,
+        &mut self,
         desk: &mut Desk<'_, SideWork<'p>>,
         known: Known<'p>,
         gate: &G,
     ) -> Option<Worked<'p>>
-        requires known { IsKnownOf self.now.ahead known }
-        requires jobs { AreSidesOf self.now.ahead (currents desk.old.owner) }
+        requires known { IsKnownOf self.old.ahead known }
+        requires jobs { AreSidesOf self.old.ahead (currents desk.old.owner) }
+        ensures problem { self.new.ahead ≡ self.old.ahead }
         ensures live { desk.new.live ≡ desk.old.live }
-        ensures jobs { AreSidesOf self.now.ahead (currents desk.new.owner) }
-        ensures worked { IfSome result (λ w. w.job.problem ≡ self.now.ahead) }
+        ensures jobs { AreSidesOf self.old.ahead (currents desk.new.owner) }
+        ensures worked { IfSome result (λ w. w.job.problem ≡ self.old.ahead) }
     {
         match known {
             Known::Worked(worked) => Some(worked),
-            Known::Posted(slot) => Some(Worked::by(desk.fetch(slot, gate)?)),
-            Known::Nothing | Known::Undone => None,
+            Known::Posted(slot) => {
+                let worked = Worked::by(desk.fetch(slot, gate)?);
+                self.ready.learn(&worked);
+                Some(worked)
+            }
+            Known::Nothing | Known::Undone | Known::Searched => None,
         }
     }
 }

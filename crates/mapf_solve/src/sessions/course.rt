@@ -10,7 +10,6 @@ ghost use Rattle.mapf_solve.specs.Ahead.{AreSidesOf, TakesOn};
 use crate::pace::Pace;
 use crate::sessions::coordinator::Coordinator;
 use crate::sessions::desk::Desk;
-use crate::sessions::ready::Ready;
 use crate::sessions::side_job::SideWork;
 use crate::sessions::workers::work_beside;
 use mapf_board::{Gate, Live, MOST_SLOTS, Supply, WorkerSeat};
@@ -80,20 +79,9 @@ impl<'p> Course<'p> {
         ensures working { self.new.progress ≡ Progress.Working → (self.new.search.outcome ≡ Ok None) × TakesBetween self.old.search.problem self.old.search.last self.new.search.last 1 }
     {
         self.coordinator.work_ahead(desk, self.search.waiting());
-        let ready = self.coordinator.ready(desk, self.search.waiting(), gate);
-        self.progress = take_next(&mut self.search, ready);
-    }
-}
-
-/// Takes the next node, whose children these are. A search that found no memory goes on no more.
-fn take_next<'p>(search: &mut Search<'p>, mut ready: Ready<'p>) -> Progress
-    requires { ready ≡ search.old.problem }
-    ensures problem { search.new.problem ≡ search.old.problem }
-    ensures working { result ≡ Progress.Working → (search.new.outcome ≡ Ok None) × TakesBetween search.old.problem search.old.last search.new.last 1 }
-{
-    match search.go(&mut ready, 1) {
-        Ok(progress) => progress,
-        Err(_) => Progress::Finished,
+        self.coordinator
+            .make_ready(desk, self.search.waiting(), gate);
+        self.progress = self.coordinator.take_next(&mut self.search);
     }
 }
 

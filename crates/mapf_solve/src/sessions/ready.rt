@@ -1,21 +1,22 @@
-//! The children of the node whose turn it is.
+//! The children of the node whose turn it is, and the own paths that are known by then.
 
 ghost use Rattle.std.specs.Prelude.{◌≡◌, IfOk, IfSome};
 ghost use Rattle.mapf_tree.specs.Family.{IsBranching, IsChildOf};
 
 use crate::sessions::side_job::Worked;
 use mapf_grid::NoMemory;
-use mapf_tree::{Children, Node, OpenList, Problem, Side, child};
+use mapf_tree::{Children, Node, OpenList, OwnPaths, Problem, Side};
 use std::alloc::Global;
 use std::marker::Model;
 
-/// The children of the node of a problem's tree whose turn it is, each with the job that it was worked out for.
+/// The children of the node of a problem's tree whose turn it is, each with the job that it was worked out for, and the own
+/// paths that are known.
 ///
-/// A child is used only for the node and the side that its job names; what is missing is worked out here.
+/// A child is used only for the node and the side that its job names; what is missing is worked out here, and an own path is
+/// searched only where it isn't known.
 #[derive(Drop)]
 pub(crate) struct Ready<'p> {
-    alloc: Global,
-    problem: &'p Problem,
+    own_paths: OwnPaths<'p>,
     left: Option<Worked<'p>>,
     right: Option<Worked<'p>>,
 }
@@ -26,29 +27,46 @@ impl<'p> Model for Ready<'p> {
 
     ghost Value = { Problem };
 
-    ghost view = { λ r. r.problem.now };
+    ghost view = { λ r. r.own_paths };
 
-    ghost invariant = { λ r. IfSome r.left (λ w. w.job.problem ≡ r.problem.now) × IfSome r.right (λ w. w.job.problem ≡ r.problem.now) };
+    ghost invariant = { λ r. IfSome r.left (λ w. w.job.problem ≡ r.own_paths) × IfSome r.right (λ w. w.job.problem ≡ r.own_paths) };
 }
 
 impl<'p> Ready<'p> {
-    /// These children of a problem's node.
-    pub(crate) fn new(
-        alloc: Global,
-        problem: &'p Problem,
-        left: Option<Worked<'p>>,
-        right: Option<Worked<'p>>,
-    ) -> Ready<'p>
-        requires left { IfSome left (λ w. w.job.problem ≡ problem.now) }
-        requires right { IfSome right (λ w. w.job.problem ≡ problem.now) }
-        ensures { result ≡ problem.now }
+    /// No child of a problem's node, and no own path is known.
+    pub(crate) fn new(alloc: Global, problem: &'p Problem) -> Result<Ready<'p>, NoMemory>
+        ensures { IfOk result (λ r. r ≡ problem.now) }
     {
-        Ready {
-            alloc,
-            problem,
-            left,
-            right,
-        }
+        Ok(Ready {
+            own_paths: OwnPaths::new(alloc, problem)?,
+            left: None,
+            right: None,
+        })
+    }
+
+    /// Whether the path of a node's child on one side is known, or that there is no such child.
+    pub(crate) fn knows(&self, node: &Node, side: Side) -> bool
+        requires { IsBranching self.now node.now }
+    {
+        self.own_paths.knows(node, side)
+    }
+
+    /// Remembers the path of a child that was worked out.
+    pub(crate) fn learn(&mut self, worked: &Worked<'p>)
+        requires { worked.now.job.problem ≡ self.old }
+        ensures { self.new ≡ self.old }
+    {
+        worked.teach(&mut self.own_paths);
+    }
+
+    /// These are the children of the node whose turn it is.
+    pub(crate) fn bring(&mut self, left: Option<Worked<'p>>, right: Option<Worked<'p>>)
+        requires left { IfSome left (λ w. w.job.problem ≡ self.old) }
+        requires right { IfSome right (λ w. w.job.problem ≡ self.old) }
+        ensures { self.new ≡ self.old }
+    {
+        self.left = left;
+        self.right = right;
     }
 
     /// The child of this side, if it is this node's; it is no longer here.
@@ -72,7 +90,7 @@ impl<'p> Ready<'p> {
     {
         match self.take(node, side) {
             Some(found) => Ok(found),
-            None => child(self.alloc, self.problem, node, side),
+            None => self.own_paths.child(node, side),
         }
     }
 }

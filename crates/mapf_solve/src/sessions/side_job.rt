@@ -5,7 +5,7 @@ ghost use Rattle.mapf_tree.specs.Family.{IsBranching, IsChildOf};
 ghost use Rattle.mapf_solve.specs.Rounds.{FitsSide};
 
 use mapf_board::{Pair, Task, Work};
-use mapf_tree::{Node, Problem, Side, child};
+use mapf_tree::{Node, OwnPaths, Problem, Side, child};
 use std::alloc::Global;
 use std::marker::{Model, PhantomData};
 
@@ -98,6 +98,14 @@ impl<'p> Worked<'p> {
         ensures { result.now ≡ self.now.job }
     {
         &self.job
+    }
+
+    /// Lets the child's path be remembered, or that there is no such child.
+    pub(crate) fn teach(&self, own_paths: &mut OwnPaths<'p>)
+        requires { own_paths.old ≡ self.now.job.problem }
+        ensures { own_paths.new ≡ own_paths.old }
+    {
+        own_paths.learn(self.job.node(), self.job.side(), &self.child);
     }
 
     /// The child, where it is this node's on this side.
