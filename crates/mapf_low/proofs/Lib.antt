@@ -23,5 +23,6 @@ mod Classing
 mod Searching
 mod ClassLists
 mod Found
+mod Chains
 mod Taking
 pub mod Sets

@@ -11,3 +11,5 @@ pub mod Layers
 pub mod Classes
 pub mod Taken
 pub mod Times
+pub mod Spread
+pub mod Chain

@@ -11,7 +11,7 @@ use mapf_grid::{Cell, NoMemory};
 
 /// Whether the goal is this far from the cell.
 #[inline]
-fn is_at(query: &Query, cell: Cell, far: u32) -> bool
+pub fn is_at(query: &Query, cell: Cell, far: u32) -> bool
     ensures { IsTrue result ↔ (distance_at query.now.table cell ≡ Some far) }
 {
     match query.distance(cell) {

@@ -3,6 +3,8 @@
 
 mod busy;
 mod by_layers;
+mod cell_hasher;
+mod chain;
 mod class;
 mod constraint;
 mod constraints;

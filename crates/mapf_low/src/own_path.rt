@@ -4,11 +4,13 @@ ghost use Rattle.mapf_grid.specs.Grid.{IsFree};
 ghost use Rattle.mapf_low.specs.Walk.{AreDistances};
 ghost use Rattle.mapf_plan.specs.Path.{cost};
 ghost use Rattle.mapf_low.specs.Query.{IsFound};
-ghost use Rattle.mapf_low.specs.Classes.{IsSearched};
+ghost use Rattle.mapf_low.specs.Classes.{IsSearched, InClasses};
+ghost use Rattle.mapf_low.specs.Reached.{AreLinked, IsReconstructed};
 ghost use Rattle.mapf_low.specs.Constraints.{IsAllowed};
 ghost use Rattle.mapf_low.specs.OwnPath.{IsOwnPath};
 ghost use Rattle.mapf_plan.specs.Plan.{most_bound};
 
+use crate::chain::is_chain;
 use crate::query::Query;
 use crate::reconstruction::reconstruct_path;
 use crate::search::{Searched, search};
@@ -17,6 +19,23 @@ use crate::{Constraints, Distances};
 use mapf_grid::{Cell, Map, NoMemory};
 use mapf_plan::Path;
 use std::alloc::Global;
+
+/// The path that arrives on the goal at this time step, read from the states that were reached.
+fn read_path(alloc: Global, query: &Query, searched: &Searched, end: u32) -> Result<Path, NoMemory>
+    requires linked { AreLinked query.now (InClasses query.now searched.now.nearest searched.now.classes.items) end }
+    requires arrived { InClasses query.now searched.now.nearest searched.now.classes.items end query.now.goal }
+    requires short { end ≤ most_bound }
+    ensures { IfOk result (λ path. IsReconstructed query.now (InClasses query.now searched.now.nearest searched.now.classes.items) path 0 end) }
+{
+    if end == searched.nearest && searched.classes.len() == 1 {
+        let class = &searched.classes[0];
+        if is_chain(query, end, class) {
+            return Ok(Path::of(Vec::from_slice(alloc, class.cells())?));
+        }
+    }
+    let states = States { query, searched };
+    reconstruct_path(alloc, query, &states, end)
+}
 
 /// An agent's own path, if it has one, beside the search that found it.
 pub fn find(alloc: Global, query: &Query) -> Result<(Searched, Option<Path>), NoMemory>
@@ -28,11 +47,7 @@ pub fn find(alloc: Global, query: &Query) -> Result<(Searched, Option<Path>), No
     match searched.end {
         None => Ok((searched, None)),
         Some(end) => {
-            let states = States {
-                query,
-                searched: &searched,
-            };
-            let path = reconstruct_path(alloc, query, &states, end)?;
+            let path = read_path(alloc, query, &searched, end)?;
             Ok((searched, Some(path)))
         }
     }

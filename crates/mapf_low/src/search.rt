@@ -40,10 +40,10 @@ fn can_end(query: &Query, class: &Class, sum: u32) -> bool
 }
 
 /// For how many cells the first class gets room, by the distance from the start to the goal: on open ground the shortest
-/// steps_from to the goal may go over a quarter of its square.
+/// steps to the goal may go over a quarter of its square, and a way to the goal has a cell for each time step.
 fn first_room(nearest: u32) -> usize {
     let near = (nearest as usize).min(256);
-    4 * near + near * near / 8 + 4
+    (4 * near + near * near / 8 + 4).max(nearest as usize + 1)
 }
 
 /// Takes the states, cells at time steps, by rising sum of time and distance to the goal, class by class, up to the first

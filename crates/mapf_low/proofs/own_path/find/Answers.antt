@@ -1,8 +1,8 @@
 use Rattle.mapf_low.proofs.Found.{found_linked, found_own, found_none}
 use Rattle.mapf_low.proofs.own_path.find.Goals as goal
 
-pub reconstruct_path-requires-clause-linked : goal.reconstruct_path-requires-clause-linked
-reconstruct_path-requires-clause-linked c =
+pub read_path-requires-clause-linked : goal.read_path-requires-clause-linked
+read_path-requires-clause-linked c =
     found_linked c.args.query.now c.in_ok-searched.searched.nearest c.in_ok-searched.searched.classes.items c.in_ok-searched.ensures.posed
     c.in_ok-searched.searched.end c.in-Some.end c.in-Some.is c.in_ok-searched.ensures.searched
 
