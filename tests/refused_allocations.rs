@@ -11,7 +11,7 @@ use mapf_board::{AlwaysGrants, Left, Live, NoGate, Owner, Pair, Task, Work, Work
 use mapf_check::Verdict;
 use mapf_cli::{CheckFault, call, check_run};
 use mapf_grid::{NoMemory, instance_of};
-use mapf_plan::{Counted, DeviceFault};
+use mapf_plan::{Counted, DeviceFault, Rule};
 use mapf_solve::{Ask, Refusal, answer};
 use mapf_tree::{ByChild, Node, OpenList, Problem, Progress, Search, Side, child, root};
 use std::alloc::Global;
@@ -67,6 +67,7 @@ fn answered<R: Threads + Sync>(rt: &R, alloc: Global, worked: &Worked, workers: 
         bound: worked.bound,
         workers,
         nodes: None,
+        rule: Rule::Classical,
     };
     match answer(rt, alloc, worked.map, worked.scen, ask, &NoGate) {
         Ok(text) if text.as_slice() == worked.plan => Outcome::Right,
@@ -81,7 +82,15 @@ fn judged(alloc: Global, worked: &Worked) -> Outcome {
     let mut scen = Counted::of(worked.scen);
     let mut plan = Counted::of(worked.plan);
     let mut out = Counted::of(Vec::new(alloc));
-    match check_run(alloc, &mut map, &mut scen, &mut plan, &mut out, 2) {
+    match check_run(
+        alloc,
+        &mut map,
+        &mut scen,
+        &mut plan,
+        &mut out,
+        2,
+        Rule::Classical,
+    ) {
         Ok(Verdict::Valid { .. }) => Outcome::Right,
         Err(CheckFault::Device(
             DeviceFault::NoMemory | DeviceFault::WriteFailed { taken: 0 },

@@ -2,7 +2,7 @@
 use Rattle.std.specs.Prelude.{◌<◌}
 use Rattle.mapf_grid.specs.Grid.{Grid, cells}
 use Rattle.mapf_plan.specs.declared.conflict.Conflict.{Conflict}
-use Rattle.mapf_plan.specs.declared.conflict.Conflict.TheVariants.{Vertex, Swapping}
+use Rattle.mapf_plan.specs.declared.conflict.Conflict.TheVariants.{Vertex, Swapping, Following}
 use Rattle.mapf_check.specs.declared.verdict.Verdict.{Verdict}
 use Rattle.mapf_check.specs.declared.verdict.Verdict.TheVariants as verdict
 
@@ -10,6 +10,7 @@ use Rattle.mapf_check.specs.declared.verdict.Verdict.TheVariants as verdict
 abbrev pub IsOnMap : Grid → Conflict → Type 0
 IsOnMap g (Vertex i j v t) = v < cells g
 IsOnMap g (Swapping i j u v t) = (u < cells g) × (v < cells g)
+IsOnMap g (Following i j v t) = v < cells g
 
 -- a verdict on a conflict names cells of the map
 abbrev pub HasPositions : Grid → Verdict → Type 0

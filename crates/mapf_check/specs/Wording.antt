@@ -3,11 +3,11 @@ use Rattle.std.specs.Prelude.{ℕ, List, ◌++◌, codes, decimal}
 use Rattle.mapf_grid.specs.Grid.{Grid}
 use Rattle.mapf_plan.specs.Text.{position}
 use Rattle.mapf_plan.specs.declared.conflict.Conflict.{Conflict}
-use Rattle.mapf_plan.specs.declared.conflict.Conflict.TheVariants.{Vertex, Swapping}
+use Rattle.mapf_plan.specs.declared.conflict.Conflict.TheVariants.{Vertex, Swapping, Following}
 use Rattle.mapf_check.specs.declared.verdict.Verdict.{Verdict}
 use Rattle.mapf_check.specs.declared.verdict.Verdict.TheVariants as verdict
 
--- a conflict, with its cells as `x,y`
+-- a conflict, with its cells as `x,y`; of a following conflict the follower is the first agent
 abbrev pub conflict_words : Grid → Conflict → List ℕ
 conflict_words g (Vertex i j v t) =
     (codes "66 vertex conflict agents " ++ decimal i) ++ (codes " " ++ decimal j)
@@ -15,6 +15,9 @@ conflict_words g (Vertex i j v t) =
 conflict_words g (Swapping i j u v t) =
     (codes "66 swapping conflict agents " ++ decimal i) ++ (codes " " ++ decimal j)
     ++ (codes " from " ++ position g u) ++ (codes " to " ++ position g v) ++ (codes " time " ++ decimal t)
+conflict_words g (Following i j v t) =
+    (codes "66 following conflict agents " ++ decimal i) ++ (codes " " ++ decimal j)
+    ++ (codes " cell " ++ position g v) ++ (codes " time " ++ decimal t)
 
 -- a verdict
 abbrev pub verdict_words : Grid → Verdict → List ℕ

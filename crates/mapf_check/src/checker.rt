@@ -6,26 +6,36 @@ ghost use Rattle.mapf_check.specs.Verdict.{IsVerdict, IsPlanVerdict, IsValidAnsw
 use crate::Verdict;
 use crate::paths::{ends_on, is_early_on, starts_on};
 use mapf_grid::Instance;
-use mapf_plan::{Answer, Plan};
+use mapf_plan::{Answer, Plan, Rule};
 
-/// Judges an answer: whether its plan is a valid plan of the instance and costs what is stated with it, and
-/// if not, what its first fault is. No memory is taken.
+/// Judges an answer by the classical rule: whether its plan is a valid plan of the instance and costs what is stated
+/// with it, and if not, what its first fault is. No memory is taken.
 pub fn check(instance: &Instance, answer: &Answer) -> Verdict
-    ensures verdict { IsVerdict instance.now answer.now result }
-    ensures valid { (c : ℕ) → (result ≡ Verdict.Valid c) ↔ IsValidAnswer instance.now answer.now c }
+    ensures verdict { IsVerdict Rule.Classical instance.now answer.now result }
+    ensures valid { (c : ℕ) → (result ≡ Verdict.Valid c) ↔ IsValidAnswer Rule.Classical instance.now answer.now c }
     ensures none { (result ≡ Verdict.NoPlanGiven) ↔ IsNoPlan answer.now }
     // so that the verdict's line can be written
     ensures positions { CanWrite instance.now.grid answer.now → HasPositions instance.now.grid result }
 {
+    check_by(instance, answer, Rule::Classical)
+}
+
+/// Judges an answer as `check` does, by the rule that is given. No memory is taken.
+pub fn check_by(instance: &Instance, answer: &Answer, rule: Rule) -> Verdict
+    ensures verdict { IsVerdict rule instance.now answer.now result }
+    ensures valid { (c : ℕ) → (result ≡ Verdict.Valid c) ↔ IsValidAnswer rule instance.now answer.now c }
+    ensures none { (result ≡ Verdict.NoPlanGiven) ↔ IsNoPlan answer.now }
+    ensures positions { CanWrite instance.now.grid answer.now → HasPositions instance.now.grid result }
+{
     match answer {
-        Answer::Plan { plan, stated } => check_plan(instance, plan, *stated),
+        Answer::Plan { plan, stated } => check_plan(instance, plan, *stated, rule),
         Answer::None { .. } | Answer::GaveUp { .. } => Verdict::NoPlanGiven,
     }
 }
 
-/// The verdict on a plan that is stated to cost so much.
-fn check_plan(instance: &Instance, plan: &Plan, stated: u64) -> Verdict
-    ensures { IsPlanVerdict instance.now plan.now stated result }
+/// The verdict by this rule on a plan that is stated to cost so much.
+fn check_plan(instance: &Instance, plan: &Plan, stated: u64, rule: Rule) -> Verdict
+    ensures { IsPlanVerdict rule instance.now plan.now stated result }
 {
     let paths = plan.paths().len();
     if paths != instance.agents() {
@@ -34,7 +44,7 @@ fn check_plan(instance: &Instance, plan: &Plan, stated: u64) -> Verdict
     if let Some(fault) = fault_of_paths(instance, plan) {
         return fault;
     }
-    if let Some(conflict) = plan.first_conflict() {
+    if let Some(conflict) = plan.first_conflict_by(rule) {
         return Verdict::Conflict(conflict);
     }
     let found = plan.cost();

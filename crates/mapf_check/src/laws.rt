@@ -2,7 +2,7 @@
 
 ghost use Rattle.mapf_check.specs.Verdict.{HasOneVerdict};
 
-/// An answer has one verdict on an instance, and no second one.
+/// By a rule an answer has one verdict on an instance, and no second one.
 pub fn one_verdict()
     ensures { HasOneVerdict }
 {}

@@ -7,6 +7,6 @@ mod paths;
 mod verdict;
 mod wording;
 
-pub use checker::check;
+pub use checker::{check, check_by};
 pub use verdict::Verdict;
 pub use wording::line;

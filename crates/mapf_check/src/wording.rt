@@ -1,4 +1,4 @@
-ghost use Rattle.std.specs.Prelude.{◌≡◌, ◌++◌, string_bytes, IfOk, OnOk};
+ghost use Rattle.std.specs.Prelude.{◌≡◌, ◌++◌, codes, decimal, string_bytes, IfOk, OnOk};
 ghost use Rattle.mapf_check.specs.Positions.{IsOnMap, HasPositions};
 ghost use Rattle.mapf_check.specs.Wording.{conflict_words, verdict_words, verdict_line};
 
@@ -44,7 +44,7 @@ fn push_verdict(text: &mut String, verdict: Verdict, map: &Map) -> Result<(), No
     Ok(())
 }
 
-/// The words of a conflict.
+/// The words of a conflict: its kind and its two agents, its cells and its time.
 fn push_conflict(text: &mut String, conflict: Conflict, map: &Map) -> Result<(), NoMemory>
     requires { IsOnMap map.now conflict }
     ensures { OnOk result (string_bytes text.new ≡ string_bytes text.old ++ conflict_words map.now conflict) }
@@ -56,10 +56,9 @@ fn push_conflict(text: &mut String, conflict: Conflict, map: &Map) -> Result<(),
             cell,
             time,
         } => {
-            push_number(text, "66 vertex conflict agents ", first)?;
-            push_number(text, " ", second)?;
+            push_agents(text, "66 vertex conflict agents ", first, second)?;
             push_position(text, " cell ", cell, map)?;
-            push_number(text, " time ", time)?;
+            push_number(text, " time ", time)
         }
         Conflict::Swapping {
             first,
@@ -68,12 +67,28 @@ fn push_conflict(text: &mut String, conflict: Conflict, map: &Map) -> Result<(),
             to,
             time,
         } => {
-            push_number(text, "66 swapping conflict agents ", first)?;
-            push_number(text, " ", second)?;
+            push_agents(text, "66 swapping conflict agents ", first, second)?;
             push_position(text, " from ", from, map)?;
             push_position(text, " to ", to, map)?;
-            push_number(text, " time ", time)?;
+            push_number(text, " time ", time)
+        }
+        Conflict::Following {
+            follower,
+            leader,
+            cell,
+            time,
+        } => {
+            push_agents(text, "66 following conflict agents ", follower, leader)?;
+            push_position(text, " cell ", cell, map)?;
+            push_number(text, " time ", time)
         }
     }
-    Ok(())
+}
+
+/// These words and two agents' numbers.
+fn push_agents(text: &mut String, words: &str, one: usize, other: usize) -> Result<(), NoMemory>
+    ensures { OnOk result (string_bytes text.new ≡ string_bytes text.old ++ ((words.now ++ decimal one) ++ (codes " " ++ decimal other))) }
+{
+    push_number(text, words, one)?;
+    push_number(text, " ", other)
 }

@@ -11,6 +11,7 @@ use Rattle.mapf_plan.specs.declared.text.fault.TextFault.{TextFault}
 use Rattle.mapf_plan.specs.declared.text.fault.TextFault.TheVariants as text_fault
 use Rattle.mapf_plan.specs.declared.device.fault.DeviceFault.{DeviceFault}
 use Rattle.mapf_plan.specs.declared.device.fault.DeviceFault.TheVariants as device
+use Rattle.mapf_plan.specs.declared.rule.Rule.{Rule}
 use Rattle.mapf_plan.proofs.WhatIsLeft.{told, Leaves-part}
 use Rattle.mapf_check.specs.declared.verdict.Verdict.{Verdict}
 use Rattle.mapf_cli.specs.CheckRun.{IsJudged, IsTextsFault, HasOneMemory, of_text, OfFiles, LeavesVerdict}
@@ -46,28 +47,28 @@ plan_refused map scen plan agents inst g fault (Err e) asked same h is =
 plan_refused map scen plan agents inst g fault (Ok t) asked same h is = tt
 
 -- a line that was written in part is left in part
-pub part_is_left : (map scen plan : Option (List ℕ)) (agents : ℕ) (old new : Option (List ℕ)) (verdict : Verdict) (line : List ℕ) (broken : DeviceFault) (result : Result Verdict CheckFault) →
-    OfFiles map scen plan (λ m s p. IsJudged m s p agents verdict line) → IsWriteFaultOf line old new broken → IsErrAnd result (λ e. e ≡ check.Device broken) →
-    LeavesVerdict map scen plan agents old new result
-part_is_left map scen plan agents old new verdict line broken (Err e) says wrote is =
-    subst (λ e. LeavesVerdict map scen plan agents old new (Err e)) (sym is)
-    (Leaves-part {R = CheckFault} (λ v l. OfFiles map scen plan (λ m s p. IsJudged m s p agents v l)) (λ named. OfFiles map scen plan (λ m s p. IsTextsFault m s p agents named)) old new verdict line broken says wrote)
-part_is_left map scen plan agents old new verdict line broken (Ok v) says wrote is = absurd is
+pub part_is_left : (rule : Rule) (map scen plan : Option (List ℕ)) (agents : ℕ) (old new : Option (List ℕ)) (verdict : Verdict) (line : List ℕ) (broken : DeviceFault) (result : Result Verdict CheckFault) →
+    OfFiles map scen plan (λ m s p. IsJudged rule m s p agents verdict line) → IsWriteFaultOf line old new broken → IsErrAnd result (λ e. e ≡ check.Device broken) →
+    LeavesVerdict rule map scen plan agents old new result
+part_is_left rule map scen plan agents old new verdict line broken (Err e) says wrote is =
+    subst (λ e. LeavesVerdict rule map scen plan agents old new (Err e)) (sym is)
+    (Leaves-part {R = CheckFault} (λ v l. OfFiles map scen plan (λ m s p. IsJudged rule m s p agents v l)) (λ named. OfFiles map scen plan (λ m s p. IsTextsFault m s p agents named)) old new verdict line broken says wrote)
+part_is_left rule map scen plan agents old new verdict line broken (Ok v) says wrote is = absurd is
 
 -- after a fault of the texts nothing is written
-pub refused_is_left : (map scen plan : Option (List ℕ)) (agents : ℕ) (held : Option (List ℕ)) (m s p : List ℕ) (fault : CheckFault) (result : Result Verdict CheckFault) →
+pub refused_is_left : (rule : Rule) (map scen plan : Option (List ℕ)) (agents : ℕ) (held : Option (List ℕ)) (m s p : List ℕ) (fault : CheckFault) (result : Result Verdict CheckFault) →
     IsTextsFault m s p agents fault → OfFiles map scen plan (λ m s p. IsTextsFault m s p agents fault) → IsErrAnd result (λ e. e ≡ fault) →
-    LeavesVerdict map scen plan agents held held result
-refused_is_left map scen plan agents held m s p (check.Files f) (Err e) h told is =
-    subst (λ e. LeavesVerdict map scen plan agents held held (Err e)) (sym is) (Keeps-refl held, told)
-refused_is_left map scen plan agents held m s p (check.Text f) (Err e) h told is =
-    subst (λ e. LeavesVerdict map scen plan agents held held (Err e)) (sym is) (Keeps-refl held, told)
-refused_is_left map scen plan agents held m s p (check.Device device.NoMemory) (Err e) h told is =
-    subst (λ e. LeavesVerdict map scen plan agents held held (Err e)) (sym is) (Keeps-refl held)
-refused_is_left map scen plan agents held m s p (check.Device (device.ReadFailed name)) (Err e) h told is = absurd h
-refused_is_left map scen plan agents held m s p (check.Device (device.WriteFailed taken)) (Err e) h told is = absurd h
-refused_is_left map scen plan agents held m s p (check.Device (device.TooLong name)) (Err e) h told is = absurd h
-refused_is_left map scen plan agents held m s p fault (Ok v) h told is = absurd is
+    LeavesVerdict rule map scen plan agents held held result
+refused_is_left rule map scen plan agents held m s p (check.Files f) (Err e) h told is =
+    subst (λ e. LeavesVerdict rule map scen plan agents held held (Err e)) (sym is) (Keeps-refl held, told)
+refused_is_left rule map scen plan agents held m s p (check.Text f) (Err e) h told is =
+    subst (λ e. LeavesVerdict rule map scen plan agents held held (Err e)) (sym is) (Keeps-refl held, told)
+refused_is_left rule map scen plan agents held m s p (check.Device device.NoMemory) (Err e) h told is =
+    subst (λ e. LeavesVerdict rule map scen plan agents held held (Err e)) (sym is) (Keeps-refl held)
+refused_is_left rule map scen plan agents held m s p (check.Device (device.ReadFailed name)) (Err e) h told is = absurd h
+refused_is_left rule map scen plan agents held m s p (check.Device (device.WriteFailed taken)) (Err e) h told is = absurd h
+refused_is_left rule map scen plan agents held m s p (check.Device (device.TooLong name)) (Err e) h told is = absurd h
+refused_is_left rule map scen plan agents held m s p fault (Ok v) h told is = absurd is
 
 -- what holds of the bytes that were read holds of what the readers tell
 pub all_told : (map scen plan : Option (List ℕ)) (m s p a b c : List ℕ) (P : List ℕ → List ℕ → List ℕ → Type 0) → m ≡ a → IfSome map (λ all. a ≡ all) →

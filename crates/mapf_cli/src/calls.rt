@@ -103,7 +103,15 @@ fn check_files<R: Files, O: Sink>(
     let mut map = open(rt, check.map, FileName::Map)?;
     let mut scen = open(rt, check.scen, FileName::Scenario)?;
     let mut plan = open(rt, check.plan, FileName::Plan)?;
-    match check_run(alloc, &mut map, &mut scen, &mut plan, out, check.agents)? {
+    match check_run(
+        alloc,
+        &mut map,
+        &mut scen,
+        &mut plan,
+        out,
+        check.agents,
+        check.rule,
+    )? {
         Verdict::Valid { .. } => Ok(SHOWN),
         _ => Ok(NONE),
     }

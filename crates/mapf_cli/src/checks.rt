@@ -6,12 +6,12 @@ ghost use Rattle.mapf_plan.specs.Files.{is_read_failure, is_write_failure, AreWi
 ghost use Rattle.mapf_cli.specs.CheckRun.{IsJudged, IsTextsFault, HasOneMemory, LeavesVerdict, end_of, files};
 
 use crate::CheckFault;
-use mapf_check::{Verdict, check, line};
+use mapf_check::{Verdict, check_by, line};
 use mapf_grid::instance_of;
-use mapf_plan::{FileName, Sink, Source, read_answer, read_file, write_text};
+use mapf_plan::{FileName, Rule, Sink, Source, read_answer, read_file, write_text};
 use std::alloc::Global;
 
-/// Reads map, scenario and plan to their ends, in this order, judges the plan and writes the verdict's line.
+/// Reads map, scenario and plan to their ends, in this order, judges the plan by the rule and writes the verdict's line.
 ///
 /// Then map, scenario, instance and plan text are judged in this order. The verdict is answered after its line was
 /// written. The first failed call of a device ends the check; nothing is written before the verdict is known.
@@ -23,6 +23,7 @@ pub fn check_run<M: Source, S: Source, P: Source, O: Sink>(
     plan: &mut P,
     out: &mut O,
     agents: u64,
+    rule: Rule,
 ) -> Result<Verdict, CheckFault>
     requires map { M.failures map.old < u64.MAX }
     requires scen { S.failures scen.old < u64.MAX }
@@ -39,7 +40,7 @@ pub fn check_run<M: Source, S: Source, P: Source, O: Sink>(
     ensures within { AreWithin (files (M.remaining map.old) (S.remaining scen.old) (P.remaining plan.old)) (end_of result) }
 
     // What was written is the line of the verdict on what the readers gave.
-    ensures verdict { LeavesVerdict (M.remaining map.old) (S.remaining scen.old) (P.remaining plan.old) agents (O.contents out.old) (O.contents out.new) result }
+    ensures verdict { LeavesVerdict rule (M.remaining map.old) (S.remaining scen.old) (P.remaining plan.old) agents (O.contents out.old) (O.contents out.new) result }
 
     // Out of memory has one spelling.
     ensures memory { IfErr result HasOneMemory }
@@ -47,25 +48,26 @@ pub fn check_run<M: Source, S: Source, P: Source, O: Sink>(
     let map = read_file(alloc, map, FileName::Map)?;
     let scen = read_file(alloc, scen, FileName::Scenario)?;
     let plan = read_file(alloc, plan, FileName::Plan)?;
-    let (verdict, text) = judge(alloc, &map, &scen, &plan, agents)?;
+    let (verdict, text) = judge(alloc, &map, &scen, &plan, agents, rule)?;
     write_text(out, text.as_bytes())?;
     Ok(verdict)
 }
 
-/// The verdict on the bytes of three files, and its line.
+/// The verdict by this rule on the bytes of three files, and its line.
 fn judge(
     alloc: Global,
     map: &[u8],
     scen: &[u8],
     plan: &[u8],
     agents: u64,
+    rule: Rule,
 ) -> Result<(Verdict, String), CheckFault>
-    ensures judged { IfOk result (λ r. IsJudged map.now scen.now plan.now agents r.0 (string_bytes r.1)) }
+    ensures judged { IfOk result (λ r. IsJudged rule map.now scen.now plan.now agents r.0 (string_bytes r.1)) }
     ensures fault { IfErr result (IsTextsFault map.now scen.now plan.now agents) }
 {
     let instance = instance_of(alloc, map, scen, agents)?;
     let answer = read_answer(alloc, plan, instance.map())?;
-    let verdict = check(&instance, &answer);
+    let verdict = check_by(&instance, &answer, rule);
     let text = line(alloc, &verdict, instance.map())?;
     Ok((verdict, text))
 }

@@ -1,6 +1,7 @@
 //! The command line, as `clap` reads it.
 
 use clap::{Arg, ArgAction, ArgMatches, Command, Error, value_parser};
+use mapf_plan::Rule;
 use mapf_solve::Ask;
 use std::alloc::{AllocError, Global};
 
@@ -26,6 +27,8 @@ pub(crate) struct Check<'a> {
     pub(crate) plan: &'a str,
     /// How many agents there are.
     pub(crate) agents: u64,
+    /// By which rule agents collide.
+    pub(crate) rule: Rule,
 }
 
 /// What the words ask for.
@@ -59,6 +62,7 @@ fn solve_of<'a>(matches: &ArgMatches<'a>) -> Option<Solve<'a>> {
             bound: matches.get_one::<u64>("bound")?,
             workers: matches.get_one::<u64>("workers")?,
             nodes: matches.get_one::<u64>("nodes"),
+            rule: rule_of(matches),
         },
     })
 }
@@ -69,7 +73,16 @@ fn check_of<'a>(matches: &ArgMatches<'a>) -> Option<Check<'a>> {
         scen: matches.get_str("scen")?,
         plan: matches.get_str("plan")?,
         agents: matches.get_one::<u64>("agents")?,
+        rule: rule_of(matches),
     })
+}
+
+fn rule_of(matches: &ArgMatches<'_>) -> Rule {
+    if matches.get_flag("no-following") {
+        Rule::NoFollowing
+    } else {
+        Rule::Classical
+    }
 }
 
 fn program<'a>(alloc: Global) -> Result<Command<'a>, AllocError> {
@@ -114,7 +127,19 @@ fn files<'a>(alloc: Global, name: &'a str, about: &'a str) -> Result<Command<'a>
         .about(about)
         .arg(file(alloc, "map", "The map, in the MovingAI format"))?
         .arg(file(alloc, "scen", "The scenario, in the MovingAI format"))?
-        .arg(number(alloc, "agents", "How many agents, 1 to 1000"))
+        .arg(number(alloc, "agents", "How many agents, 1 to 1000"))?
+        .arg(flag(
+            alloc,
+            "no-following",
+            "No agent may enter a cell that another leaves in the same step",
+        ))
+}
+
+fn flag<'a>(alloc: Global, name: &'a str, help: &'a str) -> Arg<'a> {
+    Arg::new(alloc, name)
+        .long(name)
+        .help(help)
+        .action(ArgAction::SetTrue)
 }
 
 fn file<'a>(alloc: Global, name: &'a str, help: &'a str) -> Arg<'a> {

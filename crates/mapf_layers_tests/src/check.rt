@@ -1,6 +1,6 @@
-use mapf_check::{Verdict, check, line};
+use mapf_check::{Verdict, check, check_by, line};
 use mapf_grid::{Cell, Instance, Map, Scenario};
-use mapf_plan::{Answer, Conflict, Path, Plan};
+use mapf_plan::{Answer, Conflict, Path, Plan, Rule};
 use std::alloc::Global;
 use std::process::Abort;
 use std::test::Fail;
@@ -53,6 +53,22 @@ fn expect(
     let plan = plan_of(rt, alloc, paths)?;
     let answer = Answer::Plan { plan, stated };
     assert_eq!(rt; check(&instance, &answer), wanted);
+    Ok(())
+}
+
+/// Checks a plan for the two agents by this rule, stated to cost so much.
+fn expect_by(
+    rt: &impl Abort,
+    alloc: Global,
+    rule: Rule,
+    paths: &[&[u32]],
+    stated: u64,
+    wanted: Verdict,
+) -> Result<(), Fail> {
+    let instance = two_agents(alloc)?;
+    let plan = plan_of(rt, alloc, paths)?;
+    let answer = Answer::Plan { plan, stated };
+    assert_eq!(rt; check_by(&instance, &answer, rule), wanted);
     Ok(())
 }
 
@@ -114,6 +130,26 @@ fn conflicts(rt: HostRuntime) -> Result<(), Fail> {
         time: 1,
     });
     expect(&rt, alloc, &[&[1, 0, 1], &[0, 1, 2]], 4, changed_places)
+}
+
+/// Agent 1 enters cell 1 at the time at which agent 0 leaves it: a conflict by the second rule alone. Where it waits one
+/// time step and agent 0 comes back one time step after it went on, there is none.
+#[test]
+fn following_by_the_second_rule(rt: HostRuntime) -> Result<(), Fail> {
+    let alloc = rt.alloc();
+    let at_once: &[&[u32]] = &[&[1, 4, 1], &[0, 1, 2]];
+    let valid = Verdict::Valid { cost: 4 };
+    expect_by(&rt, alloc, Rule::Classical, at_once, 4, valid)?;
+    let entered = Verdict::Conflict(Conflict::Following {
+        follower: 1,
+        leader: 0,
+        cell: Cell::of(1),
+        time: 1,
+    });
+    expect_by(&rt, alloc, Rule::NoFollowing, at_once, 4, entered)?;
+    let apart: &[&[u32]] = &[&[1, 4, 4, 4, 1], &[0, 0, 1, 2]];
+    let valid = Verdict::Valid { cost: 7 };
+    expect_by(&rt, alloc, Rule::NoFollowing, apart, 7, valid)
 }
 
 #[test]
@@ -201,6 +237,17 @@ fn a_line_for_each_conflict(rt: HostRuntime) -> Result<(), Fail> {
     assert_eq!(rt;
         text.as_str(),
         "66 swapping conflict agents 0 1 from 1,0 to 1,1 time 3\n"
+    );
+    let following = Verdict::Conflict(Conflict::Following {
+        follower: 1,
+        leader: 0,
+        cell: from,
+        time: 1,
+    });
+    let text = line(alloc, &following, map)?;
+    assert_eq!(rt;
+        text.as_str(),
+        "66 following conflict agents 1 0 cell 1,0 time 1\n"
     );
     Ok(())
 }

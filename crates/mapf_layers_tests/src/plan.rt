@@ -1,3 +1,4 @@
 mod devices;
+mod following;
 mod plans;
 mod texts;

@@ -1,13 +1,15 @@
 -- The first conflict of a plan, or none.
-use Rattle.std.proofs.Common.{◌≡◌, ◌≢◌, ◌⊎◌, ℕ, ◌<◌, ◌≤◌, ◌+◌, ◌-◌, List, [], ◌∷◌, length, min, max, set, get_or-set_other, inl, inr, subst, sym, refl, ap, ap₂, ◌∙◌, ⊎_elim, arith, Contains}
+use Rattle.std.proofs.Common.{◌≡◌, ◌≢◌, ◌⊎◌, ℕ, ◌<◌, ◌≤◌, ◌+◌, ◌-◌, List, [], ◌∷◌, length, min, max, drop, get_or, set, get_or-set_other, inl, inr, subst, sym, refl, ap, ap₂, ◌∙◌, ⊎_elim, arith, Contains}
 use Rattle.std.specs.List.{flat_map}
 use Rattle.std.proofs.lemmas.Bool.{cases_lt}
-use Rattle.std.proofs.lemmas.List.{length-set}
+use Rattle.std.proofs.lemmas.List.{length-set, get_or-set_same}
 use Rattle.std.proofs.lemmas.List.Sums.{get_or-le-sum_by}
 use native.Mathlib.Decide.{ℕ_discrete, dec_le, dec_lt}
 use Rattle.mapf_plan.specs.Path.{cost, at}
 use Rattle.mapf_plan.specs.declared.conflict.Conflict.{Conflict}
-use Rattle.mapf_plan.specs.declared.conflict.Conflict.TheVariants.{Vertex, Swapping}
+use Rattle.mapf_plan.specs.declared.conflict.Conflict.TheVariants.{Vertex, Swapping, Following}
+use Rattle.mapf_plan.specs.declared.rule.Rule.{Rule}
+use Rattle.mapf_plan.specs.declared.rule.Rule.TheVariants.{Classical, NoFollowing}
 use Rattle.mapf_plan.specs.Plan.{IsConflict, IsFirstConflict, HasNoConflict, conflict_rank, conflict_time, first_agent, second_agent, path_of, place, plan_cost}
 use Rattle.mapf_grid.specs.Least.{Precedes, NoneBefore}
 use Rattle.mapf_grid.proofs.Decide.{dec_map, dec_and, dec_not}
@@ -17,36 +19,82 @@ use Rattle.mapf_plan.specs.FirstConflict.{IsConflictOfPair, IsConflictWithout}
 use Rattle.mapf_grid.proofs.Lists.{below, Contains-below, Contains-flat_map}
 use Rattle.mapf_plan.proofs.Paths.{at_past}
 
+-- what holds of two numbers holds of the smaller and of the larger
+pub both_of : (P : ℕ → Type 0) (i j : ℕ) → P i → P j → P (min i j) × P (max i j)
+both_of P i j hi hj =
+    ⊎_elim (λ l. (subst P (lower l) hi, subst P (upper l) hj)) (λ l. (subst P (lower' l) hj, subst P (upper' l) hi)) (cases_lt i j)
+  where
+    lower : i < j → i ≡ min i j
+    lower l = omega (arith, l)
+
+    upper : i < j → j ≡ max i j
+    upper l = omega (arith, l)
+
+    lower' : j ≤ i → j ≡ min i j
+    lower' l = omega (arith, l)
+
+    upper' : j ≤ i → i ≡ max i j
+    upper' l = omega (arith, l)
+
+-- and what holds of the smaller and of the larger holds of both
+pub of_both : (P : ℕ → Type 0) (i j : ℕ) → P (min i j) → P (max i j) → P i × P j
+of_both P i j low high =
+    ⊎_elim (λ l. (subst P (lower l) low, subst P (upper l) high)) (λ l. (subst P (upper' l) high, subst P (lower' l) low)) (cases_lt i j)
+  where
+    lower : i < j → min i j ≡ i
+    lower l = omega (arith, l)
+
+    upper : i < j → max i j ≡ j
+    upper l = omega (arith, l)
+
+    lower' : j ≤ i → min i j ≡ j
+    lower' l = omega (arith, l)
+
+    upper' : j ≤ i → max i j ≡ i
+    upper' l = omega (arith, l)
+
+-- whether following is forbidden can be decided
+dec_rule : (rule : Rule) → Dec (rule ≡ NoFollowing)
+dec_rule Classical = no (λ e. cc)
+dec_rule NoFollowing = yes refl
+
 -- whether a plan has this conflict can be decided
-dec_conflict : (plan : List (List ℕ)) (c : Conflict) → Dec (IsConflict plan c)
-dec_conflict plan (Vertex i j v t) =
+dec_conflict : (rule : Rule) (plan : List (List ℕ)) (c : Conflict) → Dec (IsConflict rule plan c)
+dec_conflict rule plan (Vertex i j v t) =
     dec_map (λ h. (h.0, h.1.0, h.1.1.0, h.1.1.1)) (λ h. (h.0, (h.1, (h.2, h.3))))
     (dec_and (dec_lt i j) (dec_and (dec_lt j (length plan)) (dec_and (ℕ_discrete (place plan i t) v) (ℕ_discrete (place plan j t) v))))
-dec_conflict plan (Swapping i j u v t) =
+dec_conflict rule plan (Swapping i j u v t) =
     dec_map
     (λ h. (h.0, h.1.0, h.1.1.0, h.1.1.1.0, h.1.1.1.1.0, h.1.1.1.1.1.0, h.1.1.1.1.1.1.0, h.1.1.1.1.1.1.1))
     (λ h. (h.0, (h.1, (h.2, (h.3, (h.4, (h.5, (h.6, h.7))))))))
     (dec_and (dec_lt i j) (dec_and (dec_lt j (length plan)) (dec_and (dec_lt 0 t) (dec_and (dec_not (ℕ_discrete u v))
     (dec_and (ℕ_discrete (place plan i (t - 1)) u) (dec_and (ℕ_discrete (place plan i t) v) (dec_and (ℕ_discrete (place plan j (t - 1)) v) (ℕ_discrete (place plan j t) u))))))))
+dec_conflict rule plan (Following i j v t) =
+    dec_map
+    (λ h. (h.0, h.1.0, h.1.1.0, h.1.1.1.0, h.1.1.1.1.0, h.1.1.1.1.1.0, h.1.1.1.1.1.1))
+    (λ h. (h.0, (h.1, (h.2, (h.3, (h.4, (h.5, h.6)))))))
+    (dec_and (dec_rule rule) (dec_and (dec_not (ℕ_discrete i j)) (dec_and (dec_lt i (length plan)) (dec_and (dec_lt j (length plan))
+    (dec_and (dec_lt 0 t) (dec_and (ℕ_discrete (place plan i t) v) (ℕ_discrete (place plan j (t - 1)) v)))))))
 
 -- no path changes its place from the bound on
 same_place : (plan : List (List ℕ)) (b i s t : ℕ) → cost (path_of plan i) ≤ b → b ≤ s → b ≤ t → place plan i s ≡ place plan i t
 same_place plan b i s t h k l = at_past (path_of plan i) s (omega (arith, h, k)) ∙ sym (at_past (path_of plan i) t (omega (arith, h, l)))
 
 -- of a conflict's agents the first is smaller, and both are the plan's
-pub agents_of : (plan : List (List ℕ)) (c : Conflict) → IsConflict plan c → (first_agent c < second_agent c) × (second_agent c < length plan)
-agents_of plan (Vertex i j v t) is = (is.0, is.1)
-agents_of plan (Swapping i j u v t) is = (is.0, is.1)
+pub agents_of : (rule : Rule) (plan : List (List ℕ)) (c : Conflict) → IsConflict rule plan c → (first_agent c < second_agent c) × (second_agent c < length plan)
+agents_of rule plan (Vertex i j v t) is = (is.0, is.1)
+agents_of rule plan (Swapping i j u v t) is = (is.0, is.1)
+agents_of rule plan (Following i j v t) is = (omega (arith, is.1), omega (arith, is.2, is.3))
 
 -- a conflict is at most at the bound, or its agents have one at the bound, before it
-abbrev IsEarly : List (List ℕ) → ℕ → Conflict → Type 0
-IsEarly plan b c =
-    (conflict_time c ≤ b) ⊎ ((d : Conflict) × IsConflictOfPair plan (first_agent c) (second_agent c) d × (conflict_time d ≡ b) × (conflict_time d < conflict_time c))
+abbrev IsEarly : Rule → List (List ℕ) → ℕ → Conflict → Type 0
+IsEarly rule plan b c =
+    (conflict_time c ≤ b) ⊎ ((d : Conflict) × IsConflictOfPair rule plan (first_agent c) (second_agent c) d × (conflict_time d ≡ b) × (conflict_time d < conflict_time c))
 
 -- it is, where both paths end by the bound
-early_of : (plan : List (List ℕ)) (b : ℕ) (c : Conflict) → cost (path_of plan (first_agent c)) ≤ b → cost (path_of plan (second_agent c)) ≤ b →
-    IsConflict plan c → IsEarly plan b c
-early_of plan b (Vertex i j v t) hi hj h =
+early_of : (rule : Rule) (plan : List (List ℕ)) (b : ℕ) (c : Conflict) → cost (path_of plan (first_agent c)) ≤ b → cost (path_of plan (second_agent c)) ≤ b →
+    IsConflict rule plan c → IsEarly rule plan b c
+early_of rule plan b (Vertex i j v t) hi hj h =
     ⊎_elim
     (λ l. inr (
       Vertex i j v b,
@@ -55,34 +103,51 @@ early_of plan b (Vertex i j v t) hi hj h =
       l,
     ))
     inl (cases_lt b t)
-early_of plan b (Swapping i j u v t) hi hj h =
+early_of rule plan b (Swapping i j u v t) hi hj h =
     ⊎_elim (λ l. absurd (h.3 (sym h.4 ∙ same_place plan b i (t - 1) t hi (omega (arith, l)) (omega (arith, l)) ∙ h.5))) inl (cases_lt b t)
+early_of rule plan b (Following i j v t) hi hj h =
+    let costs = of_both (λ k. cost (path_of plan k) ≤ b) i j hi hj in
+    ⊎_elim
+    (λ l.
+    let there : (place plan i b ≡ v) × (place plan j b ≡ v) = (
+      same_place plan b i b t costs.0 (omega arith) (omega (arith, l)) ∙ h.5,
+      same_place plan b j b (t - 1) costs.1 (omega arith) (omega (arith, l)) ∙ h.6,
+    ) in
+    let both = both_of (λ k. place plan k b ≡ v) i j there.0 there.1 in
+    let agents = agents_of rule plan (Following i j v t) h in
+    inr (Vertex (min i j) (max i j) v b, ((agents.0, agents.1, both.0, both.1), refl, refl), refl, l))
+    inl (cases_lt b t)
 
 -- and where all paths do
-early : (plan : List (List ℕ)) (b : ℕ) → ((i : ℕ) → i < length plan → cost (path_of plan i) ≤ b) → (c : Conflict) → IsConflict plan c → IsEarly plan b c
-early plan b costs c h =
-    let l = agents_of plan c h in
-    early_of plan b c (costs (first_agent c) (omega (arith, l.0, l.1))) (costs (second_agent c) l.1) h
+early : (rule : Rule) (plan : List (List ℕ)) (b : ℕ) → ((i : ℕ) → i < length plan → cost (path_of plan i) ≤ b) → (c : Conflict) → IsConflict rule plan c → IsEarly rule plan b c
+early rule plan b costs c h =
+    let l = agents_of rule plan c h in
+    early_of rule plan b c (costs (first_agent c) (omega (arith, l.0, l.1))) (costs (second_agent c) l.1) h
+
+-- a conflict's rank begins with its time
+pub by_time : (c : Conflict) → conflict_rank c ≡ conflict_time c ∷ drop 1 (conflict_rank c)
+by_time (Vertex i j v t) = refl
+by_time (Swapping i j u v t) = refl
+by_time (Following i j v t) = refl
 
 -- of two conflicts at different times the earlier one is first
-before : (c d : Conflict) → conflict_time c < conflict_time d → Precedes (conflict_rank c) (conflict_rank d)
-before (Vertex i j v t) (Vertex i' j' v' t') h = inl h
-before (Vertex i j v t) (Swapping i' j' u' v' t') h = inl h
-before (Swapping i j u v t) (Vertex i' j' v' t') h = inl h
-before (Swapping i j u v t) (Swapping i' j' u' v' t') h = inl h
+pub before : (c d : Conflict) → conflict_time c < conflict_time d → Precedes (conflict_rank c) (conflict_rank d)
+before c d h =
+    subst (λ r. Precedes (conflict_rank c) r) (sym (by_time d))
+    (subst (λ r. Precedes r (conflict_time d ∷ drop 1 (conflict_rank d))) (sym (by_time c)) (inl h))
 
 -- and the later one isn't
-not_before : (c d : Conflict) → conflict_time c < conflict_time d → ¬ Precedes (conflict_rank d) (conflict_rank c)
+pub not_before : (c d : Conflict) → conflict_time c < conflict_time d → ¬ Precedes (conflict_rank d) (conflict_rank c)
 not_before c d h = asymmetric (conflict_rank c) (conflict_rank d) (before c d h)
 
 -- so the first conflict is at most at the bound
-pub first_early : (plan : List (List ℕ)) (b : ℕ) → ((i : ℕ) → i < length plan → cost (path_of plan i) ≤ b) → (c : Conflict) → IsFirstConflict plan c → conflict_time c ≤ b
-first_early plan b costs c first = ⊎_elim (λ h. h) (λ w. absurd (first.least w.0 w.1.0 (before w.0 c w.3))) (early plan b costs c first.member)
+pub first_early : (rule : Rule) (plan : List (List ℕ)) (b : ℕ) → ((i : ℕ) → i < length plan → cost (path_of plan i) ≤ b) → (c : Conflict) → IsFirstConflict rule plan c → conflict_time c ≤ b
+first_early rule plan b costs c first = ⊎_elim (λ h. h) (λ w. absurd (first.least w.0 w.1.0 (before w.0 c w.3))) (early rule plan b costs c first.member)
 
 module _ (plan : List (List ℕ)) where
-  -- both conflicts that two agents may have at a time
+  -- the conflicts that two agents may have at a time, the first of them as the follower
   of_pair : ℕ → ℕ → ℕ → List Conflict
-  of_pair t i j = Vertex i j (place plan i t) t ∷ Swapping i j (place plan i (t - 1)) (place plan i t) t ∷ []
+  of_pair t i j = Vertex i j (place plan i t) t ∷ Swapping i j (place plan i (t - 1)) (place plan i t) t ∷ Following i j (place plan i t) t ∷ []
 
   -- those of an agent, and those of all agents
   of_agent : ℕ → ℕ → List Conflict
@@ -104,15 +169,17 @@ module _ (plan : List (List ℕ)) where
       (Contains-flat_map (of_pair t i) (below (length plan)) j c (Contains-below (length plan) j lj) is))
 
   -- so they hold each conflict up to the time
-  covers : (b : ℕ) (c : Conflict) → IsConflict plan c × (conflict_time c ≤ b) → Contains (candidates b) c
+  covers : (rule : Rule) (b : ℕ) (c : Conflict) → IsConflict rule plan c × (conflict_time c ≤ b) → Contains (candidates b) c
   unfolding of_pair
-  covers b (Vertex i j v t) h = at_agents b t i j (Vertex i j v t) h.1 (omega (arith, h.0.0, h.0.1)) h.0.1 (0, omega arith, ap (λ v. Vertex i j v t) h.0.2)
-  covers b (Swapping i j u v t) h =
+  covers rule b (Vertex i j v t) h = at_agents b t i j (Vertex i j v t) h.1 (omega (arith, h.0.0, h.0.1)) h.0.1 (0, omega arith, ap (λ v. Vertex i j v t) h.0.2)
+  covers rule b (Swapping i j u v t) h =
       at_agents b t i j (Swapping i j u v t) h.1 (omega (arith, h.0.0, h.0.1)) h.0.1 (1, omega arith, ap₂ (λ u v. Swapping i j u v t) h.0.4 h.0.5)
+  covers rule b (Following i j v t) h =
+      at_agents b t i j (Following i j v t) h.1 h.0.2 h.0.3 (2, omega arith, ap (λ v. Following i j v t) h.0.5)
 
 -- a plan has a first conflict, or none at any time
-pub first_conflict : (plan : List (List ℕ)) → ((c : Conflict) × IsFirstConflict plan c) ⊎ HasNoConflict plan
-first_conflict plan =
+pub first_conflict : (rule : Rule) (plan : List (List ℕ)) → ((c : Conflict) × IsFirstConflict rule plan c) ⊎ HasNoConflict rule plan
+first_conflict rule plan =
     ⊎_elim
     (λ w. inl (
       w.0,
@@ -123,89 +190,125 @@ first_conflict plan =
       },
     ))
     (λ f. inr (λ d k. ⊎_elim (λ h. f d (k, h)) (λ e. f e.0 (e.1.0, omega (arith, e.2))) (by_end d k)))
-    (least_of conflict_rank (λ c. IsConflict plan c × (conflict_time c ≤ plan_cost plan)) (λ c. dec_and (dec_conflict plan c) (dec_le (conflict_time c) (plan_cost plan)))
-    (candidates plan (plan_cost plan)) (covers plan (plan_cost plan)))
+    (least_of conflict_rank (λ c. IsConflict rule plan c × (conflict_time c ≤ plan_cost plan)) (λ c. dec_and (dec_conflict rule plan c) (dec_le (conflict_time c) (plan_cost plan)))
+    (candidates plan (plan_cost plan)) (covers plan rule (plan_cost plan)))
   where
-    by_end : (d : Conflict) → IsConflict plan d → IsEarly plan (plan_cost plan) d
-    by_end = early plan (plan_cost plan) (λ i h. get_or-le-sum_by cost plan i [] h)
+    by_end : (d : Conflict) → IsConflict rule plan d → IsEarly rule plan (plan_cost plan) d
+    by_end = early rule plan (plan_cost plan) (λ i h. get_or-le-sum_by cost plan i [] h)
 
 -- a plan has one conflict of a rank at most
-pub same_conflict_rank : (plan : List (List ℕ)) (c d : Conflict) → IsConflict plan c → IsConflict plan d → conflict_rank c ≡ conflict_rank d → c ≡ d
-same_conflict_rank plan (Vertex i j v t) (Vertex i' j' v' t') h k e =
+pub same_conflict_rank : (rule : Rule) (plan : List (List ℕ)) (c d : Conflict) → IsConflict rule plan c → IsConflict rule plan d → conflict_rank c ≡ conflict_rank d → c ≡ d
+same_conflict_rank rule plan (Vertex i j v t) (Vertex i' j' v' t') h k e =
     let et : t ≡ t' = cc in let ei : i ≡ i' = cc in let ej : j ≡ j' = cc in
     let ev : v ≡ v' = sym h.2 ∙ ap₂ (λ a b. place plan a b) ei et ∙ k.2 in
     cc
-same_conflict_rank plan (Vertex i j v t) (Swapping i' j' u' v' t') h k e = let z : ◌≡◌ {A = ℕ} 0 1 = cc in absurd (omega (arith, z))
-same_conflict_rank plan (Swapping i j u v t) (Vertex i' j' v' t') h k e = let z : ◌≡◌ {A = ℕ} 1 0 = cc in absurd (omega (arith, z))
-same_conflict_rank plan (Swapping i j u v t) (Swapping i' j' u' v' t') h k e =
+same_conflict_rank rule plan (Swapping i j u v t) (Swapping i' j' u' v' t') h k e =
     let et : t ≡ t' = cc in let ei : i ≡ i' = cc in let ej : j ≡ j' = cc in
     let ev : v ≡ v' = sym h.5 ∙ ap₂ (λ a b. place plan a b) ei et ∙ k.5 in
     let eu : u ≡ u' = sym h.4 ∙ ap₂ (λ a b. place plan a (b - 1)) ei et ∙ k.4 in
     cc
+same_conflict_rank rule plan (Following i j v t) (Following i' j' v' t') h k e =
+    let et : t ≡ t' = cc in let ei : i ≡ i' = cc in let low : min i j ≡ min i' j' = cc in let high : max i j ≡ max i' j' = cc in
+    let ej : j ≡ j' = omega (arith, ei, low, high) in
+    let ev : v ≡ v' = sym h.5 ∙ ap₂ (λ a b. place plan a b) ei et ∙ k.5 in
+    cc
+same_conflict_rank rule plan c d h k e = absurd (omega (arith, ap (λ r. get_or r 1 0) e))
 
 -- a plan has one first conflict at most
-pub same_first : (plan : List (List ℕ)) (c d : Conflict) → IsFirstConflict plan c → IsFirstConflict plan d → c ≡ d
-same_first plan c d h k = same_conflict_rank plan c d h.member k.member (same_rank conflict_rank (IsConflict plan) c d h k)
+pub same_first : (rule : Rule) (plan : List (List ℕ)) (c d : Conflict) → IsFirstConflict rule plan c → IsFirstConflict rule plan d → c ≡ d
+same_first rule plan c d h k = same_conflict_rank rule plan c d h.member k.member (same_rank conflict_rank (IsConflict rule plan) c d h k)
 
 -- a conflict up to a time precedes all later ones
-at_front : (c : Conflict) (b : ℕ) → conflict_time c ≤ b → Precedes (conflict_rank c) ((b + 1) ∷ [])
-at_front (Vertex i j v t) b h = inl (omega (arith, h))
-at_front (Swapping i j u v t) b h = inl (omega (arith, h))
+pub at_front : (c : Conflict) (b : ℕ) → conflict_time c ≤ b → Precedes (conflict_rank c) ((b + 1) ∷ [])
+at_front c b h = subst (λ r. Precedes r ((b + 1) ∷ [])) (sym (by_time c)) (inl (omega (arith, h)))
 
 -- no conflict up to the longest path's end is none at any time
-pub none_after : (plan : List (List ℕ)) (b t : ℕ) → ((i : ℕ) → i < length plan → cost (path_of plan i) ≤ b) → t ≡ b + 1 → NoneBefore conflict_rank (IsConflict plan) (t ∷ []) → HasNoConflict plan
-none_after plan b t costs e none c is =
-    let none' = subst (λ s. NoneBefore conflict_rank (IsConflict plan) (s ∷ [])) e none in
-    ⊎_elim (λ h. none' c is (at_front c b h)) (λ w. none' w.0 w.1.0 (at_front w.0 b (omega (arith, w.2)))) (early plan b costs c is)
+pub none_after : (rule : Rule) (plan : List (List ℕ)) (b t : ℕ) → ((i : ℕ) → i < length plan → cost (path_of plan i) ≤ b) → t ≡ b + 1 → NoneBefore conflict_rank (IsConflict rule plan) (t ∷ []) → HasNoConflict rule plan
+none_after rule plan b t costs e none c is =
+    let none' = subst (λ s. NoneBefore conflict_rank (IsConflict rule plan) (s ∷ [])) e none in
+    ⊎_elim (λ h. none' c is (at_front c b h)) (λ w. none' w.0 w.1.0 (at_front w.0 b (omega (arith, w.2)))) (early rule plan b costs c is)
 
 -- two agents that have no conflict up to the end of the longer path have none at any time
-pub none_of_pair : (plan : List (List ℕ)) (i j b : ℕ) → cost (path_of plan i) ≤ b → cost (path_of plan j) ≤ b → NoneBefore conflict_rank (IsConflictOfPair plan i j) ((b + 1) ∷ []) → (c : Conflict) → ¬ IsConflictOfPair plan i j c
-none_of_pair plan i j b hi hj none c is =
+pub none_of_pair : (rule : Rule) (plan : List (List ℕ)) (i j b : ℕ) → cost (path_of plan i) ≤ b → cost (path_of plan j) ≤ b → NoneBefore conflict_rank (IsConflictOfPair rule plan i j) ((b + 1) ∷ []) → (c : Conflict) → ¬ IsConflictOfPair rule plan i j c
+none_of_pair rule plan i j b hi hj none c is =
     ⊎_elim (λ h. none c is (at_front c b h)) (λ w. none w.0 (w.1.0, w.1.1 ∙ is.1, w.1.2 ∙ is.2) (at_front w.0 b (omega (arith, w.2))))
-    (early_of plan b c (subst (λ a. cost (path_of plan a) ≤ b) (sym is.1) hi) (subst (λ a. cost (path_of plan a) ≤ b) (sym is.2) hj) is.0)
+    (early_of rule plan b c (subst (λ a. cost (path_of plan a) ≤ b) (sym is.1) hi) (subst (λ a. cost (path_of plan a) ≤ b) (sym is.2) hj) is.0)
 
 -- nor have they one before a known conflict, if they have none up to its time
-pub none_before_known : (plan : List (List ℕ)) (i j longer last : ℕ) (known : Conflict) → cost (path_of plan i) ≤ longer → cost (path_of plan j) ≤ longer → last ≡ min longer (conflict_time known) → NoneBefore conflict_rank (IsConflictOfPair plan i j) ((last + 1) ∷ []) → (c : Conflict) → IsConflictOfPair plan i j c → ¬ Precedes (conflict_rank c) (conflict_rank known)
-none_before_known plan i j longer last known hi hj e none c is before_known =
+pub none_before_known : (rule : Rule) (plan : List (List ℕ)) (i j longer last : ℕ) (known : Conflict) → cost (path_of plan i) ≤ longer → cost (path_of plan j) ≤ longer → last ≡ min longer (conflict_time known) → NoneBefore conflict_rank (IsConflictOfPair rule plan i j) ((last + 1) ∷ []) → (c : Conflict) → IsConflictOfPair rule plan i j c → ¬ Precedes (conflict_rank c) (conflict_rank known)
+none_before_known rule plan i j longer last known hi hj e none c is before_known =
     ⊎_elim
     (λ h. ⊎_elim (λ l. not_before known c l before_known) (λ l. none c is (at_front c last (omega (arith, l, h, e)))) (cases_lt (conflict_time known) (conflict_time c)))
-    (λ h. none_of_pair plan i j last (omega (arith, hi, h)) (omega (arith, hj, h)) none c is) (cases_lt last longer)
+    (λ h. none_of_pair rule plan i j last (omega (arith, hi, h)) (omega (arith, hj, h)) none c is) (cases_lt last longer)
 
 -- a conflict of an agent is one of a pair: that agent and another of the plan
-pub with_another : (plan : List (List ℕ)) (agent : ℕ) (c : Conflict) → IsConflict plan c → (first_agent c ≡ agent) ⊎ (second_agent c ≡ agent) → (k : ℕ) × (k < length plan) × (k ≢ agent) × IsConflictOfPair plan (min agent k) (max agent k) c
-with_another plan agent c is (inl e) =
-    let l = agents_of plan c is in
+pub with_another : (rule : Rule) (plan : List (List ℕ)) (agent : ℕ) (c : Conflict) → IsConflict rule plan c → (first_agent c ≡ agent) ⊎ (second_agent c ≡ agent) → (k : ℕ) × (k < length plan) × (k ≢ agent) × IsConflictOfPair rule plan (min agent k) (max agent k) c
+with_another rule plan agent c is (inl e) =
+    let l = agents_of rule plan c is in
     (second_agent c, l.1, (λ h. omega (arith, h, e, l.0)), (is, omega (arith, e, l.0), omega (arith, e, l.0)))
-with_another plan agent c is (inr e) =
-    let l = agents_of plan c is in
+with_another rule plan agent c is (inr e) =
+    let l = agents_of rule plan c is in
     (first_agent c, omega (arith, l.0, l.1), (λ h. omega (arith, h, e, l.0)), (is, omega (arith, e, l.0), omega (arith, e, l.0)))
 
 -- a conflict that is before a time is before each conflict of that time
 before_time : (c d : Conflict) → Precedes (conflict_rank c) (conflict_time d ∷ []) → Precedes (conflict_rank c) (conflict_rank d)
-before_time (Vertex i j v t) d h = before (Vertex i j v t) d (before_place t (conflict_time d) (0 ∷ i ∷ j ∷ []) h)
-before_time (Swapping i j u v t) d h = before (Swapping i j u v t) d (before_place t (conflict_time d) (1 ∷ i ∷ j ∷ []) h)
+before_time c d h =
+    before c d
+    (before_place (conflict_time c) (conflict_time d) (drop 1 (conflict_rank c)) (subst (λ r. Precedes r (conflict_time d ∷ [])) (by_time c) h))
 
 -- where another path is put in for one agent, the others are where they were
 other_place : (plan : List (List ℕ)) (agent : ℕ) (path : List ℕ) (k t : ℕ) → k ≢ agent → place plan k t ≡ place (set plan agent path) k t
 other_place plan agent path k t n = ap (λ p. at p t) (sym (get_or-set_other plan agent k path [] n))
 
--- and their conflicts stand
-others_stand : (plan : List (List ℕ)) (agent : ℕ) (path : List ℕ) (c : Conflict) → IsConflictWithout (set plan agent path) agent c → IsConflict plan c
-others_stand plan agent path (Vertex i j v t) is =
-    let same = other_place plan agent path in
-    (is.0.0, omega (arith, is.0.1, length-set plan agent path), same i t is.1 ∙ is.0.2, same j t is.2 ∙ is.0.3)
-others_stand plan agent path (Swapping i j u v t) is =
-    let same = other_place plan agent path in (
-      is.0.0,
-      omega (arith, is.0.1, length-set plan agent path),
-      is.0.2,
-      is.0.3,
-      same i (t - 1) is.1 ∙ is.0.4,
-      same i t is.1 ∙ is.0.5,
-      same j (t - 1) is.2 ∙ is.0.6,
-      same j t is.2 ∙ is.0.7,
+-- where two plans have a conflict's agents in the same places up to its time, it is a conflict of both
+stands : (rule : Rule) (plan other : List (List ℕ)) (c : Conflict) → length other ≡ length plan
+    → ((t : ℕ) → t ≤ conflict_time c → place plan (first_agent c) t ≡ place other (first_agent c) t)
+    → ((t : ℕ) → t ≤ conflict_time c → place plan (second_agent c) t ≡ place other (second_agent c) t) → IsConflict rule other c → IsConflict rule plan c
+stands rule plan other (Vertex i j v t) l one two is = (is.0, omega (arith, is.1, l), one t (omega arith) ∙ is.2, two t (omega arith) ∙ is.3)
+stands rule plan other (Swapping i j u v t) l one two is = (
+  is.0,
+  omega (arith, is.1, l),
+  is.2,
+  is.3,
+  one (t - 1) (omega arith) ∙ is.4,
+  one t (omega arith) ∙ is.5,
+  two (t - 1) (omega arith) ∙ is.6,
+  two t (omega arith) ∙ is.7,
+)
+stands rule plan other (Following i j v t) l one two is =
+    let both = of_both (λ k. (s : ℕ) → s ≤ t → place plan k s ≡ place other k s) i j one two in (
+      is.0,
+      is.1,
+      omega (arith, is.2, l),
+      omega (arith, is.3, l),
+      is.4,
+      both.0 t (omega arith) ∙ is.5,
+      both.1 (t - 1) (omega arith) ∙ is.6,
     )
 
 -- so they have none before the time of the plan's first conflict
-pub none_without : (plan : List (List ℕ)) (agent : ℕ) (path : List ℕ) (c : Conflict) → agent < length plan → IsFirstConflict plan c → NoneBefore conflict_rank (IsConflictWithout (set plan agent path) agent) (conflict_time c ∷ [])
-none_without plan agent path c l first d is before_c = first.least d (others_stand plan agent path d is) (before_time d c before_c)
+pub none_without : (rule : Rule) (plan : List (List ℕ)) (agent : ℕ) (path : List ℕ) (c : Conflict) → agent < length plan → IsFirstConflict rule plan c → NoneBefore conflict_rank (IsConflictWithout rule (set plan agent path) agent) (conflict_time c ∷ [])
+none_without rule plan agent path c l first d is before_c =
+    first.least d
+    (stands rule plan (set plan agent path) d (length-set plan agent path) (λ t _. other_place plan agent path (first_agent d) t is.1)
+    (λ t _. other_place plan agent path (second_agent d) t is.2) is.0)
+    (before_time d c before_c)
+
+-- where the path put in is the agent's own up to a time, all agents are where they were up to it
+pub changed_place : (plan : List (List ℕ)) (agent : ℕ) (path : List ℕ) (from k t : ℕ) → agent < length plan → ((s : ℕ) → s < from → at path s ≡ at (path_of plan agent) s) → t < from
+    → place plan k t ≡ place (set plan agent path) k t
+changed_place plan agent path from k t l same h = go (ℕ_discrete k agent)
+  where
+    go : Dec (k ≡ agent) → place plan k t ≡ place (set plan agent path) k t
+    go (no n) = other_place plan agent path k t n
+    go (yes e) = ap (λ a. place plan a t) e ∙ sym (same t h) ∙ ap (λ p. at p t) (sym (get_or-set_same plan agent path [] l)) ∙ ap (λ a. place (set plan agent path) a t) (sym e)
+
+-- and no two of them have a conflict before it, if the plan's first one isn't before it
+pub none_before_change : (rule : Rule) (plan : List (List ℕ)) (agent : ℕ) (path : List ℕ) (from : ℕ) (c : Conflict) → agent < length plan → IsFirstConflict rule plan c
+    → from ≤ conflict_time c → ((s : ℕ) → s < from → at path s ≡ at (path_of plan agent) s) → NoneBefore conflict_rank (IsConflict rule (set plan agent path)) (from ∷ [])
+none_before_change rule plan agent path from c l first h same d is sooner =
+    let early : conflict_time d < from = before_place (conflict_time d) from (drop 1 (conflict_rank d)) (subst (λ r. Precedes r (from ∷ [])) (by_time d) sooner) in
+    first.least d
+    (stands rule plan (set plan agent path) d (length-set plan agent path) (λ t k. changed_place plan agent path from (first_agent d) t l same (omega (arith, k, early)))
+    (λ t k. changed_place plan agent path from (second_agent d) t l same (omega (arith, k, early))) is)
+    (before d c (omega (arith, early, h)))

@@ -1,5 +1,6 @@
 pub mod Paths
 pub mod Conflicts
+pub mod Steps
 pub mod Pieces
 pub mod Known
 pub mod Numbers

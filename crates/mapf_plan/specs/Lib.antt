@@ -1,5 +1,6 @@
 pub mod Device
 pub mod FirstConflict
+pub mod Marks
 pub mod Head
 pub mod Path
 pub mod Plan

@@ -5,6 +5,7 @@ ghost use Rattle.mapf_plan.specs.Plan.{conflict_rank, conflict_time};
 use mapf_grid::Cell;
 
 /// Two agents that collide, as Stern et al. 2019 name it; `first` is the agent with the smaller number.
+/// Vertex and swapping conflicts are collisions by both rules, following conflicts by `Rule::NoFollowing` alone.
 #[derive(Clone, Copy, Debug, PartialEq, Eq)]
 pub enum Conflict {
     /// Both agents are on this cell at this time step.
@@ -22,19 +23,29 @@ pub enum Conflict {
         to: Cell,
         time: u32,
     },
+    /// At this time step `follower` is on the cell on which `leader` was at `time - 1`.
+    Following {
+        follower: usize,
+        leader: usize,
+        cell: Cell,
+        time: u32,
+    },
 }
 
 impl Conflict {
-    /// The time step of the conflict; of a swapping conflict the one at which both agents have moved.
+    /// The time step of the conflict; of a swapping or a following conflict the one at which the agents have moved.
     pub fn time(&self) -> u32
         ensures { result ≡ conflict_time self.now }
     {
-        let (Conflict::Vertex { time, .. } | Conflict::Swapping { time, .. }) = *self;
-        time
+        match *self {
+            Conflict::Vertex { time, .. }
+            | Conflict::Swapping { time, .. }
+            | Conflict::Following { time, .. } => time,
+        }
     }
 
-    /// Whether this conflict comes before the other: by time, a vertex conflict before a swapping one,
-    /// then by the smaller agent, and then by the larger.
+    /// Whether this conflict comes before the other: by time, a vertex conflict before a swapping one and that before
+    /// a following one, then by the smaller agent, by the larger, and the smaller agent as the follower first.
     pub fn is_before(&self, other: &Conflict) -> bool
         ensures { IsTrue result ↔ Precedes (conflict_rank self.now) (conflict_rank other.now) }
     {
@@ -42,7 +53,7 @@ impl Conflict {
     }
 
     /// What conflicts are ordered by.
-    fn rank(&self) -> [u64; 4]
+    fn rank(&self) -> [u64; 5]
         ensures { result ≡ conflict_rank self.now }
     {
         match *self {
@@ -51,13 +62,25 @@ impl Conflict {
                 second,
                 time,
                 ..
-            } => [u64::from(time), 0, first as u64, second as u64],
+            } => [u64::from(time), 0, first as u64, second as u64, 0],
             Conflict::Swapping {
                 first,
                 second,
                 time,
                 ..
-            } => [u64::from(time), 1, first as u64, second as u64],
+            } => [u64::from(time), 1, first as u64, second as u64, 0],
+            Conflict::Following {
+                follower,
+                leader,
+                time,
+                ..
+            } => [
+                u64::from(time),
+                2,
+                follower.min(leader) as u64,
+                follower.max(leader) as u64,
+                follower as u64,
+            ],
         }
     }
 }

@@ -7,8 +7,12 @@ mod conflict;
 mod device;
 mod first_conflict;
 pub mod laws;
+mod marks;
+mod pair_conflicts;
 mod path;
 mod plan;
+mod rule;
+mod step_conflicts;
 mod text;
 
 pub use agent_paths::AgentPaths;
@@ -21,4 +25,5 @@ pub use device::{
 pub use first_conflict::first_conflict_of_changed;
 pub use path::Path;
 pub use plan::Plan;
+pub use rule::Rule;
 pub use text::{TextFault, push_number, push_position, read_answer, write};

@@ -1,4 +1,4 @@
-ghost use Rattle.std.specs.Prelude.{◌≡◌, ◌<◌, ◌≤◌, length};
+ghost use Rattle.std.specs.Prelude.{◌≡◌, ℕ, ◌<◌, ◌≤◌, length};
 ghost use Rattle.mapf_plan.specs.Path.{at, cost, most_cells};
 ghost use Rattle.mapf_plan.specs.Plan.{most_bound};
 
@@ -61,5 +61,18 @@ impl Path {
         } else {
             self.cells[self.cells.len() - 1]
         }
+    }
+
+    /// For how many time steps from the first on the two paths are on the same cells, as far as the shorter one goes.
+    pub fn shared_steps(&self, other: &Path) -> u32
+        ensures { (time : ℕ) → time < result → at self.now time ≡ at other.now time }
+    {
+        let steps = self.cost().min(other.cost()) + 1;
+        for time in 0..steps {
+            if self.at(time) != other.at(time) {
+                return time;
+            }
+        }
+        steps
     }
 }

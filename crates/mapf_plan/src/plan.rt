@@ -2,8 +2,8 @@ ghost use Rattle.std.specs.Prelude.{◌≡◌, ◌<◌, ◌≤◌, length, Match
 ghost use Rattle.mapf_grid.specs.Instance.{most_agents};
 ghost use Rattle.mapf_plan.specs.Plan.{most_stated, place, plan_cost, IsFirstConflict, HasNoConflict};
 
-use crate::first_conflict::first_conflict_of_changed;
-use crate::{AgentPaths, Conflict, Path};
+use crate::first_conflict::first_conflict_from;
+use crate::{AgentPaths, Conflict, Path, Rule};
 use mapf_grid::Cell;
 use std::marker::Model;
 
@@ -63,13 +63,22 @@ impl Plan {
         self.paths[agent].at(time)
     }
 
-    /// The first conflict of all times: by time, a vertex conflict before a swapping one,
+    /// The first conflict of all times by the classical rule: by time, a vertex conflict before a swapping one,
     /// then by the smaller agent, and then by the larger. None if no two agents ever collide.
     pub fn first_conflict(&self) -> Option<Conflict>
-        ensures { MatchOption result (HasNoConflict self.now) (λ c. IsFirstConflict self.now c) }
+        ensures { MatchOption result (HasNoConflict Rule.Classical self.now) (λ c. IsFirstConflict Rule.Classical self.now c) }
+    {
+        self.first_conflict_by(Rule::Classical)
+    }
+
+    /// The first conflict of all times by a rule: by time, a vertex conflict before a swapping one and that before
+    /// a following one, then by the smaller agent, by the larger, and the smaller agent as the follower first.
+    /// None if no two agents ever collide.
+    pub fn first_conflict_by(&self, rule: Rule) -> Option<Conflict>
+        ensures { MatchOption result (HasNoConflict rule self.now) (λ c. IsFirstConflict rule self.now c) }
     {
         let _ = &self.paths;
-        first_conflict_of_changed(self, 0, 0)
+        first_conflict_from(self, rule, 0)
     }
 }
 

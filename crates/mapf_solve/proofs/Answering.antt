@@ -86,7 +86,7 @@ stated_without map scen ask bytes is (plan, first, e) = record {
   inst = is.inst;
   asked = is.asked;
   given = is.given;
-  answer = (plan, same_answer is.inst ask.bound ask.nodes None plan first, e ∙ same_stated plan);
+  answer = (plan, same_answer is.inst ask.bound ask.rule ask.nodes None plan first, e ∙ same_stated plan);
   spelled = is.spelled;
 }
   where
@@ -115,7 +115,7 @@ module _ (map scen : List ℕ) (ask : Ask) (n : ℕ) (bytes : List ℕ) (e : ask
       (stated_without map scen ask bytes is given, λ least same. none_given_up is.inst ask is.given n least given (sym is.spelled ∙ same))
 
   best_up_to : IsAnswerUpTo (Some n) p is.given
-      → ((least : ℕ) × (bytes ≡ text is.inst.grid (answer.GaveUp n least)) × ((plan : List (List ℕ)) → IsValid is.inst plan → least ≤ plan_cost plan)) ⊎ IsBest map scen ask bytes
+      → ((least : ℕ) × (bytes ≡ text is.inst.grid (answer.GaveUp n least)) × ((plan : List (List ℕ)) → IsValid ask.rule is.inst plan → least ≤ plan_cost plan)) ⊎ IsBest map scen ask bytes
   best_up_to (inl (m, cut, said)) = inl (plan_cost m.1, is.spelled ∙ ap (text is.inst.grid) said, cut_is_below p n m cut)
   best_up_to (inr (none, given)) = inr (stated_is_best map scen ask bytes is given)
 

@@ -2,6 +2,7 @@
 use Rattle.std.proofs.Common.{◌≡◌, Bool, true, false, ◌&&◌, List, [], ◌∷◌, ℕ, Option, Some, None, IsSome, refl, ap, sym, ◌∙◌, subst}
 use lib.Pointwise.{pointwise}
 use Rattle.mapf_plan.specs.declared.conflict.Conflict.{Conflict}
+use Rattle.mapf_plan.specs.declared.rule.Rule.{Rule}
 use Rattle.mapf_plan.specs.Plan.{IsFirstConflict}
 use Rattle.mapf_plan.proofs.Conflicts.{same_first}
 use Rattle.mapf_tree.specs.declared.side.Side.{Side}
@@ -37,18 +38,18 @@ same_planned p a b m n s t e =
     λ i. (nodes i, plans i)
 
 -- and branch on one conflict
-same_conflict : (plan : List (List ℕ)) (found : Option Conflict) (c : Conflict) → IsSome found → IsConflictOf plan found → IsFirstConflict plan c → found ≡ Some c
-same_conflict plan (Some d) c some is first = ap (λ x. Some x) (same_first plan d c is first)
-same_conflict plan None c some is first = cc
+same_conflict : (rule : Rule) (plan : List (List ℕ)) (found : Option Conflict) (c : Conflict) → IsSome found → IsConflictOf rule plan found → IsFirstConflict rule plan c → found ≡ Some c
+same_conflict rule plan (Some d) c some is first = ap (λ x. Some x) (same_first rule plan d c is first)
+same_conflict rule plan None c some is first = cc
 
 -- so a child of the one is the child of the other
 child_of_same_name : (p : Problem) (a b : Node) (side : Side) (found : Option Node) → IsBranching p a → a.name ≡ b.name → IsChildOf p a side found → IsChildOf p b side found
 child_of_same_name p a b side found branching e is n c shows on =
     let m = same_planned p a b branching.of n branching.stands shows e in
     let here : StandsFor p a n = subst (λ x. StandsFor p a x) m branching.stands in
-    let mine : IsConflictOf n.1 a.conflict = subst (λ q. IsConflictOf q a.conflict) here.plan here.conflict in
-    let yours : IsConflictOf n.1 (Some c) = subst (λ q. IsConflictOf n.1 q) on (subst (λ q. IsConflictOf q b.conflict) shows.plan shows.conflict) in
-    is n c here (same_conflict n.1 a.conflict c branching.conflict mine yours)
+    let mine : IsConflictOf p.rule n.1 a.conflict = subst (λ q. IsConflictOf p.rule q a.conflict) here.plan here.conflict in
+    let yours : IsConflictOf p.rule n.1 (Some c) = subst (λ q. IsConflictOf p.rule n.1 q) on (subst (λ q. IsConflictOf p.rule q b.conflict) shows.plan shows.conflict) in
+    is n c here (same_conflict p.rule n.1 a.conflict c branching.conflict mine yours)
 
 -- and so is what fits a job for the one
 pub used_child : (p : Problem) (node : Node) (side : Side) (job asked : WantedChild) (found : Option Node) →

@@ -44,9 +44,9 @@ IsRefusal map scen ask refusal.Nodes = IsBound ask × IsWorkers ask × ¬ IsNode
 IsRefusal map scen ask named =
     IsBound ask × IsWorkers ask × IsNodes ask × (fault : FilesFault) × (named ≡ of_files fault) × IsFilesFault map scen ask.agents fault
 
--- what is to be solved: the instance, under the ask's bound and its limit on nodes, if it has one
+-- what is to be solved: the instance, under the ask's bound, its limit on nodes, if it has one, and its rule
 abbrev pub problem_of : Instance → Ask → Problem
-problem_of inst ask = record { inst = inst; bound = ask.bound; nodes = ask.nodes }
+problem_of inst ask = record { inst = inst; bound = ask.bound; nodes = ask.nodes; rule = ask.rule }
 
 -- the text of the answer of conflict-based search: the plan of the constraint tree's first solution, or that it gave up at the
 -- limit on nodes
@@ -65,13 +65,14 @@ abbrev pub IsOut : List ℕ → List ℕ → Ask → Result (List ℕ) Refusal �
 IsOut map scen ask (Ok bytes) = IsText map scen ask bytes
 IsOut map scen ask (Err fault) = IsRefusal map scen ask fault
 
--- a plan that has no conflict and costs least of all such plans, or `none` exactly if no plan without conflict costs at most the bound
+-- a plan that has no conflict by the ask's rule and costs least of all such plans, or `none` exactly if no plan without conflict
+-- costs at most the bound
 pub record IsBest (map scen : List ℕ) (ask : Ask) (bytes : List ℕ) : Type 0 where
   pub inst : Instance
   pub asked : IsAsked map scen ask.agents inst
   pub best :
-      ((plan : List (List ℕ)) × IsOptimum inst ask.bound plan × (bytes ≡ text inst.grid (answer.Plan plan (plan_cost plan))))
-      ⊎ (((plan : List (List ℕ)) → IsValid inst plan → plan_cost plan ≤ ask.bound → ⊥) × (bytes ≡ text inst.grid (answer.None ask.bound)))
+      ((plan : List (List ℕ)) × IsOptimum ask.rule inst ask.bound plan × (bytes ≡ text inst.grid (answer.Plan plan (plan_cost plan))))
+      ⊎ (((plan : List (List ℕ)) → IsValid ask.rule inst plan → plan_cost plan ≤ ask.bound → ⊥) × (bytes ≡ text inst.grid (answer.None ask.bound)))
 
 -- the same ask without a limit on nodes
 abbrev pub without_limit : Ask → Ask
@@ -87,7 +88,7 @@ pub record KeepsLimit (map scen : List ℕ) (ask : Ask) (n : ℕ) (bytes : List 
       ((m : PlannedNode) → ¬ IsCutAt (problem_of inst ask) n m) →
       IsOut map scen (without_limit ask) (Ok bytes) × ((least : ℕ) → bytes ≢ text inst.grid (answer.GaveUp n least))
   pub best :
-      ((least : ℕ) × (bytes ≡ text inst.grid (answer.GaveUp n least)) × ((plan : List (List ℕ)) → IsValid inst plan → least ≤ plan_cost plan))
+      ((least : ℕ) × (bytes ≡ text inst.grid (answer.GaveUp n least)) × ((plan : List (List ℕ)) → IsValid ask.rule inst plan → least ≤ plan_cost plan))
       ⊎ IsBest map scen ask bytes
 
 -- with any number of workers from 1 to 64 this is the one answer

@@ -37,8 +37,8 @@ LeavesText map scen ask old new result =
     Leaves (λ done text. OfFiles map scen (λ m s. IsText m s ask text)) (λ named. OfFiles map scen (λ m s. IsRefusal m s ask named))
     old new (end_of result)
 
--- that text is that of a plan that has no conflict and costs least of all such plans, or of `none` where no such plan costs at
--- most the bound
+-- that text is that of a plan that has no conflict by the ask's rule and costs least of all such plans, or of `none` where no
+-- such plan costs at most the bound
 abbrev pub LeavesBest : (map scen : Option (List ℕ)) → Ask → (old new : Option (List ℕ)) → Result (Unit {0}) RunFault → Type 0
 LeavesBest map scen ask old new result =
     Leaves (λ done text. OfFiles map scen (λ m s. IsBest m s ask text)) (λ named. Unit {0}) old new (end_of result)

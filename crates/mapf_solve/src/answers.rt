@@ -12,15 +12,15 @@ use crate::solving::solve_from;
 use crate::{Ask, Pace, Refusal};
 use mapf_board::{AlwaysGrants, Gate, MOST_WORKERS};
 use mapf_grid::{NoMemory, instance_of};
-use mapf_plan::{Answer, MOST_BOUND, MOST_NODES, write};
+use mapf_plan::{Answer, MOST_BOUND, MOST_NODES, Rule, write};
 use mapf_tree::Problem;
 use std::alloc::Global;
 use std::thread::Threads;
 
 /// The text of the answer, or the first fault.
 ///
-/// The text is that of the one answer of conflict-based search: a plan without conflict that costs least of all such
-/// plans, or `none` exactly if no plan without conflict costs at most the bound. It is the same for each number of
+/// The text is that of the one answer of conflict-based search: a plan without conflict by the ask's rule that costs least
+/// of all such plans, or `none` exactly if no plan without conflict costs at most the bound. It is the same for each number of
 /// workers. With a limit on nodes the text is the same, or that the search gave up, with a lower bound on the cost of
 /// every plan without conflict. Faults come in the order bound, workers, nodes, map, scenario, instance; `NoMemory` may
 /// come in place of anything.
@@ -36,7 +36,7 @@ pub fn answer<R: Threads + Sync, G: Gate>(
     ensures text { IfOk result (λ bytes. IsOut map.now scen.now ask (Ok bytes.items)) }
     ensures fault { IfErr result (λ fault. fault ≢ Refusal.NoMemory → IsOut map.now scen.now ask (Err fault)) }
 
-    // No plan without conflict costs less; `none` exactly if none costs at most the bound.
+    // By the ask's rule no plan without conflict costs less; `none` exactly if none costs at most the bound.
     ensures best { IfOk result (λ bytes. ask.nodes ≡ None → IsBest map.now scen.now ask bytes.items) }
 
     // With a limit of n nodes the bytes are the same, unless the tree has a node at place n that is in the cut or is the first
@@ -75,7 +75,8 @@ fn text_or_fault<R: Threads + Sync, G: Gate>(
     let goals = instance.agents() as u64;
     let workers = ask.workers as usize;
     let tables = tables(rt, alloc, &instance, workers, gate, &AlwaysGrants)?;
-    let problem = limited(Problem::with(instance, tables, ask.bound as u32), ask.nodes);
+    let whole = Problem::with(instance, tables, ask.bound as u32);
+    let problem = limited(ruled(whole, ask.rule), ask.nodes);
     let answer = solve_from(
         rt,
         alloc,
@@ -103,11 +104,22 @@ fn is_limit(nodes: Option<u64>) -> bool
 fn limited(problem: Problem, nodes: Option<u64>) -> Problem
     requires fresh { problem.nodes ≡ None }
     requires limit { IsLimit nodes }
-    ensures { result ≡ record { inst = problem.inst; bound = problem.bound; nodes = nodes } }
+    ensures { result ≡ record { inst = problem.inst; bound = problem.bound; nodes = nodes; rule = problem.rule } }
 {
     match nodes {
         Some(nodes) => problem.with_nodes(nodes),
         None => problem,
+    }
+}
+
+/// The problem by this rule.
+fn ruled(problem: Problem, rule: Rule) -> Problem
+    requires { problem.rule ≡ Rule.Classical }
+    ensures { result ≡ record { inst = problem.inst; bound = problem.bound; nodes = problem.nodes; rule = rule } }
+{
+    match rule {
+        Rule::Classical => problem,
+        Rule::NoFollowing => problem.forbid_following(),
     }
 }
 

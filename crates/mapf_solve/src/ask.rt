@@ -1,3 +1,5 @@
+use mapf_plan::Rule;
+
 /// What is asked of the solver beside the two files.
 #[derive(Clone, Copy, Debug, PartialEq, Eq)]
 pub struct Ask {
@@ -9,4 +11,6 @@ pub struct Ask {
     pub workers: u64,
     /// How many nodes a search may take before it gives up: 1 to 1,000,000; none where there is no limit.
     pub nodes: Option<u64>,
+    /// By which rule plans have conflicts.
+    pub rule: Rule,
 }

@@ -37,8 +37,8 @@ pub fn run<R: Threads + Sync, M: Source, S: Source, O: Sink>(
     // What was written is the text of what the readers gave.
     ensures text { LeavesText (M.remaining map.old) (S.remaining scen.old) ask (O.contents out.old) (O.contents out.new) result }
 
-    // It is the text of a plan without conflict that costs least of all such plans, or `none` exactly if none costs at most the
-    // bound.
+    // It is the text of a plan without conflict by the ask's rule that costs least of all such plans, or `none` exactly if none
+    // costs at most the bound.
     ensures best { ask.nodes ≡ None → LeavesBest (M.remaining map.old) (S.remaining scen.old) ask (O.contents out.old) (O.contents out.new) result }
 
     // With a limit of n nodes the bytes are the same, unless the tree has a node at place n that is in the cut or is the first

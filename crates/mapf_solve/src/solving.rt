@@ -17,9 +17,9 @@ use std::thread::Threads;
 
 /// Solves a problem with so many workers: the answer is the same for each number of them.
 ///
-/// The answer is the plan of the constraint tree's first solution, which has no conflict and costs least of all such
-/// plans; or none, exactly where no plan without conflict costs at most the bound. The gate is told of each job that a
-/// worker does; no answer depends on it.
+/// The answer is the plan of the constraint tree's first solution, which has no conflict by the problem's rule and costs
+/// least of all such plans; or none, exactly where no plan without conflict costs at most the bound. The gate is told of each
+/// job that a worker does; no answer depends on it.
 pub fn solve<R: Threads + Sync, G: Gate>(
     rt: &R,
     alloc: Global,

@@ -1,6 +1,6 @@
 use mapf_check::Verdict;
 use mapf_cli::{CheckFault, check_run};
-use mapf_plan::Counted;
+use mapf_plan::{Counted, Rule};
 use std::alloc::Global;
 
 const LINE: &[u8] = b"type octile\nheight 1\nwidth 3\nmap\n...\n";
@@ -18,6 +18,7 @@ fn judged(alloc: Global) -> Result<Verdict, CheckFault> {
         &mut Counted::of(ALONG_PLAN),
         &mut out,
         1,
+        Rule::Classical,
     )
 }
 

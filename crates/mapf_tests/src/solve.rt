@@ -1,6 +1,7 @@
 mod answers;
 mod changed_bytes;
 mod devices;
+mod following;
 mod gates;
 mod limits;
 mod node_limits;

@@ -1,5 +1,5 @@
 -- One change more at the end of a chain.
-use Rattle.std.proofs.Common.{◌≡◌, ◌≢◌, ◌↔◌, ℕ, suc, ◌+◌, ◌<◌, ◌≤◌, List, [], ◌∷◌, ◌++◌, length, take, take_all, map, get_or, set, All, Option, Some, None, option_map, Result, Ok, Err, IfOk, IfSome, replicate, ap₂, refl, sym, ap, ◌∙◌, subst, arith, Contains}
+use Rattle.std.proofs.Common.{◌≡◌, ◌≢◌, ◌↔◌, ℕ, suc, ◌+◌, ◌<◌, ◌≤◌, List, [], ◌∷◌, ◌++◌, length, take, take_all, map, get_or, set, All, Option, Some, None, option_map, Result, Ok, Err, IfOk, IfSome, replicate, ap₂, refl, sym, ap, ◌∙◌, subst, subst₂, arith, Contains}
 use Rattle.std.proofs.Math.Seq.{take-suc}
 use Rattle.std.proofs.lemmas.List.{length-set, length-map, length_push, get_or-map}
 use Rattle.std.proofs.lemmas.List.Elements.{All-push}
@@ -7,6 +7,7 @@ use Rattle.mapf_grid.proofs.Lists.{set_cases}
 use Rattle.mapf_low.specs.declared.constraint.Constraint.{Constraint}
 use Rattle.mapf_plan.specs.Plan.{path_of, plan_cost}
 use Rattle.mapf_plan.specs.declared.conflict.Conflict.{Conflict}
+use Rattle.mapf_plan.specs.declared.rule.Rule.{Rule}
 use Rattle.mapf_tree.specs.declared.side.Side.{Side}
 use Rattle.mapf_tree.specs.Nodes.{Node, node_of, IsConflictOf, IsSameSet, AgreesWith, Changed, IsTurnedTo, changed_plan, changed_sets}
 use Rattle.mapf_tree.proofs.ConstraintSets.{IsWith, IsWith-cons}
@@ -75,7 +76,7 @@ pub chain_all : {X Y : Type 0} (P : Y → Type 0) (f : X → Y) (xs : List X) (k
 chain_all P f xs k x y inside is e all =
     subst P (get_or-map f xs k x (f x) inside ∙ ap f (sym is) ∙ sym e) (all k (f x) (subst (λ n. k < n) (sym (length-map xs f)) inside))
 
-module _ (name : List Side) (root : List (List ℕ)) (xs : List Changed) (conflict : Option Conflict) (node : Node) (is : node_of name root xs conflict ≡ node) where
+module _ (name : List Side) (root : List (List ℕ)) (xs : List Changed) (rule : Rule) (conflict : Option Conflict) (node : Node) (is : node_of name root xs rule conflict ≡ node) where
   -- an agent of a node is one of the root
   pub at_root : (agent : ℕ) (plan : List (List ℕ)) → plan ≡ root → agent < length node.plan → agent < length plan
   at_root agent plan e inside = omega (arith, subst (λ (n : Node). agent < length n.plan) (sym is) inside, length-changed_plan root xs, ap length e)
@@ -113,13 +114,13 @@ module _ (name : List Side) (root : List (List ℕ)) (xs : List Changed) (confli
         ∙ ap (λ (n : Node). set n.constraints x.agent (x.constraint ∷ get_or n.constraints x.agent [])) is
 
     -- what is always so of a node is so of the one after it
-    pub agrees_turned : (sum turns sum' turns' : ℕ) (name' : List Side) (s : Side) (conflict' : Option Conflict) → AgreesWith sum turns (node_of name root xs conflict) → x.agent < length node.plan →
-        sum' ≡ plan_cost (set node.plan x.agent x.path) → turns' ≡ length node.name + 1 → name' ≡ node.name ++ s ∷ [] → IsConflictOf (set node.plan x.agent x.path) conflict' →
-        AgreesWith sum' turns' (node_of name' root' xs' conflict')
-    agrees_turned sum turns sum' turns' name' s conflict' agrees inside costs deep named first = record {
+    pub agrees_turned : (sum turns sum' turns' : ℕ) (name' : List Side) (s : Side) (rule' : Rule) (conflict' : Option Conflict) → AgreesWith sum turns (node_of name root xs rule conflict) → x.agent < length node.plan → rule' ≡ node.rule →
+        sum' ≡ plan_cost (set node.plan x.agent x.path) → turns' ≡ length node.name + 1 → name' ≡ node.name ++ s ∷ [] → IsConflictOf node.rule (set node.plan x.agent x.path) conflict' →
+        AgreesWith sum' turns' (node_of name' root' xs' rule' conflict')
+    agrees_turned sum turns sum' turns' name' s rule' conflict' agrees inside ruled costs deep named first = record {
       cost = costs ∙ ap plan_cost (sym plan_turned);
       depth = deep ∙ sym (ap length named ∙ length_push node.name s);
-      conflict = subst (λ plan. IsConflictOf plan conflict') (sym plan_turned) first;
+      conflict = subst₂ (λ r plan. IsConflictOf r plan conflict') (sym ruled) (sym plan_turned) first;
       turned = ap length f ∙ length_push xs x ∙ ap (λ n. n + 1) (agrees.turned ∙ ap (λ (n : Node). length n.name) is) ∙ sym (ap length named ∙ length_push node.name s);
       agents = subst (λ n. All (λ y. y.agent < n) xs') (sym many) (subst (All (λ y. y.agent < length node.plan)) (sym f) (All-push (λ y. y.agent < length node.plan) xs x old inside));
     }

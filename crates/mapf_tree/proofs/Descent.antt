@@ -36,7 +36,7 @@ obeyed_is_in_cost problem node other valid within obeys =
     own : (i : ℕ) → i < length problem.inst.starts → (p : List ℕ) × OwnAt problem node i p
     own i h = ⊎_elim (λ w. w) (λ n. absurd (n (path_of other i) (allowed i h))) (own_at problem node i)
 
-module _ (problem : Problem) (other : List (List ℕ)) (valid : IsValid problem.inst other) (within : plan_cost other ≤ problem.bound) where
+module _ (problem : Problem) (other : List (List ℕ)) (valid : IsValid problem.rule problem.inst other) (within : plan_cost other ≤ problem.bound) where
   -- a solution that costs no more than the valid plan
   abbrev Cheaper : Type 0
   Cheaper = (found : PlannedNode) × IsSolution problem found × (plan_cost found.1 ≤ plan_cost other)
@@ -45,17 +45,17 @@ module _ (problem : Problem) (other : List (List ℕ)) (valid : IsValid problem.
   descend : (fuel : ℕ) (node : TreeNode) (plan : List (List ℕ)) → InTree problem node → HasPlan problem node plan → plan_cost plan ≤ plan_cost other → ObeysNode problem node other → most problem < length node.name + fuel → Cheaper
   descend zero node plan inside has costs obeys deep = absurd (omega (arith, deep, depth_most problem node (grown_all problem node inside)))
   descend (suc fuel) node plan inside has costs obeys deep =
-      found (λ node plan inside has costs obeys deep. descend fuel node plan inside has costs obeys deep) (first_conflict plan)
+      found (λ node plan inside has costs obeys deep. descend fuel node plan inside has costs obeys deep) (first_conflict problem.rule plan)
     where
       Below : Type 0
       Below = (p : TreeNode) (q : List (List ℕ)) → InTree problem p → HasPlan problem p q → plan_cost q ≤ plan_cost other → ObeysNode problem p other → most problem < length p.name + fuel → Cheaper
 
-      on_side : Below → (c : Conflict) → IsFirstConflict plan c → (s : Side) → ObeysNode problem (side_of node c s) other → Cheaper
+      on_side : Below → (c : Conflict) → IsFirstConflict problem.rule plan c → (s : Side) → ObeysNode problem (side_of node c s) other → Cheaper
       on_side below c first s o =
           let w = obeyed_is_in_cost problem (side_of node c s) other valid within o in
           below (side_of node c s) w.0 (side s inside has first w.1) w.1 w.2 o (omega (arith, deep, length-append node.name (s ∷ [])))
 
-      found : Below → ((c : Conflict) × IsFirstConflict plan c) ⊎ HasNoConflict plan → Cheaper
+      found : Below → ((c : Conflict) × IsFirstConflict problem.rule plan c) ⊎ HasNoConflict problem.rule plan → Cheaper
       found below (inr none) = ((node, plan), record { planned = record { inside = inside; plan = has }; no_conflict = none }, costs)
       found below (inl w) =
           ⊎_elim (on_side below w.0 w.1 Left) (on_side below w.0 w.1 Right)
@@ -71,7 +71,7 @@ module _ (problem : Problem) (other : List (List ℕ)) (valid : IsValid problem.
       free i h = subst (λ cs. Obeys cs (path_of other i)) (sym (get_or-replicate (length problem.inst.starts) i [] [] h)) tt
 
 -- a solution's plan is valid
-solution_valid : (problem : Problem) (found : PlannedNode) → IsSolution problem found → IsValid problem.inst found.1
+solution_valid : (problem : Problem) (found : PlannedNode) → IsSolution problem found → IsValid problem.rule problem.inst found.1
 solution_valid problem found s = record { agents = s.planned.plan.agents; paths = λ i h. (s.planned.plan.own i h).member.path; no_conflict = s.no_conflict }
 
 -- the first solution costs no more than that solution
@@ -84,7 +84,7 @@ answer_is_optimum problem plan answer =
           ⊎_elim (λ h. omega (arith, h, answer.1.member.planned.plan.within)) (λ h. omega (arith, cheaper other valid h)) (cases_lt problem.bound (plan_cost other));
     }
   where
-    cheaper : (other : List (List ℕ)) → IsValid problem.inst other → plan_cost other ≤ problem.bound → plan_cost plan ≤ plan_cost other
+    cheaper : (other : List (List ℕ)) → IsValid problem.rule problem.inst other → plan_cost other ≤ problem.bound → plan_cost plan ≤ plan_cost other
     cheaper other valid h =
         let w = cheaper_solution problem other valid h in
         let l : plan_cost plan ≤ plan_cost w.0.1 = first_le (plan_cost plan) (plan_cost w.0.1) (length answer.0.name ∷ map turn answer.0.name) (length w.0.0.name ∷ map turn w.0.0.name) (answer.1.least w.0 w.1) in

@@ -5,7 +5,8 @@ use Rattle.mapf_grid.specs.Least.{Precedes}
 use Rattle.mapf_grid.proofs.Ranks.{irreflexive}
 use Rattle.mapf_plan.specs.Path.{at, IsPath}
 use Rattle.mapf_plan.specs.declared.conflict.Conflict.{Conflict}
-use Rattle.mapf_plan.specs.declared.conflict.Conflict.TheVariants.{Vertex, Swapping}
+use Rattle.mapf_plan.specs.declared.conflict.Conflict.TheVariants.{Vertex, Swapping, Following}
+use Rattle.mapf_plan.specs.declared.rule.Rule.TheVariants.{Classical, NoFollowing}
 use Rattle.mapf_plan.specs.Plan.{IsConflict, conflict_rank, path_of}
 use Rattle.mapf_low.specs.OwnPath.{IsOwnPath, path_rank}
 use Rattle.mapf_tree.specs.Tree.{root_of}
@@ -134,13 +135,17 @@ through =
     not_less (a ∷ b ∷ c ∷ d ∷ q) p (inr h) = omega (arith, h.0)
 
 -- nothing precedes the agents 0 and 1
-agents_least : (i j : ℕ) → i < j → ¬ Precedes (i ∷ j ∷ []) (0 ∷ 1 ∷ [])
+agents_least : (i j : ℕ) → i < j → ¬ Precedes (i ∷ j ∷ 0 ∷ []) (0 ∷ 1 ∷ 0 ∷ [])
 agents_least i j l (inl h) = omega (arith, h)
 agents_least i j l (inr (e, inl h)) = omega (arith, h, e, l)
-agents_least i j l (inr (e, inr h)) = h.1
+agents_least i j l (inr (e, inr h)) = irreflexive (0 ∷ []) h.1
+
+-- by the classical rule one may follow another
+may_follow : {A : Type 0} → Classical ≡ NoFollowing → A
+may_follow e = cc
 
 -- where they change places, no conflict is earlier
-swap_least : (y : Conflict) → IsConflict two_by_two_plan y → ¬ Precedes (conflict_rank y) (1 ∷ 1 ∷ 0 ∷ 1 ∷ [])
+swap_least : (y : Conflict) → IsConflict Classical two_by_two_plan y → ¬ Precedes (conflict_rank y) (1 ∷ 1 ∷ 0 ∷ 1 ∷ 0 ∷ [])
 swap_least (Vertex zero zero v t) k h = omega (arith, k.0)
 swap_least (Vertex zero (suc zero) v zero) k h = let e = k.2 ∙ sym k.3 in omega (arith, e)
 swap_least (Vertex zero (suc zero) v (suc zero)) k h = let e = k.2 ∙ sym k.3 in omega (arith, e)
@@ -151,12 +156,13 @@ swap_least (Vertex (suc i) j v t) k h = omega (arith, k.0, k.1)
 swap_least (Swapping i j u v t) k (inl h) = omega (arith, h, k.2)
 swap_least (Swapping i j u v t) k (inr (e, inl h)) = omega (arith, h)
 swap_least (Swapping i j u v t) k (inr (e, inr h)) = agents_least i j k.0 h.1
+swap_least (Following i j v t) k h = may_follow k.0
 
 -- where one goes through the other, no conflict is earlier
-bay_least : (y : Conflict) → IsConflict corridor_plan y → ¬ Precedes (conflict_rank y) (1 ∷ 0 ∷ 0 ∷ 1 ∷ [])
+bay_least : (y : Conflict) → IsConflict Classical corridor_plan y → ¬ Precedes (conflict_rank y) (1 ∷ 0 ∷ 0 ∷ 1 ∷ 0 ∷ [])
 bay_least (Vertex zero zero v t) k h = omega (arith, k.0)
 bay_least (Vertex zero (suc zero) v zero) k h = let e = k.2 ∙ sym k.3 in omega (arith, e)
-bay_least (Vertex zero (suc zero) v (suc zero)) k h = irreflexive (1 ∷ 0 ∷ 0 ∷ 1 ∷ []) h
+bay_least (Vertex zero (suc zero) v (suc zero)) k h = irreflexive (1 ∷ 0 ∷ 0 ∷ 1 ∷ 0 ∷ []) h
 bay_least (Vertex zero (suc zero) v (suc (suc t))) k (inl h) = omega (arith, h)
 bay_least (Vertex zero (suc zero) v (suc (suc t))) k (inr h) = omega (arith, h.0)
 bay_least (Vertex zero (suc (suc j)) v t) k h = omega (arith, k.1)
@@ -164,6 +170,7 @@ bay_least (Vertex (suc i) j v t) k h = omega (arith, k.0, k.1)
 bay_least (Swapping i j u v t) k (inl h) = omega (arith, h, k.2)
 bay_least (Swapping i j u v t) k (inr (e, inl h)) = omega (arith, h)
 bay_least (Swapping i j u v t) k (inr (e, inr h)) = omega (arith, h.0)
+bay_least (Following i j v t) k h = may_follow k.0
 
 -- each root by its parts
 pub worked_root : WorkedRoot
@@ -176,6 +183,10 @@ worked_root = record {
   bay_conflict = record { member = (omega arith, omega arith, refl, refl); least = bay_least };
   bay_left = refl;
   bay_right = refl;
+  follower_first_left = refl;
+  follower_first_right = refl;
+  leader_first_left = refl;
+  leader_first_right = refl;
 }
   where
     swapping : (i : ℕ) → i < 2 → IsOwnPath two_by_two.inst.grid (get_or two_by_two.inst.starts i 0) (get_or two_by_two.inst.goals i 0) 4 (get_or (root_of two_by_two).constraints i []) (path_of two_by_two_plan i)

@@ -22,7 +22,7 @@ module _ (problem : Problem) where
     conflict : Conflict
     turn : Side
     has : HasPlan problem p plan
-    first : IsFirstConflict plan conflict
+    first : IsFirstConflict problem.rule plan conflict
     is : q ≡ side_of p conflict turn
     in_cost : InCost problem q
 
@@ -54,13 +54,13 @@ module _ (problem : Problem) where
     where
       go : Dec (InCost problem p) → Holding (IsSideOf p)
       go (no n) = nothing (IsSideOf p) (λ q s. n (s.plan, s.has))
-      go (yes w) = by (first_conflict w.0)
+      go (yes w) = by (first_conflict problem.rule w.0)
         where
           plan : (q : TreeNode) (s : IsSideOf p q) → s.plan ≡ w.0
           plan q s = same_plan problem p s.plan w.0 s.has w.1
 
-          by : ((c : Conflict) × IsFirstConflict w.0 c) ⊎ HasNoConflict w.0 → Holding (IsSideOf p)
-          by (inr none) = nothing (IsSideOf p) (λ q s. none s.conflict (subst (λ r. IsConflict r s.conflict) (plan q s) s.first.member))
+          by : ((c : Conflict) × IsFirstConflict problem.rule w.0 c) ⊎ HasNoConflict problem.rule w.0 → Holding (IsSideOf p)
+          by (inr none) = nothing (IsSideOf p) (λ q s. none s.conflict (subst (λ r. IsConflict problem.rule r s.conflict) (plan q s) s.first.member))
           by (inl c) =
               both (On Left) (On Right) (IsSideOf p) (on Left) (on Right) (λ q s. which q s s.turn refl)
             where
@@ -72,7 +72,7 @@ module _ (problem : Problem) where
 
               is : (q : TreeNode) (s : IsSideOf p q) (t : Side) → s.turn ≡ t → side_of p c.0 t ≡ q
               is q s t e =
-                  let same : s.conflict ≡ c.0 = same_first w.0 s.conflict c.0 (subst (λ r. IsFirstConflict r s.conflict) (plan q s) s.first) c.1 in
+                  let same : s.conflict ≡ c.0 = same_first problem.rule w.0 s.conflict c.0 (subst (λ r. IsFirstConflict problem.rule r s.conflict) (plan q s) s.first) c.1 in
                   sym (s.is ∙ ap₂ (λ x y. side_of p x y) same e)
 
               which : (q : TreeNode) (s : IsSideOf p q) (t : Side) → s.turn ≡ t → On Left q ⊎ On Right q

@@ -1,9 +1,11 @@
 pub mod ConstraintSets
 pub mod Distinct
 pub mod Universe
+pub mod Followers
 pub mod Branch
 pub mod Plans
 pub mod Measure
+pub mod LeaderSides
 pub mod Unique
 pub mod OneAgent
 pub mod Descent

@@ -55,10 +55,10 @@ module _ (p : Problem) (last : Option (List ℕ)) (Waits : PlannedNode → Type 
     none_solves_before s is l = at.none_yet s is.planned (before_is_reached s is.planned l) is.no_conflict
 
     -- a node with a conflict comes before each solution
-    in_cut : (¬ HasNoConflict x.1) → IsInCut p x
+    in_cut : (¬ HasNoConflict p.rule x.1) → IsInCut p x
     in_cut conflict = (
       waits.member,
-      λ s is. by_compare (key x) (key s) (λ e. absurd (conflict (subst (λ y. HasNoConflict y.1) (sym (same_member p x s waits.member is.planned e)) is.no_conflict)))
+      λ s is. by_compare (key x) (key s) (λ e. absurd (conflict (subst (λ y. HasNoConflict p.rule y.1) (sym (same_member p x s waits.member is.planned e)) is.no_conflict)))
           (λ l. l) (λ l. absurd (none_solves_before s is l)),
     )
 
@@ -66,11 +66,11 @@ module _ (p : Problem) (last : Option (List ℕ)) (Waits : PlannedNode → Type 
     pub is_cut : (n : ℕ) → TakesBetween p None last n → IsCutAt p n x
     is_cut n took = (
       at_place n took,
-      ⊎_elim (λ c. inl (in_cut (λ free. free c.0 c.1.member))) (λ free. inr (ends_at_first p last Waits x at least free)) (first_conflict x.1),
+      ⊎_elim (λ c. inl (in_cut (λ free. free c.0 c.1.member))) (λ free. inr (ends_at_first p last Waits x at least free)) (first_conflict p.rule x.1),
     )
 
     -- where fewer are taken and x is a solution, it doesn't
-    pub solved_before : (n k : ℕ) → TakesBetween p None last k → k < n → HasNoConflict x.1 → (m : PlannedNode) → ¬ IsCutAt p n m
+    pub solved_before : (n k : ℕ) → TakesBetween p None last k → k < n → HasNoConflict p.rule x.1 → (m : PlannedNode) → ¬ IsCutAt p n m
     solved_before n k took less free m is =
         let fewer : length is.0.before ≤ length took.0 = distinct_le is.0.before took.0 (distinct is.0.before is.0.once) inside in
         omega (arith, less, fewer, is.0.count, took.2)
@@ -116,7 +116,7 @@ pub as_given_up : (p : Problem) (n : ℕ) (m : PlannedNode) (given : Answer) →
 as_given_up p n m given e is said = subst (λ o. IsAnswerUpTo o p given) (sym e) (inl (m, is, said))
 
 -- that node costs no more than any valid plan: within the bound a solution costs no more than the plan
-pub cut_is_below : (p : Problem) (n : ℕ) (m : PlannedNode) → IsCutAt p n m → (plan : List (List ℕ)) → IsValid p.inst plan → plan_cost m.1 ≤ plan_cost plan
+pub cut_is_below : (p : Problem) (n : ℕ) (m : PlannedNode) → IsCutAt p n m → (plan : List (List ℕ)) → IsValid p.rule p.inst plan → plan_cost m.1 ≤ plan_cost plan
 cut_is_below p n m is plan valid =
     ⊎_elim (λ over. omega (arith, over, is.0.member.plan.within)) within (cases_lt p.bound (plan_cost plan))
   where

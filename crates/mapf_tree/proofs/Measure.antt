@@ -9,7 +9,8 @@ use Rattle.mapf_grid.specs.Grid.{IsFree, Next}
 use Rattle.mapf_grid.proofs.Lists.{set_cases}
 use Rattle.mapf_plan.specs.Path.{IsPath}
 use Rattle.mapf_plan.specs.declared.conflict.Conflict.{Conflict}
-use Rattle.mapf_plan.specs.declared.conflict.Conflict.TheVariants.{Vertex, Swapping}
+use Rattle.mapf_plan.specs.declared.conflict.Conflict.TheVariants.{Vertex, Swapping, Following}
+use Rattle.mapf_plan.specs.declared.rule.Rule.{Rule}
 use Rattle.mapf_plan.specs.Plan.{IsConflict, IsFirstConflict, path_of, place, conflict_time}
 use Rattle.mapf_plan.proofs.Paths.{place_free, moves}
 use Rattle.mapf_plan.proofs.Conflicts.{first_early}
@@ -21,6 +22,7 @@ use Rattle.mapf_tree.specs.declared.side.Side.TheVariants.{Left, Right}
 use Rattle.mapf_tree.specs.Tree.{TreeNode, HasPlan, InTree, root, side, side_of, constraints_of, constraint_on, agent_on, root_of}
 use Rattle.mapf_tree.specs.Laws.{ConstraintIsNew, ConstraintIsEarly, HoldsGrid}
 use Rattle.mapf_tree.proofs.Branch.{agent_below}
+use Rattle.mapf_tree.proofs.Followers.{parts, part_early}
 use Rattle.mapf_tree.proofs.Distinct.{Distinct, distinct_le}
 use Rattle.mapf_tree.proofs.Plans.{plan_costs}
 use Rattle.mapf_tree.proofs.Universe.{universe, Fits, Contains-universe, length-universe, fits_early, cells_of, edges_of, holds_all}
@@ -49,23 +51,25 @@ grown_root problem =
     zeros = omega arith
 
 -- the own path broke the side's constraint
-broke : (plan : List (List ℕ)) (c : Conflict) (s : Side) → IsConflict plan c → Breaks (path_of plan (agent_on c s)) (constraint_on c s)
-broke plan (Vertex i j v t) Left h = h.2
-broke plan (Vertex i j v t) Right h = h.3
-broke plan (Swapping i j u v t) Left h = (h.2, h.4, h.5)
-broke plan (Swapping i j u v t) Right h = (h.2, h.6, h.7)
+broke : (rule : Rule) (plan : List (List ℕ)) (c : Conflict) (s : Side) → IsConflict rule plan c → Breaks (path_of plan (agent_on c s)) (constraint_on c s)
+broke rule plan (Vertex i j v t) Left h = h.2
+broke rule plan (Vertex i j v t) Right h = h.3
+broke rule plan (Swapping i j u v t) Left h = (h.2, h.4, h.5)
+broke rule plan (Swapping i j u v t) Right h = (h.2, h.6, h.7)
+broke rule plan (Following i j v t) Left h = (parts plan i j v t h.1 h.5 h.6).0
+broke rule plan (Following i j v t) Right h = (parts plan i j v t h.1 h.5 h.6).1
 
 -- so it is new to its agent, since the own path obeys the node's constraints
 pub constraint_is_new : ConstraintIsNew
 constraint_is_new problem node plan c s has is i =
-    let h : agent_on c s < length problem.inst.starts = subst (λ k. agent_on c s < k) has.agents (agent_below plan c s is) in
+    let h : agent_on c s < length problem.inst.starts = subst (λ k. agent_on c s < k) has.agents (agent_below problem.rule plan c s is) in
     let Kept : Constraint → Type 0 = λ x. ¬ Breaks (path_of plan (agent_on c s)) x in
     let obeys = All-from_recursion Kept (constraints_of node (agent_on c s)) (has.own (agent_on c s) h).member.obeys in
-    All-contains Kept (constraints_of node (agent_on c s)) (constraint_on c s) obeys i (broke plan c s is)
+    All-contains Kept (constraints_of node (agent_on c s)) (constraint_on c s) obeys i (broke problem.rule plan c s is)
 
 -- it is on cells of the grid, and at most at the bound
-side_fits : (problem : Problem) (node : TreeNode) (plan : List (List ℕ)) (c : Conflict) (s : Side) → HasPlan problem node plan → IsFirstConflict plan c → Fits problem.inst.grid problem.bound (constraint_on c s)
-side_fits problem node plan c s has first = go c s first.member (first_early plan problem.bound (plan_costs problem node plan has) c first)
+side_fits : (problem : Problem) (node : TreeNode) (plan : List (List ℕ)) (c : Conflict) (s : Side) → HasPlan problem node plan → IsFirstConflict problem.rule plan c → Fits problem.inst.grid problem.bound (constraint_on c s)
+side_fits problem node plan c s has first = go c s first.member (first_early problem.rule plan problem.bound (plan_costs problem node plan has) c first)
   where
     path : (i : ℕ) → i < length plan → IsPath problem.inst.grid (get_or problem.inst.starts i 0) (get_or problem.inst.goals i 0) (path_of plan i)
     path i h = (has.own i (subst (λ k. i < k) has.agents h)).member.path
@@ -78,13 +82,14 @@ side_fits problem node plan c s has first = go c s first.member (first_early pla
         let next = moves problem.inst.grid _ _ (path_of plan i) (path i h) (t - 1) t (omega (arith, l)) (λ e. ne (sym eu ∙ e ∙ ev)) in
         subst₂ (λ a b. Next problem.inst.grid a b) eu ev next
 
-    go : (c : Conflict) (s : Side) → IsConflict plan c → conflict_time c ≤ problem.bound → Fits problem.inst.grid problem.bound (constraint_on c s)
+    go : (c : Conflict) (s : Side) → IsConflict problem.rule plan c → conflict_time c ≤ problem.bound → Fits problem.inst.grid problem.bound (constraint_on c s)
     go (Vertex i j v t) s h l = (cell j t v h.1 h.3, l)
     go (Swapping i j u v t) Left h l = (edge i t u v (omega (arith, h.0, h.1)) h.2 h.4 h.5 h.3, h.3, l)
     go (Swapping i j u v t) Right h l = (edge j t v u h.1 h.2 h.6 h.7 (λ e. h.3 (sym e)), (λ e. h.3 (sym e)), l)
+    go (Following i j v t) s h l = (cell i t v h.2 h.5, part_early _ t problem.bound l)
 
 -- a side has one constraint more, and all that held of the node holds of it
-grown_side : (problem : Problem) (node : TreeNode) (plan : List (List ℕ)) (c : Conflict) (s : Side) → Grown problem node → HasPlan problem node plan → IsFirstConflict plan c → Grown problem (side_of node c s)
+grown_side : (problem : Problem) (node : TreeNode) (plan : List (List ℕ)) (c : Conflict) (s : Side) → Grown problem node → HasPlan problem node plan → IsFirstConflict problem.rule plan c → Grown problem (side_of node c s)
 grown_side problem node plan c s grown has first =
     let Fit = Fits problem.inst.grid problem.bound in
     record {
@@ -105,7 +110,7 @@ grown_side problem node plan c s grown has first =
     more = constraint_on c s ∷ constraints_of node (agent_on c s)
 
     within : agent_on c s < length problem.inst.starts
-    within = subst (λ k. agent_on c s < k) has.agents (agent_below plan c s first.member)
+    within = subst (λ k. agent_on c s < k) has.agents (agent_below problem.rule plan c s first.member)
 
     inside : agent_on c s < length node.constraints
     inside = subst (λ k. agent_on c s < k) (sym grown.agents) within

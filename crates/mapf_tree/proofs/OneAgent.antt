@@ -4,7 +4,8 @@ use Rattle.std.proofs.lemmas.List.Sums.{sum_by-cons}
 use Rattle.mapf_grid.specs.Least.{Precedes}
 use Rattle.mapf_grid.proofs.Ranks.{irreflexive}
 use Rattle.mapf_plan.specs.Path.{cost}
-use Rattle.mapf_plan.specs.declared.conflict.Conflict.TheVariants.{Vertex, Swapping}
+use Rattle.mapf_plan.specs.declared.conflict.Conflict.TheVariants.{Vertex, Swapping, Following}
+use Rattle.mapf_plan.specs.declared.rule.Rule.{Rule}
 use Rattle.mapf_plan.specs.Plan.{HasNoConflict, path_of}
 use Rattle.mapf_tree.specs.Problem.{Problem}
 use Rattle.mapf_tree.specs.Tree.{IsAllowedFor, IsOwnPathOf, TreeNode, HasPlan, InTree, root, side, root_of, constraints_of, key, IsSolution, IsAnswer}
@@ -13,14 +14,15 @@ use Rattle.mapf_tree.proofs.Plans.{same_plan}
 use Rattle.mapf_tree.proofs.RootNodes.{free_at_root}
 
 -- a conflict is of two agents
-no_conflict : (plan : List (List ℕ)) → length plan ≡ 1 → HasNoConflict plan
-no_conflict plan one (Vertex i j v t) h = omega (arith, one, h.0, h.1)
-no_conflict plan one (Swapping i j u v t) h = omega (arith, one, h.0, h.1)
+no_conflict : (rule : Rule) (plan : List (List ℕ)) → length plan ≡ 1 → HasNoConflict rule plan
+no_conflict rule plan one (Vertex i j v t) h = omega (arith, one, h.0, h.1)
+no_conflict rule plan one (Swapping i j u v t) h = omega (arith, one, h.0, h.1)
+no_conflict rule plan one (Following i j v t) h = omega (arith, one, h.1, h.2, h.3)
 
 -- so no node of the tree has a side
 only_root : (problem : Problem) → length problem.inst.starts ≡ 1 → (node : TreeNode) → InTree problem node → node ≡ root_of problem
 only_root problem one _ (root has) = refl
-only_root problem one _ (side {plan = plan} {c = c} s inside has first has') = absurd (no_conflict plan (has.agents ∙ one) c first.member)
+only_root problem one _ (side {plan = plan} {c = c} s inside has first has') = absurd (no_conflict problem.rule plan (has.agents ∙ one) c first.member)
 
 module _ (problem : Problem) (one : length problem.inst.starts ≡ 1) where
   -- the root's plan is the agent's own path
@@ -36,7 +38,7 @@ module _ (problem : Problem) (one : length problem.inst.starts ≡ 1) where
   answer p own = (
     root_of problem,
     record {
-      member = record { planned = record { inside = root has; plan = has }; no_conflict = no_conflict (p ∷ []) refl };
+      member = record { planned = record { inside = root has; plan = has }; no_conflict = no_conflict problem.rule (p ∷ []) refl };
       least = λ other s. not_before other s (only_root problem one other.0 s.planned.inside);
     },
   )

@@ -116,22 +116,22 @@ pub tail_stands : (p : Problem) (first : Node) (rest : List Node) → AllStand p
 tail_stands p first rest all n c = all n (there rest c)
 
 -- the conflict that a node has is that of its node's plan
-pub conflict_stands : (p : Problem) (n : Node) (m : PlannedNode) (c : Conflict) → StandsFor p n m → n.conflict ≡ Some c → IsFirstConflict m.1 c
-conflict_stands p n m c h e = subst (λ plan. IsFirstConflict plan c) h.plan (let k = subst (λ o. IsConflictOf n.plan o) e h.conflict in k)
+pub conflict_stands : (p : Problem) (n : Node) (m : PlannedNode) (c : Conflict) → StandsFor p n m → n.conflict ≡ Some c → IsFirstConflict p.rule m.1 c
+conflict_stands p n m c h e = subst (λ plan. IsFirstConflict p.rule plan c) h.plan (let k = subst (λ o. IsConflictOf p.rule n.plan o) e h.conflict in k)
 
 -- a node without a conflict stands for a node whose plan has none
-pub none_stands : (p : Problem) (n : Node) (m : PlannedNode) → StandsFor p n m → n.conflict ≡ None → HasNoConflict m.1
-none_stands p n m h e = subst (λ plan. HasNoConflict plan) h.plan (let k = subst (λ o. IsConflictOf n.plan o) e h.conflict in k)
+pub none_stands : (p : Problem) (n : Node) (m : PlannedNode) → StandsFor p n m → n.conflict ≡ None → HasNoConflict p.rule m.1
+none_stands p n m h e = subst (λ plan. HasNoConflict p.rule plan) h.plan (let k = subst (λ o. IsConflictOf p.rule n.plan o) e h.conflict in k)
 
 -- a node is taken whose plan has no conflict
-pub solved_turn : (p : Problem) (old new : List Node) (first : Node) (x : PlannedNode) → old ≡ first ∷ new → IsRising old → AllStand p old → StandsFor p first x → HasNoConflict x.1 → IsTurnOf p old new x
+pub solved_turn : (p : Problem) (old new : List Node) (first : Node) (x : PlannedNode) → old ≡ first ∷ new → IsRising old → AllStand p old → StandsFor p first x → HasNoConflict p.rule x.1 → IsTurnOf p old new x
 solved_turn p old new first x e rising all is none =
     record { least = subst (λ ns. IsLeast key (HasNodeFor p ns) x) (sym e) (first_is_least p first new x r is); stand = tail_stands p first new (subst (AllStand p) e all); next = next }
   where
     r : IsRising (first ∷ new)
     r = subst IsRising e rising
 
-    next : (m : PlannedNode) → HasNodeFor p new m ↔ ((HasNodeFor p old m × (m ≢ x)) ⊎ (IsMember p m × IsChild x m))
+    next : (m : PlannedNode) → HasNodeFor p new m ↔ ((HasNodeFor p old m × (m ≢ x)) ⊎ (IsMember p m × IsChild p x m))
     next m = (
       (λ s. let h = (rest_stands p first new x r is m).0 s in inl (subst (λ ns. HasNodeFor p ns m) (sym e) h.0, h.1)),
       ⊎_elim (λ s. (rest_stands p first new x r is m).1 (subst (λ ns. HasNodeFor p ns m) e s.0, s.1)) (λ s. absurd (none s.1.conflict s.1.first.member)),
@@ -151,23 +151,23 @@ branched_turn p old rest mid new first x c l r e rising all is conflict left rig
     two : AddsSide p mid new (side_of x.0 c Right)
     two = put_node_adds p mid new (side_of x.0 c Right) r one.stand (side_node p x c Right r right) put'
 
-    first_conflict : IsFirstConflict x.1 c
+    first_conflict : IsFirstConflict p.rule x.1 c
     first_conflict = conflict_stands p first x c is conflict
 
-    next : (m : PlannedNode) → HasNodeFor p new m ↔ ((HasNodeFor p old m × (m ≢ x)) ⊎ (IsMember p m × IsChild x m))
+    next : (m : PlannedNode) → HasNodeFor p new m ↔ ((HasNodeFor p old m × (m ≢ x)) ⊎ (IsMember p m × IsChild p x m))
     next m = (
       (λ s. ⊎_elim (λ k. ⊎_elim early (turned Left) ((one.shows m).0 k)) (turned Right) ((two.shows m).0 s)),
       ⊎_elim back (λ s. on s.1.turn s.0 (s.1.is ∙ same s.1)),
     )
       where
-        early : HasNodeFor p rest m → (HasNodeFor p old m × (m ≢ x)) ⊎ (IsMember p m × IsChild x m)
+        early : HasNodeFor p rest m → (HasNodeFor p old m × (m ≢ x)) ⊎ (IsMember p m × IsChild p x m)
         early s = let h = (rest_stands p first rest x up is m).0 s in inl (subst (λ ns. HasNodeFor p ns m) (sym e) h.0, h.1)
 
-        turned : (s : Side) → IsMember p m × (m.0 ≡ side_of x.0 c s) → (HasNodeFor p old m × (m ≢ x)) ⊎ (IsMember p m × IsChild x m)
+        turned : (s : Side) → IsMember p m × (m.0 ≡ side_of x.0 c s) → (HasNodeFor p old m × (m ≢ x)) ⊎ (IsMember p m × IsChild p x m)
         turned s h = inr (h.0, record { conflict = c; turn = s; first = first_conflict; is = h.1 })
 
-        same : (h : IsChild x m) → side_of x.0 h.conflict h.turn ≡ side_of x.0 c h.turn
-        same h = ap (λ d. side_of x.0 d h.turn) (same_first x.1 h.conflict c h.first first_conflict)
+        same : (h : IsChild p x m) → side_of x.0 h.conflict h.turn ≡ side_of x.0 c h.turn
+        same h = ap (λ d. side_of x.0 d h.turn) (same_first p.rule x.1 h.conflict c h.first first_conflict)
 
         on : (s : Side) → IsMember p m → m.0 ≡ side_of x.0 c s → HasNodeFor p new m
         on Left h k = (two.shows m).1 (inl ((one.shows m).1 (inr (h, k))))

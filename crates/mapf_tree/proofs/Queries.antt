@@ -20,10 +20,10 @@ no_child node q h own m c shows is = no_side q.problem node m c q.side shows is 
 pub is_child : (node new : Node) (q : SideQuery) (path : List ℕ) → IsQueryOf node q → IsFoundBy q (Some path) →
     new.name ≡ node.name ++ q.side ∷ [] → new.changes ≡ node.changes ++ record { agent = q.agent; constraint = q.constraint; path = path } ∷ [] →
     new.constraints ≡ set node.constraints q.agent (q.constraint ∷ get_or node.constraints q.agent []) → new.plan ≡ set node.plan q.agent path →
-    IsConflictOf (set node.plan q.agent path) new.conflict → IsChildOf q.problem node q.side (Some new)
-is_child node new q path h own name changes constraints plan conflict m c shows is =
+    new.rule ≡ node.rule → IsConflictOf node.rule (set node.plan q.agent path) new.conflict → IsChildOf q.problem node q.side (Some new)
+is_child node new q path h own name changes constraints plan rule conflict m c shows is =
     side_stands q.problem node m c q.side shows is q.agent q.limit q.constraint q.constraints path (set node.plan q.agent path)
-    (searched node c q (Some path) h is own) refl new name changes constraints plan conflict
+    (searched node c q (Some path) h is own) refl new name changes constraints plan rule conflict
 
 -- what a node's child on the side tells of the own path: it is the child's, and without a child there is none
 pub found_of_child : (node : Node) (q : SideQuery) (child : Option Node) → IsBranching q.problem node → IsQueryOf node q → IsChildOf q.problem node q.side child →

@@ -26,8 +26,8 @@ no_root p paths are dear plan has =
 
 -- and if not, they are its plan
 pub root_stands : (p : Problem) (node : Node) (paths : List (List ℕ)) → AreRootPaths p paths → plan_cost paths ≤ p.bound →
-    node.name ≡ [] → node.changes ≡ [] → node.constraints ≡ replicate (length p.inst.starts) [] → node.plan ≡ paths → IsConflictOf paths node.conflict → IsRoot p (Some node)
-root_stands p node paths are within name changes sets plan conflict = (
+    node.name ≡ [] → node.changes ≡ [] → node.constraints ≡ replicate (length p.inst.starts) [] → node.plan ≡ paths → node.rule ≡ p.rule → IsConflictOf p.rule paths node.conflict → IsRoot p (Some node)
+root_stands p node paths are within name changes sets plan rule conflict = (
   paths,
   record {
     member = record { inside = root has; plan = has };
@@ -36,7 +36,8 @@ root_stands p node paths are within name changes sets plan conflict = (
     plan = plan;
     agents = ap length sets ∙ length-replicate (length p.inst.starts) [];
     sets = λ i h c. subst (λ xs. Contains (get_or xs i []) c ↔ Contains (constraints_of (root_of p) i) c) (sym sets) ((λ k. k), (λ k. k));
-    conflict = subst (λ q. IsConflictOf q node.conflict) (sym plan) conflict;
+    rule = rule;
+    conflict = subst (λ q. IsConflictOf p.rule q node.conflict) (sym plan) conflict;
   },
 )
   where

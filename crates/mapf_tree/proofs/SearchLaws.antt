@@ -40,7 +40,7 @@ module _ (problem : Problem) where
           record { path = m.path; within = m.within; obeys = obeys_fewer p.constraints (agent_on c s) i (constraint_on c s) (path_of b i) m.obeys }
 
   -- each child comes after its parent
-  pub parent_before : (p c : PlannedNode) → IsMember problem p → IsMember problem c → IsChild p c → Precedes (key p) (key c)
+  pub parent_before : (p c : PlannedNode) → IsMember problem p → IsMember problem c → IsChild problem p c → Precedes (key p) (key c)
   parent_before p c m n h =
       let costs = side_costs p.0 h.conflict h.turn p.1 c.1 m.plan (subst (λ x. HasPlan problem x c.1) h.is n.plan) in
       let deeper : length p.0.name < length c.0.name = omega (arith, ap (λ x. length x.name) h.is, length-append p.0.name (h.turn ∷ [])) in
@@ -63,7 +63,7 @@ module _ (problem : Problem) where
       child : IsMember problem (side_of p c s, plan)
       child = record { inside = side s i h f k; plan = has }
 
-      is : IsChild (p, a) (side_of p c s, plan)
+      is : IsChild problem (p, a) (side_of p c s, plan)
       is = record { conflict = c; turn = s; first = f; is = refl }
 
       go : (¬ IsReached last (p, a) → (w : PlannedNode) × IsWaiting problem last w × (¬ Precedes (key (p, a)) (key w))) → Dec (IsReached last (p, a)) → (w : PlannedNode) × IsWaiting problem last w × (¬ Precedes (key (side_of p c s, plan)) (key w))
@@ -112,25 +112,25 @@ module _ (problem : Problem) where
               from = ⊎_elim inl (λ p. inr (p.0, p.1, reached_then p.0 (inl p.2), p.3)) w.from;
             }
 
-        new : IsMember problem m × IsChild x m → IsWaiting problem (Some (key x)) m
+        new : IsMember problem m × IsChild problem x m → IsWaiting problem (Some (key x)) m
         new c = record { member = c.0; open_yet = λ r. r (parent_before x m x_waits.member c.0 c.1); from = inr (x, x_waits.member, reached_then x (inr refl), c.1) }
 
-        back : IsWaiting problem (Some (key x)) m → (Waits m × (m ≢ x)) ⊎ (IsMember problem m × IsChild x m)
+        back : IsWaiting problem (Some (key x)) m → (Waits m × (m ≢ x)) ⊎ (IsMember problem m × IsChild problem x m)
         back w =
             ⊎_elim (λ e. inl (waited (inl e)))
-            (λ p. ⊎_elim (λ r. inl (waited (inr (p.0, p.1, r, p.3)))) (λ e. inr (w.member, subst (λ y. IsChild y m) e p.3)) (reached_now p.0 p.1 p.2)) w.from
+            (λ p. ⊎_elim (λ r. inl (waited (inr (p.0, p.1, r, p.3)))) (λ e. inr (w.member, subst (λ y. IsChild problem y m) e p.3)) (reached_now p.0 p.1 p.2)) w.from
           where
-            waited : (m.0 ≡ root_of problem) ⊎ ((p : PlannedNode) × IsMember problem p × IsReached last p × IsChild p m) → Waits m × (m ≢ x)
+            waited : (m.0 ≡ root_of problem) ⊎ ((p : PlannedNode) × IsMember problem p × IsReached last p × IsChild problem p m) → Waits m × (m ≢ x)
             waited from =
                 ((at.waits m).1 (record { member = w.member; open_yet = λ r. w.open_yet (reached_then m (inl r)); from = from }), λ e. w.open_yet (reached_then m (inr e)))
 
     -- so the search goes on
-    turn_takes_next : (Next : PlannedNode → Type 0) → ¬ HasNoConflict x.1 → IsTurn problem Waits x Next → IsSearchAt problem (Some (key x)) Next
+    turn_takes_next : (Next : PlannedNode → Type 0) → ¬ HasNoConflict problem.rule x.1 → IsTurn problem Waits x Next → IsSearchAt problem (Some (key x)) Next
     turn_takes_next Next conflict is =
-        record { waits = next_waits Next is; none_yet = λ m h r. ⊎_elim (at.none_yet m h) (λ e n. conflict (subst (λ y. HasNoConflict y.1) e n)) (reached_now m h r) }
+        record { waits = next_waits Next is; none_yet = λ m h r. ⊎_elim (at.none_yet m h) (λ e n. conflict (subst (λ y. HasNoConflict problem.rule y.1) e n)) (reached_now m h r) }
 
     -- all that comes before x is reached, and no solution
-    pub ends_at_first : HasNoConflict x.1 → IsFirstSolution problem x
+    pub ends_at_first : HasNoConflict problem.rule x.1 → IsFirstSolution problem x
     ends_at_first none =
         record {
           member = record { planned = x_waits.member; no_conflict = none };

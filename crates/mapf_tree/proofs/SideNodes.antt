@@ -54,14 +54,14 @@ within_bound p plan a limit more path inside leaves own = omega (arith, sum_by-s
 
 module _ (p : Problem) (node : Node) (m : PlannedNode) (c : Conflict) (s : Side) (shows : StandsFor p node m) (is : node.conflict ≡ Some c) where
   -- the node branches on its plan's first conflict
-  first : IsFirstConflict m.1 c
+  first : IsFirstConflict p.rule m.1 c
   first =
-      let own : IsConflictOf node.plan (Some c) = subst (IsConflictOf node.plan) is shows.conflict in
-      subst (λ plan. IsFirstConflict plan c) shows.plan own
+      let own : IsConflictOf p.rule node.plan (Some c) = subst (IsConflictOf p.rule node.plan) is shows.conflict in
+      subst (λ plan. IsFirstConflict p.rule plan c) shows.plan own
 
   -- the side's agent is one of the agents
   agent_inside : agent_on c s < length p.inst.starts
-  agent_inside = subst (λ n. agent_on c s < n) shows.member.plan.agents (agent_below m.1 c s first.member)
+  agent_inside = subst (λ n. agent_on c s < n) shows.member.plan.agents (agent_below p.rule m.1 c s first.member)
 
   -- the node on this side
   abbrev there : TreeNode
@@ -159,8 +159,8 @@ module _ (p : Problem) (node : Node) (m : PlannedNode) (c : Conflict) (s : Side)
 
     -- and the new node stands for the side
     pub side_stands : (new : Node) → new.name ≡ node.name ++ s ∷ [] → new.changes ≡ node.changes ++ record { agent = a; constraint = k; path = path } ∷ [] →
-        new.constraints ≡ set node.constraints a (k ∷ get_or node.constraints a []) → new.plan ≡ plan → IsConflictOf plan new.conflict → IsSide p m c s (Some new)
-    side_stands new name changes constraints stand conflict = (
+        new.constraints ≡ set node.constraints a (k ∷ get_or node.constraints a []) → new.plan ≡ plan → new.rule ≡ node.rule → IsConflictOf node.rule plan new.conflict → IsSide p m c s (Some new)
+    side_stands new name changes constraints stand rule conflict = (
       plan,
       record {
         member = record { inside = side s shows.member.inside shows.member.plan first has; plan = has };
@@ -169,7 +169,8 @@ module _ (p : Problem) (node : Node) (m : PlannedNode) (c : Conflict) (s : Side)
         plan = stand;
         agents = ap length constraints ∙ length-set node.constraints a _ ∙ shows.agents;
         sets = λ i h. subst (λ l. IsSameSet (get_or l i []) (constraints_of there i)) (sym renamed) (sets i h);
-        conflict = subst (λ q. IsConflictOf q new.conflict) (sym stand) conflict;
+        rule = rule ∙ shows.rule;
+        conflict = subst₂ (λ r q. IsConflictOf r q new.conflict) shows.rule (sym stand) conflict;
       },
     )
       where

@@ -10,7 +10,7 @@ use Rattle.mapf_tree.proofs.Finite.{members}
 -- whether a node of the tree is a solution
 dec_solution : (problem : Problem) (m : PlannedNode) → IsMember problem m → Dec (IsSolution problem m)
 dec_solution problem m h =
-    ⊎_elim (λ c. no (λ s. s.no_conflict c.0 c.1.member)) (λ none. yes (record { planned = h; no_conflict = none })) (first_conflict m.1)
+    ⊎_elim (λ c. no (λ s. s.no_conflict c.0 c.1.member)) (λ none. yes (record { planned = h; no_conflict = none })) (first_conflict problem.rule m.1)
 
 -- the least solution's plan is an answer, and so is none if there is no solution
 pub answer_exists : AnswerExists

@@ -59,11 +59,11 @@ module _ (p : Problem) (last : Option (List ℕ)) (old : List Node) (taken : IsT
         }
 
     -- if the plan of x has a conflict, there is no solution yet
-    pub none_solves : ¬ HasNoConflict x.1 → NoneSolves p (Some (key x))
-    none_solves conflict m h r n = ⊎_elim (λ s. none m h s n) (λ e. conflict (subst (λ y. HasNoConflict y.1) e n)) (now_or_before m h r)
+    pub none_solves : ¬ HasNoConflict p.rule x.1 → NoneSolves p (Some (key x))
+    none_solves conflict m h r n = ⊎_elim (λ s. none m h s n) (λ e. conflict (subst (λ y. HasNoConflict p.rule y.1) e n)) (now_or_before m h r)
 
     -- and if it has none, it is the answer
-    pub solves : HasNoConflict x.1 → IsAnswer p (Some x.1)
+    pub solves : HasNoConflict p.rule x.1 → IsAnswer p (Some x.1)
     solves free = (x.0, ends_at_first p last (HasNodeFor p old) x at turn.least free)
 
 -- the root waits at first, if it is in the tree

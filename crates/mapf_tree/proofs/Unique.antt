@@ -20,7 +20,7 @@ same_node problem _ _ (side {node = p} {plan = a} {c = c} s i h f _) (side {node
     let names = same_from_push p.name q.name s s' e in
     let ep = same_node problem p q i i' names.0 in
     let ea = same_plan problem q a b (subst (λ r. HasPlan problem r a) ep h) h' in
-    let ec = same_first b c d (subst (λ r. IsFirstConflict r c) ea f) f' in
+    let ec = same_first problem.rule b c d (subst (λ r. IsFirstConflict problem.rule r c) ea f) f' in
     ap₂ (λ r x. side_of r x s) ep ec ∙ ap (λ x. side_of q d x) names.1
 
 -- turns by their numbers

@@ -31,6 +31,6 @@ IsAnswerOf problem = IsAnswerUpTo problem.nodes problem
 -- a plan without conflict that costs least of all such plans; none where each costs more than the bound; or, at the limit on
 -- nodes, a cost that each such plan has at least
 abbrev pub IsBestAnswer : Problem → Answer → Type 0
-IsBestAnswer problem (answer.Plan plan cost) = IsOptimum problem.inst problem.bound plan × (cost ≡ plan_cost plan)
-IsBestAnswer problem (answer.None limit) = (limit ≡ problem.bound) × ((plan : List (List ℕ)) → IsValid problem.inst plan → plan_cost plan ≤ problem.bound → ⊥)
-IsBestAnswer problem (answer.GaveUp nodes least) = (problem.nodes ≡ Some nodes) × ((plan : List (List ℕ)) → IsValid problem.inst plan → least ≤ plan_cost plan)
+IsBestAnswer problem (answer.Plan plan cost) = IsOptimum problem.rule problem.inst problem.bound plan × (cost ≡ plan_cost plan)
+IsBestAnswer problem (answer.None limit) = (limit ≡ problem.bound) × ((plan : List (List ℕ)) → IsValid problem.rule problem.inst plan → plan_cost plan ≤ problem.bound → ⊥)
+IsBestAnswer problem (answer.GaveUp nodes least) = (problem.nodes ≡ Some nodes) × ((plan : List (List ℕ)) → IsValid problem.rule problem.inst plan → least ≤ plan_cost plan)

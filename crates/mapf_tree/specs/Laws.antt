@@ -4,6 +4,7 @@ use Rattle.std.specs.Prelude.{◌≡◌, ◌≢◌, ℕ, ◌<◌, ◌≤◌, ◌
 use Rattle.mapf_grid.specs.Grid.{Grid, IsFree, Next}
 use Rattle.mapf_plan.specs.declared.answer.Answer.{Answer}
 use Rattle.mapf_plan.specs.declared.conflict.Conflict.{Conflict}
+use Rattle.mapf_plan.specs.declared.conflict.Conflict.TheVariants.{Following}
 use Rattle.mapf_plan.specs.Path.{cost}
 use Rattle.mapf_plan.specs.Plan.{IsConflict, IsFirstConflict, IsValid, IsOptimum, plan_cost, path_of}
 use Rattle.mapf_low.specs.Constraints.{Obeys}
@@ -23,15 +24,15 @@ ObeysNode problem node plan = (i : ℕ) → i < length problem.inst.starts → O
 abbrev pub ObeysOneSide : Type 0
 ObeysOneSide =
     (problem : Problem) (node : TreeNode) (plan other : List (List ℕ)) (c : Conflict) →
-    length node.constraints ≡ length problem.inst.starts → length plan ≡ length problem.inst.starts → IsConflict plan c →
-    IsValid problem.inst other → ObeysNode problem node other →
+    length node.constraints ≡ length problem.inst.starts → length plan ≡ length problem.inst.starts → IsConflict problem.rule plan c →
+    IsValid problem.rule problem.inst other → ObeysNode problem node other →
     ObeysNode problem (side_of node c Left) other ⊎ ObeysNode problem (side_of node c Right) other
 
 -- a valid plan within the bound that obeys a node gives it a plan, which costs no more
 abbrev pub ObeyedIsInCost : Type 0
 ObeyedIsInCost =
     (problem : Problem) (node : TreeNode) (other : List (List ℕ)) →
-    IsValid problem.inst other → plan_cost other ≤ problem.bound → ObeysNode problem node other →
+    IsValid problem.rule problem.inst other → plan_cost other ≤ problem.bound → ObeysNode problem node other →
     (plan : List (List ℕ)) × HasPlan problem node plan × (plan_cost plan ≤ plan_cost other)
 
 -- no plan of a node has a dearer path of an agent than the other agents leave of the bound
@@ -44,13 +45,20 @@ NoneIsDearer =
 abbrev pub ConstraintIsNew : Type 0
 ConstraintIsNew =
     (problem : Problem) (node : TreeNode) (plan : List (List ℕ)) (c : Conflict) (s : Side) →
-    HasPlan problem node plan → IsConflict plan c → ¬ Contains (constraints_of node (agent_on c s)) (constraint_on c s)
+    HasPlan problem node plan → IsConflict problem.rule plan c → ¬ Contains (constraints_of node (agent_on c s)) (constraint_on c s)
 
 -- a side forbids nothing after the bound
 abbrev pub ConstraintIsEarly : Type 0
 ConstraintIsEarly =
     (problem : Problem) (node : TreeNode) (plan : List (List ℕ)) (c : Conflict) (s : Side) →
-    HasPlan problem node plan → IsFirstConflict plan c → time_of (constraint_on c s) ≤ problem.bound
+    HasPlan problem node plan → IsFirstConflict problem.rule plan c → time_of (constraint_on c s) ≤ problem.bound
+
+-- at time 1 a leader has left its start, which it may not have left before: that side isn't in the tree
+abbrev pub LeaderAtStart : Type 0
+LeaderAtStart =
+    (problem : Problem) (node : TreeNode) (plan other : List (List ℕ)) (i j v : ℕ) (s : Side) →
+    InTree problem node → HasPlan problem node plan → IsConflict problem.rule plan (Following i j v 1) → agent_on (Following i j v 1) s ≡ j →
+    ¬ HasPlan problem (side_of node (Following i j v 1) s) other
 
 -- every free cell, and every two neighbouring free cells
 pub record HoldsGrid (g : Grid) (cells : List ℕ) (edges : List (ℕ × ℕ)) : Type 0 where
@@ -82,11 +90,11 @@ StatedIsUnique = (problem : Problem) (a b : Answer) → IsAnswerOf problem a →
 
 -- the answer's plan is valid, and no valid plan costs less
 abbrev pub AnswerIsOptimum : Type 0
-AnswerIsOptimum = (problem : Problem) (plan : List (List ℕ)) → IsAnswer problem (Some plan) → IsOptimum problem.inst problem.bound plan
+AnswerIsOptimum = (problem : Problem) (plan : List (List ℕ)) → IsAnswer problem (Some plan) → IsOptimum problem.rule problem.inst problem.bound plan
 
 -- there is no answer exactly if there is no valid plan within the bound
 abbrev pub NoneIsNone : Type 0
-NoneIsNone = (problem : Problem) → IsAnswer problem None ↔ ((plan : List (List ℕ)) → IsValid problem.inst plan → plan_cost plan ≤ problem.bound → ⊥)
+NoneIsNone = (problem : Problem) → IsAnswer problem None ↔ ((plan : List (List ℕ)) → IsValid problem.rule problem.inst plan → plan_cost plan ≤ problem.bound → ⊥)
 
 -- the answer for one agent, as the low-level search has it: a conflict is of two agents, so no plan has one. The only agent's
 -- own path is the answer's plan; if it may take no path, there is none

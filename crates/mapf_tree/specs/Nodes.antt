@@ -2,6 +2,7 @@
 -- a child has one constraint more for one agent, and that agent's new path).
 use Rattle.std.specs.Prelude.{◌≡◌, ℕ, ◌<◌, ◌↔◌, List, [], ◌∷◌, ◌++◌, length, replicate, slice_set, slice_index_or, All, Option, Some, None, MatchOption, Contains}
 use Rattle.mapf_plan.specs.declared.conflict.Conflict.{Conflict}
+use Rattle.mapf_plan.specs.declared.rule.Rule.{Rule}
 use Rattle.mapf_plan.specs.Plan.{path_of, plan_cost, IsFirstConflict, HasNoConflict}
 use Rattle.mapf_low.specs.declared.constraint.Constraint.{Constraint}
 use Rattle.mapf_tree.specs.declared.side.Side.{Side}
@@ -29,37 +30,40 @@ abbrev pub changed_sets : List (List Constraint) → List Changed → List (List
 changed_sets sets [] = sets
 changed_sets sets (x ∷ xs) = changed_sets (slice_set sets x.agent (x.constraint ∷ slice_index_or sets x.agent [])) xs
 
--- a node's name, what its turns changed, each agent's set of constraints, its plan, and the plan's first conflict
+-- a node's name, what its turns changed, each agent's set of constraints, its plan, the rule of its tree, and the plan's first
+-- conflict by that rule
 pub record Node : Type 0 where
   pub name : List Side
   pub changes : List Changed
   pub constraints : List (List Constraint)
   pub plan : List (List ℕ)
+  pub rule : Rule
   pub conflict : Option Conflict
 
 -- a node of this name that has changed a root's plan
-abbrev pub node_of : List Side → List (List ℕ) → List Changed → Option Conflict → Node
-node_of name root changes conflict = record {
+abbrev pub node_of : List Side → List (List ℕ) → List Changed → Rule → Option Conflict → Node
+node_of name root changes rule conflict = record {
   name = name;
   changes = changes;
   constraints = changed_sets (replicate (length root) []) changes;
   plan = changed_plan root changes;
+  rule = rule;
   conflict = conflict;
 }
 
 abbrev pub node_key : Node → List ℕ
 node_key n = rank (plan_cost n.plan) (length n.name) n.name
 
--- the plan's first conflict, or none where it has no conflict
-abbrev pub IsConflictOf : List (List ℕ) → Option Conflict → Type 0
-IsConflictOf plan conflict = MatchOption conflict (HasNoConflict plan) (IsFirstConflict plan)
+-- the plan's first conflict by the rule, or none where it has no conflict
+abbrev pub IsConflictOf : Rule → List (List ℕ) → Option Conflict → Type 0
+IsConflictOf rule plan conflict = MatchOption conflict (HasNoConflict rule plan) (IsFirstConflict rule plan)
 
 -- what always holds of a node: its key is that of its plan and name, its conflict is its plan's first, and each turn of its
 -- name changed the path of one of the agents
 pub record AgreesWith (sum turns : ℕ) (node : Node) : Type 0 where
   pub cost : sum ≡ plan_cost node.plan
   pub depth : turns ≡ length node.name
-  pub conflict : IsConflictOf node.plan node.conflict
+  pub conflict : IsConflictOf node.rule node.plan node.conflict
   pub turned : length node.changes ≡ length node.name
   pub agents : All (λ x. x.agent < length node.plan) node.changes
 
@@ -72,7 +76,7 @@ IsSameSet xs ys = (c : Constraint) → Contains xs c ↔ Contains ys c
 pub data AreChanges (problem : Problem) : TreeNode → List (List ℕ) → List Changed → Type 0 where
   unchanged : {plan : List (List ℕ)} → HasPlan problem (root_of problem) plan → AreChanges problem (root_of problem) plan []
   turned : {node : TreeNode} {plan plan' : List (List ℕ)} {c : Conflict} {changes : List Changed} (s : Side) →
-      AreChanges problem node plan changes → IsFirstConflict plan c → HasPlan problem (side_of node c s) plan' →
+      AreChanges problem node plan changes → IsFirstConflict problem.rule plan c → HasPlan problem (side_of node c s) plan' →
       AreChanges problem (side_of node c s) plan'
       (changes ++ record { agent = agent_on c s; constraint = constraint_on c s; path = path_of plan' (agent_on c s) } ∷ [])
 
@@ -84,7 +88,8 @@ pub record StandsFor (problem : Problem) (node : Node) (m : PlannedNode) : Type 
   pub plan : node.plan ≡ m.1
   pub agents : length node.constraints ≡ length problem.inst.starts
   pub sets : (i : ℕ) → i < length problem.inst.starts → IsSameSet (slice_index_or node.constraints i []) (constraints_of m.0 i)
-  pub conflict : IsConflictOf node.plan node.conflict
+  pub rule : node.rule ≡ problem.rule
+  pub conflict : IsConflictOf problem.rule node.plan node.conflict
 
 -- each node of the list stands for a node of the tree
 abbrev pub AllStand : Problem → List Node → Type 0

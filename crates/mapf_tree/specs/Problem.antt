@@ -1,14 +1,17 @@
--- What a search solves: an instance, a bound on the sum of costs, and a limit on how many nodes are taken, if there is one.
+-- What a search solves: an instance, a bound on the sum of costs, a limit on how many nodes are taken, if there is one, and the
+-- rule by which plans have conflicts.
 use Rattle.std.specs.Prelude.{◌≡◌, ℕ, ◌<◌, ◌≤◌, List, [], length, slice_index, slice_index_or, Option, IfSome}
 use Rattle.mapf_grid.specs.Instance.{Instance}
 use Rattle.mapf_grid.specs.InstanceLaws.{IsSound}
 use Rattle.mapf_low.specs.Walk.{AreDistances}
+use Rattle.mapf_plan.specs.declared.rule.Rule.{Rule}
 use Rattle.mapf_plan.specs.Plan.{most_bound, most_nodes}
 
 pub record Problem : Type 0 where
   pub inst : Instance
   pub bound : ℕ
   pub nodes : Option ℕ
+  pub rule : Rule
 
 -- one table for each agent, with the distances of the agent's goal
 pub record HasDistances (inst : Instance) (distances : List (List (Option ℕ))) : Type 0 where

@@ -18,27 +18,27 @@ IsReached None m = ⊥
 IsReached (Some last) m = ¬ Precedes last (key m)
 
 -- one of the two sides of the conflict that the parent's plan branches on
-pub record IsChild (parent child : PlannedNode) : Type 0 where
+pub record IsChild (problem : Problem) (parent child : PlannedNode) : Type 0 where
   pub conflict : Conflict
   pub turn : Side
-  pub first : IsFirstConflict parent.1 conflict
+  pub first : IsFirstConflict problem.rule parent.1 conflict
   pub is : child.0 ≡ side_of parent.0 conflict turn
 
 -- not reached, and the root or a side of one that is
 pub record IsWaiting (problem : Problem) (last : Option (List ℕ)) (m : PlannedNode) : Type 0 where
   pub member : IsMember problem m
   pub open_yet : ¬ IsReached last m
-  pub from : (m.0 ≡ root_of problem) ⊎ ((p : PlannedNode) × IsMember problem p × IsReached last p × IsChild p m)
+  pub from : (m.0 ≡ root_of problem) ⊎ ((p : PlannedNode) × IsMember problem p × IsReached last p × IsChild problem p m)
 
 -- no node with a key up to the last one is a solution
 abbrev pub NoneSolves : Problem → Option (List ℕ) → Type 0
-NoneSolves problem last = (m : PlannedNode) → IsMember problem m → IsReached last m → ¬ HasNoConflict m.1
+NoneSolves problem last = (m : PlannedNode) → IsMember problem m → IsReached last m → ¬ HasNoConflict problem.rule m.1
 
 -- the nodes with keys up to the last one are taken: that is the key of one of them, and none but that one is a solution.
 -- The list has the nodes that are not taken and are the root or a side of one that is
 pub record IsTakenTo (problem : Problem) (last : Option (List ℕ)) (nodes : List Node) : Type 0 where
   pub greatest : IfSome last (λ k. (m : PlannedNode) × IsMember problem m × (key m ≡ k))
-  pub none_before : (m : PlannedNode) → IsMember problem m → IsReached last m → HasNoConflict m.1 → last ≡ Some (key m)
+  pub none_before : (m : PlannedNode) → IsMember problem m → IsReached last m → HasNoConflict problem.rule m.1 → last ≡ Some (key m)
   pub stand : AllStand problem nodes
   pub waits : (m : PlannedNode) → HasNodeFor problem nodes m ↔ IsWaiting problem last m
 
@@ -51,7 +51,7 @@ TakesBetween problem from to n =
 -- the last node that was taken is a solution, and its plan is the answer
 abbrev pub IsSolvedBy : Problem → Option (List ℕ) → Answer → Type 0
 IsSolvedBy problem last given =
-    (x : PlannedNode) × IsMember problem x × HasNoConflict x.1 × (last ≡ Some (key x)) × (given ≡ answer.Plan x.1 (plan_cost x.1))
+    (x : PlannedNode) × IsMember problem x × HasNoConflict problem.rule x.1 × (last ≡ Some (key x)) × (given ≡ answer.Plan x.1 (plan_cost x.1))
 
 -- as many nodes are taken as may be, and a node waits: the least cost of those that wait is stated
 abbrev pub HasGivenUp : Problem → List Node → Option (List ℕ) → Answer → Type 0

@@ -1,5 +1,5 @@
 -- The constraint tree, its solutions and the answer (Sharon et al. 2015).
-use Rattle.std.specs.Prelude.{◌≡◌, ℕ, ◌<◌, ◌≤◌, List, [], ◌∷◌, ◌++◌, length, map, replicate, slice_index, slice_index_or, slice_set, Option, Some, None, Contains}
+use Rattle.std.specs.Prelude.{◌≡◌, ℕ, ◌<◌, ◌≤◌, ◌-◌, ◌==◌, if◌then◌else◌, min, max, List, [], ◌∷◌, ◌++◌, length, map, replicate, slice_index, slice_index_or, slice_set, Option, Some, None, Contains}
 use Rattle.mapf_grid.specs.Least.{IsLeast}
 use Rattle.mapf_plan.specs.declared.conflict.Conflict.{Conflict}
 use Rattle.mapf_plan.specs.declared.conflict.Conflict.TheVariants as conflict
@@ -40,11 +40,16 @@ agent_on (conflict.Vertex i j v t) Left = i
 agent_on (conflict.Vertex i j v t) Right = j
 agent_on (conflict.Swapping i j u v t) Left = i
 agent_on (conflict.Swapping i j u v t) Right = j
+agent_on (conflict.Following i j v t) Left = min i j
+agent_on (conflict.Following i j v t) Right = max i j
 
+-- the agent's part in the conflict: a follower is on the cell at that time, and the leader was one time step before
 abbrev pub constraint_on : Conflict → Side → Constraint
 constraint_on (conflict.Vertex i j v t) side = constraint.Vertex v t
 constraint_on (conflict.Swapping i j u v t) Left = constraint.Edge u v t
 constraint_on (conflict.Swapping i j u v t) Right = constraint.Edge v u t
+constraint_on (conflict.Following i j v t) side =
+    constraint.Vertex v (if agent_on (conflict.Following i j v t) side == i then t else t - 1)
 
 -- one turn more in the name, and one constraint more for the agent on that side
 abbrev pub side_of : TreeNode → Conflict → Side → TreeNode
@@ -61,7 +66,7 @@ root_of problem = record { name = []; constraints = replicate (length problem.in
 pub data InTree (problem : Problem) : TreeNode → Type 0 where
   root : {plan : List (List ℕ)} → HasPlan problem (root_of problem) plan → InTree problem (root_of problem)
   side : {node : TreeNode} {plan plan' : List (List ℕ)} {c : Conflict} (s : Side) →
-      InTree problem node → HasPlan problem node plan → IsFirstConflict plan c →
+      InTree problem node → HasPlan problem node plan → IsFirstConflict problem.rule plan c →
       HasPlan problem (side_of node c s) plan' → InTree problem (side_of node c s)
 
 -- a node with its plan
@@ -81,7 +86,7 @@ pub record IsMember (problem : Problem) (m : PlannedNode) : Type 0 where
 -- a node of the tree with its plan, which has no conflict
 pub record IsSolution (problem : Problem) (m : PlannedNode) : Type 0 where
   pub planned : IsMember problem m
-  pub no_conflict : HasNoConflict m.1
+  pub no_conflict : HasNoConflict problem.rule m.1
 
 abbrev pub turn : Side → ℕ
 turn Left = 0

@@ -24,7 +24,7 @@ pub record IsSearchAt (problem : Problem) (last : Option (List ℕ)) (Waits : Pl
 -- after a turn that takes x those wait that waited, but for x, and the sides of x that are in the tree
 abbrev pub IsTurn : Problem → (PlannedNode → Type 0) → PlannedNode → (PlannedNode → Type 0) → Type 0
 IsTurn problem Waits x Next =
-    (m : PlannedNode) → Next m ↔ ((Waits m × (m ≢ x)) ⊎ (IsMember problem m × IsChild x m))
+    (m : PlannedNode) → Next m ↔ ((Waits m × (m ≢ x)) ⊎ (IsMember problem m × IsChild problem x m))
 
 -- with no node taken, the root waits if it is in the tree
 abbrev pub SearchStarts : Type 0
@@ -36,7 +36,7 @@ SearchStarts =
 abbrev pub TurnTakesNext : Type 0
 TurnTakesNext =
     (problem : Problem) (last : Option (List ℕ)) (waiting next : List PlannedNode) (x : PlannedNode) →
-    IsSearchAt problem last (Contains waiting) → IsLeast key (Contains waiting) x → ¬ HasNoConflict x.1 → IsTurn problem (Contains waiting) x (Contains next) →
+    IsSearchAt problem last (Contains waiting) → IsLeast key (Contains waiting) x → ¬ HasNoConflict problem.rule x.1 → IsTurn problem (Contains waiting) x (Contains next) →
     IsSearchAt problem (Some (key x)) (Contains next)
     × ((m : PlannedNode) → IsMember problem m → IsReached (Some (key x)) m ↔ (IsReached last m ⊎ (m ≡ x)))
 
@@ -44,7 +44,7 @@ TurnTakesNext =
 abbrev pub EndsAtAnswer : Type 0
 EndsAtAnswer =
     (problem : Problem) (last : Option (List ℕ)) (waiting : List PlannedNode) → IsSearchAt problem last (Contains waiting) →
-    ((x : PlannedNode) → IsLeast key (Contains waiting) x → HasNoConflict x.1 → IsFirstSolution problem x)
+    ((x : PlannedNode) → IsLeast key (Contains waiting) x → HasNoConflict problem.rule x.1 → IsFirstSolution problem x)
     × (((x : PlannedNode) → ¬ Contains waiting x) → IsAnswer problem None)
 
 -- a number that the taken nodes of the tree never exceed
@@ -62,8 +62,8 @@ pub record IsTurnOf (problem : Problem) (old new : List Node) (x : PlannedNode) 
 abbrev pub IsTurned : Problem → List Node → List Node → Turn → Type 0
 IsTurned problem old new turn.Empty = (old ≡ []) × (new ≡ [])
 IsTurned problem old new (turn.Solved k plan) =
-    (x : PlannedNode) × IsTurnOf problem old new x × HasNoConflict x.1 × (key_rank k ≡ key x) × (plan ≡ x.1) × (k.cost ≡ plan_cost plan)
-IsTurned problem old new (turn.Branched k) = (x : PlannedNode) × IsTurnOf problem old new x × (¬ HasNoConflict x.1) × (key_rank k ≡ key x)
+    (x : PlannedNode) × IsTurnOf problem old new x × HasNoConflict problem.rule x.1 × (key_rank k ≡ key x) × (plan ≡ x.1) × (k.cost ≡ plan_cost plan)
+IsTurned problem old new (turn.Branched k) = (x : PlannedNode) × IsTurnOf problem old new x × (¬ HasNoConflict problem.rule x.1) × (key_rank k ≡ key x)
 
 -- as many nodes are taken as may be, and a node waits: the first one's cost is stated
 pub record IsGivenUp (problem : Problem) (waiting : List Node) (taken : ℕ) (given : Answer) : Type 0 where

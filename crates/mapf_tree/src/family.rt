@@ -36,7 +36,7 @@ pub fn root_with(
     if plan.cost() > u64::from(problem.bound()) {
         return Ok(None);
     }
-    Ok(Some(Node::root(alloc, plan)?))
+    Ok(Some(Node::root(alloc, plan, problem.rule())?))
 }
 
 /// The child of a node of the tree on one side of its conflict; none exactly where that isn't in the tree.

@@ -1,7 +1,7 @@
 //! What holds of the constraint tree, its answer and a search in it: functions that do nothing,
 //! each with one law as its contract.
 
-ghost use Rattle.mapf_tree.specs.Laws.{OneAgentsAnswer, ObeysOneSide, ConstraintIsNew, ConstraintIsEarly, ObeyedIsInCost, NoneIsDearer, DepthIsBounded, TreeIsFinite, AnswerExists, AnswerIsUnique, StatedIsUnique, AnswerIsOptimum, NoneIsNone};
+ghost use Rattle.mapf_tree.specs.Laws.{OneAgentsAnswer, ObeysOneSide, ConstraintIsNew, ConstraintIsEarly, LeaderAtStart, ObeyedIsInCost, NoneIsDearer, DepthIsBounded, TreeIsFinite, AnswerExists, AnswerIsUnique, StatedIsUnique, AnswerIsOptimum, NoneIsNone};
 ghost use Rattle.mapf_tree.specs.Turns.{SearchStarts, TurnTakesNext, EndsAtAnswer, TakenAreBounded};
 ghost use Rattle.mapf_tree.specs.Worked.{WorkedRoot};
 
@@ -23,6 +23,11 @@ pub fn constraint_is_new()
 /// A side forbids nothing at a time step after the bound.
 pub fn constraint_is_early()
     ensures { ConstraintIsEarly }
+{}
+
+/// A leader that is on its start can't have left it a time step before: that side of a following conflict isn't in the tree.
+pub fn leader_at_start()
+    ensures { LeaderAtStart }
 {}
 
 /// If a valid plan within the bound obeys a node, the node has a plan, which costs no more.

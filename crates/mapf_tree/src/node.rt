@@ -9,17 +9,19 @@ use crate::current_paths::CurrentPaths;
 use crate::{Key, Side};
 use mapf_grid::NoMemory;
 use mapf_low::{Constraint, Constraints};
-use mapf_plan::{Conflict, Path, Plan, first_conflict_of_changed};
+use mapf_plan::{Conflict, Path, Plan, Rule, first_conflict_of_changed};
 use std::alloc::Global;
 use std::marker::Model;
 use std::sync::Arc;
 
-/// A node of the constraint tree: a name, constraints for each agent, and the plan of the agents' own paths.
+/// A node of the constraint tree: a name, constraints for each agent, the plan of the agents' own paths, and the rule by which
+/// plans of the tree have conflicts.
 ///
 /// It keeps the root's plan and what each turn of its name changed, and shares both with the nodes beside and above it.
 #[derive(Drop)]
 pub struct Node {
     pub(crate) key: Key,
+    rule: Rule,
     root: Arc<Plan>,
     changes: Vec<Arc<Change>>,
     conflict: Option<Conflict>,
@@ -32,9 +34,9 @@ impl Model for Node {
 
     ghost Value = { Node };
 
-    ghost view = { λ n. node_of n.key.name.items n.root.value (map arc_value n.changes.items) n.conflict };
+    ghost view = { λ n. node_of n.key.name.items n.root.value (map arc_value n.changes.items) n.rule n.conflict };
 
-    ghost invariant = { λ n. AgreesWith n.key.cost n.key.depth (node_of n.key.name.items n.root.value (map arc_value n.changes.items) n.conflict) };
+    ghost invariant = { λ n. AgreesWith n.key.cost n.key.depth (node_of n.key.name.items n.root.value (map arc_value n.changes.items) n.rule n.conflict) };
 }
 
 impl Node {
@@ -42,14 +44,15 @@ impl Node {
     ghost use Rattle.mapf_tree.specs.Nodes.{node_key, IsConflictOf};
 
     /// The node of no turn: no agent has a constraint, and this is the plan.
-    pub(crate) fn root(alloc: Global, plan: Plan) -> Result<Node, NoMemory>
+    pub(crate) fn root(alloc: Global, plan: Plan, rule: Rule) -> Result<Node, NoMemory>
         ensures name { IfOk result (λ n. n.name ≡ []) }
         ensures changes { IfOk result (λ n. n.changes ≡ []) }
         ensures constraints { IfOk result (λ n. n.constraints ≡ replicate (length plan) []) }
         ensures plan { IfOk result (λ n. n.plan ≡ plan) }
-        ensures conflict { IfOk result (λ n. IsConflictOf plan n.conflict) }
+        ensures rule { IfOk result (λ n. n.rule ≡ rule) }
+        ensures conflict { IfOk result (λ n. IsConflictOf rule plan n.conflict) }
     {
-        let conflict = plan.first_conflict();
+        let conflict = plan.first_conflict_by(rule);
         let key = Key {
             cost: plan.cost(),
             depth: 0,
@@ -57,6 +60,7 @@ impl Node {
         };
         Ok(Node {
             key,
+            rule,
             root: Arc::new(alloc, plan)?,
             changes: Vec::new(alloc),
             conflict,
@@ -77,7 +81,8 @@ impl Node {
         ensures changes { IfOk result (λ n. n.changes ≡ self.now.changes ++ change ∷ []) }
         ensures constraints { IfOk result (λ n. n.constraints ≡ slice_set self.now.constraints change.agent (change.constraint ∷ slice_index_or self.now.constraints change.agent [])) }
         ensures plan { IfOk result (λ n. n.plan ≡ slice_set self.now.plan change.agent change.path) }
-        ensures conflict { IfOk result (λ n. IsConflictOf (slice_set self.now.plan change.agent change.path) n.conflict) }
+        ensures rule { IfOk result (λ n. n.rule ≡ self.now.rule) }
+        ensures conflict { IfOk result (λ n. IsConflictOf self.now.rule (slice_set self.now.plan change.agent change.path) n.conflict) }
     {
         let conflict = self.first_conflict_with(alloc, change.agent, &change.path)?;
         let key = self.key_with(alloc, side, change.agent, &change.path)?;
@@ -85,6 +90,7 @@ impl Node {
         changes.push(Arc::new(alloc, change)?)?;
         Ok(Node {
             key,
+            rule: self.rule,
             root: Arc::try_clone(&self.root)?,
             changes,
             conflict,
@@ -115,7 +121,9 @@ impl Node {
         })
     }
 
-    /// The first conflict where an agent's path is another: the other agents have none before the time of this node's.
+    /// The first conflict where an agent's path is another: no two agents have one before the time of this node's as long as
+    /// that path is the old one, and the others have none before it at all.
+    #[tactic(auto, using(mapf_plan::proofs::Conflicts::none_before_change))]
     fn first_conflict_with<'a>(
         &'a self,
         alloc: Global,
@@ -124,12 +132,13 @@ impl Node {
     ) -> Result<Option<Conflict>, NoMemory>
         requires agent { agent < length self.now.plan }
         requires conflict { IsSome self.now.conflict }
-        ensures { IfOk result (IsConflictOf (slice_set self.now.plan agent path.now)) }
+        ensures { IfOk result (IsConflictOf self.now.rule (slice_set self.now.plan agent path.now)) }
     {
         let time = self.conflict.unwrap().time();
         let mut paths = self.paths(alloc)?;
+        let from = path.shared_steps(self.path(agent)).min(time);
         paths.set(agent, path);
-        Ok(first_conflict_of_changed(&paths, agent, time))
+        Ok(first_conflict_of_changed(&paths, self.rule, agent, from, time))
     }
 
     /// Where the node stands in the order of a search.
@@ -140,10 +149,10 @@ impl Node {
         &self.key
     }
 
-    /// The first conflict of the node's plan; none where the plan has no conflict.
+    /// The first conflict of the node's plan by the rule of its tree; none where the plan has no conflict.
     pub fn conflict(&self) -> Option<Conflict>
         ensures conflict { result ≡ self.now.conflict }
-        ensures first { IsConflictOf self.now.plan result }
+        ensures first { IsConflictOf self.now.rule self.now.plan result }
     {
         self.conflict
     }
@@ -213,6 +222,7 @@ impl Node {
         };
         Ok(Node {
             key,
+            rule: self.rule,
             root: Arc::try_clone(&self.root)?,
             changes: shared(alloc, &self.changes)?,
             conflict: self.conflict,

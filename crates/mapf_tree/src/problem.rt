@@ -2,20 +2,23 @@ ghost use Rattle.std.specs.Prelude.{◌≡◌, ◌<◌, ◌≤◌, IfOk, IfErr, 
 ghost use Rattle.mapf_low.specs.Walk.{AreDistances};
 ghost use Rattle.mapf_tree.specs.Problem.{HasDistances, IsLimit};
 ghost use Rattle.mapf_plan.specs.Plan.{most_bound, most_nodes};
+ghost use Rattle.mapf_plan.specs.declared.rule.Rule.TheVariants.{Classical, NoFollowing};
 
 use mapf_grid::{Instance, NoMemory};
 use mapf_low::Distances;
+use mapf_plan::Rule;
 use std::alloc::Global;
 use std::marker::Model;
 
-/// What a search solves: an instance, each goal's distances, a bound on the sum of costs, and a limit on how many nodes
-/// are taken, if there is one.
+/// What a search solves: an instance, each goal's distances, a bound on the sum of costs, a limit on how many nodes are
+/// taken, if there is one, and the rule by which plans have conflicts.
 #[derive(Drop)]
 pub struct Problem {
     instance: Instance,
     distances: Vec<Distances>,
     bound: u32,
     nodes: Option<u64>,
+    rule: Rule,
 }
 
 impl Model for Problem {
@@ -23,22 +26,22 @@ impl Model for Problem {
 
     ghost Value = { Problem };
 
-    ghost view = { λ p. record { inst = p.instance; bound = p.bound; nodes = p.nodes } };
+    ghost view = { λ p. record { inst = p.instance; bound = p.bound; nodes = p.nodes; rule = p.rule } };
 
-    ghost invariant = { λ p. IsReady (record { inst = p.instance; bound = p.bound; nodes = p.nodes }) p.distances.items };
+    ghost invariant = { λ p. IsReady (record { inst = p.instance; bound = p.bound; nodes = p.nodes; rule = p.rule }) p.distances.items };
 }
 
 impl Problem {
     ghost use Rattle.mapf_grid.specs.InstanceLaws.{IsSound};
 
-    /// The problem of this instance under this bound; the distances are made.
+    /// The problem of this instance under this bound, by the classical rule; the distances are made.
     pub fn new(
         alloc: Global,
         instance: Instance,
         bound: u32,
     ) -> Result<Problem, (Instance, NoMemory)>
         requires { bound ≤ most_bound }
-        ensures made { IfOk result (λ p. p ≡ record { inst = instance; bound = bound; nodes = None }) }
+        ensures made { IfOk result (λ p. p ≡ record { inst = instance; bound = bound; nodes = None; rule = Classical }) }
         ensures err { IfErr result (λ e. e.0 ≡ instance) }
     {
         match distances_to_goals(alloc, &instance) {
@@ -47,16 +50,17 @@ impl Problem {
                 distances,
                 bound,
                 nodes: None,
+                rule: Rule::Classical,
             }),
             Err(fault) => Err((instance, fault)),
         }
     }
 
-    /// The problem of this instance under this bound, with the distances to each agent's goal.
+    /// The problem of this instance under this bound, by the classical rule, with the distances to each agent's goal.
     pub fn with(instance: Instance, distances: Vec<Distances>, bound: u32) -> Problem
         requires bound { bound ≤ most_bound }
         requires distances { HasDistances instance distances.items }
-        ensures { result ≡ record { inst = instance; bound = bound; nodes = None } }
+        ensures { result ≡ record { inst = instance; bound = bound; nodes = None; rule = Classical } }
     {
         prove_eq!(distances.len(), instance.agents());
         Problem {
@@ -64,6 +68,7 @@ impl Problem {
             distances,
             bound,
             nodes: None,
+            rule: Rule::Classical,
         }
     }
 
@@ -72,19 +77,41 @@ impl Problem {
     pub fn with_nodes(self, nodes: u64) -> Problem
         requires some { 0 < nodes }
         requires few { nodes ≤ most_nodes }
-        ensures { result ≡ record { inst = self.inst; bound = self.bound; nodes = Some nodes } }
+        ensures { result ≡ record { inst = self.inst; bound = self.bound; nodes = Some nodes; rule = self.rule } }
     {
         let Problem {
             instance,
             distances,
             bound,
             nodes: _before,
+            rule,
         } = self;
         Problem {
             instance,
             distances,
             bound,
             nodes: Some(nodes),
+            rule,
+        }
+    }
+
+    /// The same problem, where besides no agent may enter a cell at the time step at which another leaves it.
+    pub fn forbid_following(self) -> Problem
+        ensures { result ≡ record { inst = self.inst; bound = self.bound; nodes = self.nodes; rule = NoFollowing } }
+    {
+        let Problem {
+            instance,
+            distances,
+            bound,
+            nodes,
+            rule: _before,
+        } = self;
+        Problem {
+            instance,
+            distances,
+            bound,
+            nodes,
+            rule: Rule::NoFollowing,
         }
     }
 
@@ -118,6 +145,13 @@ impl Problem {
         ensures limit { IsLimit self.now.nodes }
     {
         self.nodes
+    }
+
+    /// By which rule plans have conflicts.
+    pub fn rule(&self) -> Rule
+        ensures { result ≡ self.now.rule }
+    {
+        self.rule
     }
 }
 

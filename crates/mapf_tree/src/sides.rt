@@ -11,15 +11,24 @@ use mapf_plan::Conflict;
 pub(crate) fn agent_of(conflict: &Conflict, side: Side) -> usize
     ensures { result ≡ agent_on conflict.now side }
 {
-    let (Conflict::Vertex { first, second, .. } | Conflict::Swapping { first, second, .. }) =
-        *conflict;
+    let (first, second) = match *conflict {
+        Conflict::Vertex { first, second, .. } | Conflict::Swapping { first, second, .. } => {
+            (first, second)
+        }
+        Conflict::Following {
+            follower,
+            leader,
+            ..
+        } => (follower.min(leader), follower.max(leader)),
+    };
     match side {
         Side::Left => first,
         Side::Right => second,
     }
 }
 
-/// What this side forbids its agent: the cell at that time, or the step that the agent takes then.
+/// What this side forbids its agent: the cell at that time, or the step that the agent takes then. A follower may not be on
+/// the cell then, and its leader not one time step before.
 pub(crate) fn constraint_of(conflict: &Conflict, side: Side) -> Constraint
     ensures { result ≡ constraint_on conflict.now side }
 {
@@ -33,5 +42,19 @@ pub(crate) fn constraint_of(conflict: &Conflict, side: Side) -> Constraint
                 time,
             },
         },
+        Conflict::Following {
+            follower,
+            cell,
+            time,
+            ..
+        } => {
+            let follows = agent_of(conflict, side) == follower;
+            let time = if follows {
+                time
+            } else {
+                time.saturating_sub(1)
+            };
+            Constraint::Vertex { cell, time }
+        }
     }
 }

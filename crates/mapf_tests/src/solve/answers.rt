@@ -4,6 +4,7 @@ use crate::worked::{
     ACROSS, ALONG, AT_GOAL, BAY, CANNOT_PASS, CHANGE, CROSSING, RING, TWO_WAYS, WALLED, Worked,
 };
 use mapf_board::NoGate;
+use mapf_plan::Rule;
 use mapf_solve::{Ask, Refusal, answer};
 use std::alloc::Global;
 use std::thread::Threads;
@@ -21,6 +22,7 @@ pub(super) fn answered<R: Threads + Sync>(
         bound,
         workers,
         nodes: None,
+        rule: Rule::Classical,
     };
     answer(rt, alloc, worked.map, worked.scen, ask, &NoGate)
 }

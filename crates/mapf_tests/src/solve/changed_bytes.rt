@@ -3,7 +3,7 @@
 use mapf_board::NoGate;
 use mapf_check::{Verdict, check};
 use mapf_grid::instance_of;
-use mapf_plan::read_answer;
+use mapf_plan::{Rule, read_answer};
 use mapf_solve::{Ask, Refusal, answer};
 use std::alloc::Global;
 use std::ops::Range;
@@ -43,6 +43,7 @@ fn is_sound<R: Threads + Sync>(
         bound: 4,
         workers: 1,
         nodes: None,
+        rule: Rule::Classical,
     };
     match answer(rt, alloc, map, scen, ask, &NoGate) {
         Ok(text) => {

@@ -1,7 +1,7 @@
 //! Runs over readers and writers that fail.
 
 use crate::worked::ALONG;
-use mapf_plan::{Counted, DeviceFault, FileName};
+use mapf_plan::{Counted, DeviceFault, FileName, Rule};
 use mapf_solve::{Ask, RunFault, run};
 use std::alloc::Global;
 use std::io;
@@ -84,6 +84,7 @@ fn run_over<R: Threads + Sync, M: Read, S: Read>(
         bound,
         workers: 1,
         nodes: None,
+        rule: Rule::Classical,
     };
     run(
         rt,

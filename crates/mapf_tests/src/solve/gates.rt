@@ -5,7 +5,7 @@ ghost use Rattle.std.specs.Prelude.{◌<◌, ◌≤◌};
 use crate::worked::{CROSSING, Worked};
 use mapf_board::Gate;
 use mapf_grid::instance_of;
-use mapf_plan::Answer;
+use mapf_plan::{Answer, Rule};
 use mapf_solve::{Ask, answer, solve};
 use mapf_tree::Problem;
 use std::alloc::Global;
@@ -142,6 +142,7 @@ fn answered<R: Threads + Sync>(
         bound: 9,
         workers,
         nodes: None,
+        rule: Rule::Classical,
     };
     answer(rt, alloc, CROSSING.map, CROSSING.scen, ask, gate).ok()
 }

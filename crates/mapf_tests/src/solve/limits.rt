@@ -3,6 +3,7 @@
 use super::changed_bytes::valid_cost;
 use mapf_board::NoGate;
 use mapf_grid::InstanceFault;
+use mapf_plan::Rule;
 use mapf_solve::{Ask, Refusal, answer};
 use std::alloc::{AllocError, Global};
 use std::test::Fail;
@@ -40,6 +41,7 @@ fn answered_at_once<R: Threads + Sync>(
         bound: 0,
         workers: 1,
         nodes: None,
+        rule: Rule::Classical,
     };
     answer(rt, alloc, map.as_bytes(), scen.as_bytes(), ask, &NoGate)
 }

@@ -2,6 +2,7 @@
 
 use crate::worked::{ALONG, BAY, CHANGE, Worked};
 use mapf_board::NoGate;
+use mapf_plan::Rule;
 use mapf_solve::{Ask, Refusal, answer};
 use std::alloc::Global;
 use std::thread::Threads;
@@ -20,6 +21,7 @@ fn answered_up_to<R: Threads + Sync>(
         bound,
         workers,
         nodes: Some(nodes),
+        rule: Rule::Classical,
     };
     answer(rt, alloc, worked.map, worked.scen, ask, &NoGate)
 }

@@ -6,7 +6,7 @@ ghost use Rattle.mapf_tree.specs.Nodes.{StandsFor};
 
 use super::problem_of;
 use super::texts::{letters, push_change, push_conflict, push_paths};
-use crate::worked::{BAY, CHANGE};
+use crate::worked::{BAY, CHANGE, CROSSING, RING};
 use mapf_grid::NoMemory;
 use mapf_tree::{Node, Problem, Side, child, root};
 use std::alloc::Global;
@@ -153,5 +153,34 @@ fn changes_on_the_left(rt: HostRuntime) -> Result<(), Fail> {
     }
     assert_eq!(rt; text.as_str(), LEFT_CHANGES);
     assert!(rt; node.change(3).is_none());
+    Ok(())
+}
+
+/// Where no agent may follow another.
+const CROSSING_TREE: &str = " 4: 1 4 7; 3 4 5; agents 0 and 1 on 4 at 1
+L 5: 1 1 4 7; 3 4 5; agent 0 follows 1 on 4 at 2
+LL 6: 1 0 1 4 7; 3 4 5;
+LR 6: 1 1 4 7; 3 3 4 5; agents 0 and 1 on 4 at 2
+R 5: 1 4 7; 3 3 4 5; agent 1 follows 0 on 4 at 2
+RL 6: 1 1 4 7; 3 3 4 5; agents 0 and 1 on 4 at 2
+RR 6: 1 4 7; 3 0 1 2 5;
+";
+
+/// The right child would forbid agent 1 its start.
+const RING_TREE: &str = " 4: 0 1; 1 3; 3 2; 2 0; agent 0 follows 1 on 1 at 1
+L 5: 0 0 1; 1 3; 3 2; 2 0; agents 0 and 3 on 0 at 1
+";
+
+#[test]
+fn crossing_without_following(rt: HostRuntime) -> Result<(), Fail> {
+    let problem = problem_of(rt.alloc(), &CROSSING, 6)?.forbid_following();
+    assert_eq!(rt; tree(&rt, rt.alloc(), &problem)?.as_str(), CROSSING_TREE);
+    Ok(())
+}
+
+#[test]
+fn ring_without_following(rt: HostRuntime) -> Result<(), Fail> {
+    let problem = problem_of(rt.alloc(), &RING, 5)?.forbid_following();
+    assert_eq!(rt; tree(&rt, rt.alloc(), &problem)?.as_str(), RING_TREE);
     Ok(())
 }

@@ -80,6 +80,16 @@ pub(super) fn push_conflict(text: &mut String, conflict: Conflict) -> Result<(),
             from.number(),
             to.number()
         )?,
+        Conflict::Following {
+            follower,
+            leader,
+            cell,
+            time,
+        } => write!(
+            text,
+            " agent {follower} follows {leader} on {} at {time}",
+            cell.number()
+        )?,
     }
     Ok(())
 }

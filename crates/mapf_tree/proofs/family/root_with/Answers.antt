@@ -1,4 +1,4 @@
-use Rattle.std.proofs.Common.{[], ap, ◌∙◌, subst, length, replicate, arith}
+use Rattle.std.proofs.Common.{[], ap, ◌∙◌, subst₂, length, replicate, arith}
 use Rattle.mapf_plan.specs.Plan.{plan_cost}
 use Rattle.mapf_tree.specs.Nodes.{IsConflictOf}
 use Rattle.mapf_tree.proofs.RootNodes.{no_root, root_stands}
@@ -17,4 +17,5 @@ returns c =
     c.in_ok-root.ensures.changes
     (c.in_ok-root.ensures.constraints ∙ ap (λ n. replicate n []) (ap length c.of-plan.ensures ∙ c.requires.each))
     (c.in_ok-root.ensures.plan ∙ c.of-plan.ensures)
-    (subst (λ plan. IsConflictOf plan c.in_ok-root.field-0.conflict) c.of-plan.ensures c.in_ok-root.ensures.conflict)
+    (c.in_ok-root.ensures.rule ∙ c.rule.ensures)
+    (subst₂ (λ r plan. IsConflictOf r plan c.in_ok-root.field-0.conflict) c.rule.ensures c.of-plan.ensures c.in_ok-root.ensures.conflict)

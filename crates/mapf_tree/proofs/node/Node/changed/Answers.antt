@@ -2,7 +2,7 @@ use Rattle.std.proofs.Common.{◌≡◌, [], ◌∷◌, ◌++◌, map, set, subs
 use Rattle.std.proofs.lemmas.List.{map-append}
 use Rattle.std.specs.Arc.{arc_value}
 use Rattle.mapf_plan.specs.Plan.{plan_cost}
-use Rattle.mapf_tree.specs.Nodes.{Changed, IsConflictOf}
+use Rattle.mapf_tree.specs.Nodes.{Changed, Node, IsConflictOf}
 use Rattle.mapf_tree.proofs.Chains.{plan_turned, sets_turned, agrees_turned}
 use Rattle.mapf_tree.proofs.node.Node.changed.Goals as goal
 
@@ -14,14 +14,14 @@ longer c =
 
 pub invariant_of-result : goal.invariant_of-result
 invariant_of-result c =
-    agrees_turned _ _ _ _ c.args.self.now c.self.view_is c.in_ok-try_clone.field-0.value (map arc_value c.push.new.self.items) c.args.change c.in_ok-try_clone.ensures (longer c)
-    c.self.inside.key.cost c.self.inside.key.depth c.in_ok-key.key.cost c.in_ok-key.key.depth c.in_ok-key.key.name.items c.args.side c.in_ok-conflict.conflict c.self.invariant c.requires.agent
+    agrees_turned _ _ _ _ _ c.args.self.now c.self.view_is c.in_ok-try_clone.field-0.value (map arc_value c.push.new.self.items) c.args.change c.in_ok-try_clone.ensures (longer c)
+    c.self.inside.key.cost c.self.inside.key.depth c.in_ok-key.key.cost c.in_ok-key.key.depth c.in_ok-key.key.name.items c.args.side c.self.inside.rule c.in_ok-conflict.conflict c.self.invariant c.requires.agent (ap (λ (n : Node). n.rule) c.self.view_is)
     (c.in_ok-key.ensures.cost ∙ ap (λ path. plan_cost (set c.args.self.now.plan c.change.inside.agent path)) c.deref-2.ensures ∙ ap (λ (x : Changed). plan_cost (set c.args.self.now.plan x.agent x.path)) c.change.view_is) c.in_ok-key.ensures.depth c.in_ok-key.ensures.name
-    (subst (λ (x : Changed). IsConflictOf (set c.args.self.now.plan x.agent x.path) c.in_ok-conflict.conflict) c.change.view_is
-    (subst (λ path. IsConflictOf (set c.args.self.now.plan c.change.inside.agent path) c.in_ok-conflict.conflict) c.deref.ensures c.in_ok-conflict.ensures))
+    (subst (λ (x : Changed). IsConflictOf c.args.self.now.rule (set c.args.self.now.plan x.agent x.path) c.in_ok-conflict.conflict) c.change.view_is
+    (subst (λ path. IsConflictOf c.args.self.now.rule (set c.args.self.now.plan c.change.inside.agent path) c.in_ok-conflict.conflict) c.deref.ensures c.in_ok-conflict.ensures))
 
 pub returns-clause-constraints : goal.returns-clause-constraints
-returns-clause-constraints c = sets_turned _ _ _ _ c.args.self.now c.self.view_is c.in_ok-try_clone.field-0.value (map arc_value c.push.new.self.items) c.args.change c.in_ok-try_clone.ensures (longer c)
+returns-clause-constraints c = sets_turned _ _ _ _ _ c.args.self.now c.self.view_is c.in_ok-try_clone.field-0.value (map arc_value c.push.new.self.items) c.args.change c.in_ok-try_clone.ensures (longer c)
 
 pub returns-clause-plan : goal.returns-clause-plan
-returns-clause-plan c = plan_turned _ _ _ _ c.args.self.now c.self.view_is c.in_ok-try_clone.field-0.value (map arc_value c.push.new.self.items) c.args.change c.in_ok-try_clone.ensures (longer c)
+returns-clause-plan c = plan_turned _ _ _ _ _ c.args.self.now c.self.view_is c.in_ok-try_clone.field-0.value (map arc_value c.push.new.self.items) c.args.change c.in_ok-try_clone.ensures (longer c)

@@ -28,4 +28,4 @@ returns c =
     let found : IsFoundBy c.args.self (Some c.in-Some.path.value) = subst (λ p. IsFoundBy c.args.self (option_map arc_value p)) c.in-Some.is c.requires.path in
     subst (λ (q : SideQuery). IsChildOf q.problem c.args.node.now q.side (Some c.in_ok-changed.field-0)) c.self.view_is
     (is_child c.args.node.now c.in_ok-changed.field-0 _ c.in-Some.path.value (subst (IsQueryOf c.args.node.now) (sym c.self.view_is) c.requires.query)
-    (subst (λ q. IsFoundBy q (Some c.in-Some.path.value)) (sym c.self.view_is) found) e.name e.changes e.constraints e.plan e.conflict)
+    (subst (λ q. IsFoundBy q (Some c.in-Some.path.value)) (sym c.self.view_is) found) e.name e.changes e.constraints e.plan e.rule e.conflict)
