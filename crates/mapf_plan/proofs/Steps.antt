@@ -1,17 +1,19 @@
 -- Conflicts at one time step.
-use Rattle.std.proofs.Common.{◌≡◌, ℕ, ◌+◌, ◌-◌, ◌<◌, ◌≤◌, List, [], ◌∷◌, min, max, inl, inr, ◌⊎◌, MatchOption, subst, sym, ap, ap₂, ◌∙◌, ⊎_elim, arith}
+use Rattle.std.proofs.Common.{◌≡◌, ℕ, ◌+◌, ◌-◌, ◌<◌, ◌≤◌, List, [], ◌∷◌, length, min, max, inl, inr, ◌⊎◌, MatchOption, refl, subst, sym, ap, ap₂, ◌∙◌, ⊎_elim, arith}
 use Rattle.std.specs.Prelude.{Option, Some, None, ⊤}
 use Rattle.std.proofs.lemmas.Bool.{cases_lt}
 use Rattle.mapf_plan.specs.declared.conflict.Conflict.{Conflict}
 use Rattle.mapf_plan.specs.declared.conflict.Conflict.TheVariants.{Vertex, Swapping, Following}
 use Rattle.mapf_plan.specs.declared.rule.Rule.{Rule}
 use Rattle.mapf_plan.specs.declared.rule.Rule.TheVariants.{Classical, NoFollowing}
-use Rattle.mapf_plan.specs.Plan.{IsConflict, IsFirstConflict, conflict_rank, conflict_time, first_agent, second_agent, place}
+use Rattle.mapf_plan.specs.Path.{at, cost, AreApart}
+use Rattle.mapf_plan.specs.Plan.{IsConflict, IsFirstConflict, conflict_rank, conflict_time, first_agent, second_agent, path_of, place}
 use Rattle.mapf_plan.specs.FirstConflict.{IsConflictOfPair, IsConflictAt, IsEarlier}
 use Rattle.mapf_plan.specs.Marks.{beside}
 use Rattle.mapf_grid.specs.Least.{Precedes, NoneBefore, IsLeast}
 use Rattle.mapf_grid.proofs.Firsts.{before_place}
-use Rattle.mapf_plan.proofs.Conflicts.{by_time, before, not_before}
+use Rattle.mapf_plan.proofs.Paths.{at_past}
+use Rattle.mapf_plan.proofs.Conflicts.{by_time, before, not_before, none_of_pair}
 
 -- where none of a set is before a time, each of it is at that time or later
 pub not_earlier : (S : Conflict → Type 0) (t : ℕ) (c : Conflict) → NoneBefore conflict_rank S (t ∷ []) → S c → t ≤ conflict_time c
@@ -49,7 +51,7 @@ pub meets : (rule : Rule) (plan : List (List ℕ)) (M : ℕ → Type 0) (c : Con
 meets rule plan M (Vertex i j v t) is to other = inl (subst M (is.2 ∙ sym is.3) to)
 meets Classical plan M (Swapping i j u v t) is to other = inr (subst M sums other)
   where
-    sums : place plan i (t - 1) + place plan i t ≡ place plan j (t - 1) + place plan j t
+    sums : place plan i (t - 1) + place plan i t + 2048 ≡ place plan j (t - 1) + place plan j t + 2048
     sums = omega (arith, is.4, is.5, is.6, is.7)
 meets NoFollowing plan M (Swapping i j u v t) is to other = inr (subst M (is.5 ∙ sym is.6) to)
 meets Classical plan M (Following i j v t) is to other = absurd (never is.0)
@@ -119,6 +121,72 @@ pub none_on : (rule : Rule) (plan : List (List ℕ)) (i j t : ℕ) → NoneBefor
     → ((c : Conflict) → IsConflictOfPair rule plan i j c → ¬ (conflict_time c ≡ t)) → NoneBefore conflict_rank (IsConflictOfPair rule plan i j) ((t + 1) ∷ [])
 none_on rule plan i j t none here c is before =
     here c is (omega (arith, earlier_time (t + 1) c before, not_earlier (IsConflictOfPair rule plan i j) t c none is))
+
+-- nor before an earlier time
+pub none_sooner : (rule : Rule) (plan : List (List ℕ)) (i j s e : ℕ) → e ≤ s → NoneBefore conflict_rank (IsConflictOfPair rule plan i j) (s ∷ [])
+    → NoneBefore conflict_rank (IsConflictOfPair rule plan i j) (e ∷ [])
+none_sooner rule plan i j s e l none c is before =
+    none c is (subst (λ r. Precedes r (s ∷ [])) (sym (by_time c)) (inl (omega (arith, l, earlier_time e c before))))
+
+-- two agents that have no conflict before a time aren't on one cell before it
+pub not_together : (rule : Rule) (plan : List (List ℕ)) (i j s t : ℕ) → i < j → j < length plan → NoneBefore conflict_rank (IsConflictOfPair rule plan i j) (s ∷ [])
+    → t < s → ¬ (place plan i t ≡ place plan j t)
+not_together rule plan i j s t l m none h e = none (Vertex i j (place plan i t) t) ((l, m, refl, sym e), refl, refl) (inl h)
+
+-- where one of two agents has ended its path, they are apart as long as they aren't on one cell
+pub apart_at_rest : (p q : List ℕ) (t : ℕ) → min (cost p) (cost q) < t → ¬ (at p (t - 1) ≡ at q (t - 1)) → ¬ (at p t ≡ at q t) → AreApart p q t
+apart_at_rest p q t rests was is =
+    ⊎_elim
+    (λ l.
+    let stays : at p (t - 1) ≡ at p t = at_past p (t - 1) (omega (arith, l)) ∙ sym (at_past p t (omega (arith, l))) in
+    record { same = is; one = λ e. was (stays ∙ e); other = λ e. is (sym stays ∙ sym e) })
+    (λ l.
+    let stays : at q (t - 1) ≡ at q t = at_past q (t - 1) (omega (arith, l, rests)) ∙ sym (at_past q t (omega (arith, l, rests))) in
+    record { same = is; one = λ e. is (e ∙ stays); other = λ e. was (sym e ∙ sym stays) })
+    (cases_lt (cost p) t)
+
+module _ (rule : Rule) (plan : List (List ℕ)) (i j : ℕ) (p q : List ℕ) where
+  -- two agents that have no conflict before a time, and are apart at each time from then to a later one, have none before that
+  pub none_while_apart : (s e : ℕ) → p ≡ path_of plan i → q ≡ path_of plan j → i < j → NoneBefore conflict_rank (IsConflictOfPair rule plan i j) (s ∷ [])
+      → ((t : ℕ) → s ≤ t → t < e → AreApart p q t) → NoneBefore conflict_rank (IsConflictOfPair rule plan i j) (e ∷ [])
+  none_while_apart s e of_i of_j l none apart c is before =
+      let t = conflict_time c in
+      let here = apart t (not_earlier (IsConflictOfPair rule plan i j) s c none is) (earlier_time e c before) in
+      let one : (u : ℕ) → at p u ≡ place plan i u = λ u. ap (λ p. at p u) of_i in
+      let other : (u : ℕ) → at q u ≡ place plan j u = λ u. ap (λ q. at q u) of_j in
+      none_apart rule plan i j t l (λ h. here.same (one t ∙ h ∙ sym (other t))) (λ h. here.one (one t ∙ h ∙ sym (other (t - 1)))) (λ h. here.other (other t ∙ h ∙ sym (one (t - 1)))) c is refl
+
+  -- and those that aren't on one cell in that time, in which one of them has ended its path
+  pub none_at_rest : (s e : ℕ) → p ≡ path_of plan i → q ≡ path_of plan j → i < j → j < length plan → (s < e → min (cost (path_of plan i)) (cost (path_of plan j)) < s)
+      → NoneBefore conflict_rank (IsConflictOfPair rule plan i j) (s ∷ []) → ((t : ℕ) → s ≤ t → t < e → ¬ (at p t ≡ at q t)) → NoneBefore conflict_rank (IsConflictOfPair rule plan i j) (e ∷ [])
+  none_at_rest s e of_i of_j l m rests none apart =
+      none_while_apart s e of_i of_j l none (λ t low high. apart_at_rest p q t (later t low high) (was t low high) (apart t low high))
+    where
+      later : (t : ℕ) → s ≤ t → t < e → min (cost p) (cost q) < t
+      later t low high = omega (arith, rests (omega (arith, low, high)), low, ap cost of_i, ap cost of_j)
+
+      was : (t : ℕ) → s ≤ t → t < e → ¬ (at p (t - 1) ≡ at q (t - 1))
+      was t low high =
+          ⊎_elim
+          (λ h same. not_together rule plan i j s (t - 1) l m none h (sym (ap (λ p. at p (t - 1)) of_i) ∙ same ∙ ap (λ q. at q (t - 1)) of_j))
+          (λ h. apart (t - 1) h (omega (arith, high))) (cases_lt (t - 1) s)
+
+  -- where they are on one cell, what is found at that time is their first conflict, wherever the end is
+  pub first_of_together : (t e : ℕ) (found : Option Conflict) → p ≡ path_of plan i → q ≡ path_of plan j → i < j → j < length plan → at p t ≡ at q t
+      → MatchOption found (NoneBefore conflict_rank (IsConflictOfPair rule plan i j) ((t + 1) ∷ [])) (λ c. IsLeast conflict_rank (IsConflictOfPair rule plan i j) c)
+      → MatchOption found (NoneBefore conflict_rank (IsConflictOfPair rule plan i j) (e ∷ [])) (λ c. IsLeast conflict_rank (IsConflictOfPair rule plan i j) c)
+  first_of_together t e None of_i of_j l m same h =
+      absurd (not_together rule plan i j (t + 1) t l m h (omega arith) (sym (ap (λ p. at p t) of_i) ∙ same ∙ ap (λ q. at q t) of_j))
+  first_of_together t e (Some c) of_i of_j l m same h = h
+
+-- two agents that have no conflict before both rest have none at any time, so what was found by then is found by any end
+pub found_by_rest : (rule : Rule) (plan : List (List ℕ)) (i j b s e : ℕ) (found : Option Conflict) → cost (path_of plan i) ≤ b → cost (path_of plan j) ≤ b → s ≡ min e (b + 1)
+    → MatchOption found (NoneBefore conflict_rank (IsConflictOfPair rule plan i j) (s ∷ [])) (λ c. IsLeast conflict_rank (IsConflictOfPair rule plan i j) c)
+    → MatchOption found (NoneBefore conflict_rank (IsConflictOfPair rule plan i j) (e ∷ [])) (λ c. IsLeast conflict_rank (IsConflictOfPair rule plan i j) c)
+found_by_rest rule plan i j b s e None hi hj at none =
+    ⊎_elim (λ l c is before. none_of_pair rule plan i j b hi hj (none_sooner rule plan i j s (b + 1) (omega (arith, at, l)) none) c is)
+    (λ l. none_sooner rule plan i j s e (omega (arith, at, l)) none) (cases_lt b e)
+found_by_rest rule plan i j b s e (Some c) hi hj at h = h
 
 -- the least of the conflicts at a time before which there is none is the first
 pub first_of_time : (rule : Rule) (plan : List (List ℕ)) (t : ℕ) (known : Option Conflict) → NoneBefore conflict_rank (IsConflict rule plan) (t ∷ [])

@@ -7,7 +7,8 @@ use Rattle.mapf_plan.specs.declared.rule.Rule.TheVariants.{Classical, NoFollowin
 abbrev pub IsMarked : List ℕ → ℕ → ℕ → Type 0
 IsMarked rounds round number = slice_index_or rounds (number % 4096) 0 ≡ round
 
--- what a step leaves beside its new cell: two agents that swap have the same sum of cells, and a follower is where its leader was
+-- what a step leaves beside its new cell: two agents that swap have the same sum of cells, which is kept apart from cells by
+-- 2048, and a follower is where its leader was
 abbrev pub beside : Rule → ℕ → ℕ → ℕ
-beside Classical from to = from + to
+beside Classical from to = from + to + 2048
 beside NoFollowing from to = from

@@ -11,6 +11,10 @@ use std::marker::Model;
 /// How many places there are for marks. Numbers that differ by a multiple of it share a place.
 const PLACES: usize = 4096;
 
+/// What is added to a sum of two cells, so that it is marked apart from cells: on a map of at most 1,024 cells no sum then
+/// shares a place with a cell, and on one of less than 2,048 fewer do, so fewer agents are compared in vain.
+const SWAPS: u64 = 2048;
+
 /// Numbers that were marked in a round; the marks of an earlier round don't count. A number that wasn't marked may look as
 /// if it was, but not the other way round.
 #[derive(Drop)]
@@ -44,7 +48,7 @@ impl Marks {
         let to_number = u64::from(to.number());
         let from_number = u64::from(from.number());
         let other = match rule {
-            Rule::Classical => from_number + to_number,
+            Rule::Classical => from_number + to_number + SWAPS,
             Rule::NoFollowing => from_number,
         };
         let met = self.is_marked(round, to_number) || self.is_marked(round, other);

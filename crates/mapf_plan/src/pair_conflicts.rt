@@ -1,18 +1,150 @@
 //! Conflicts of two agents.
 
-ghost use Rattle.std.specs.Prelude.{◌≡◌, ◌≢◌, ◌⊎◌, ◌+◌, ◌<◌, ◌≤◌, [], ◌∷◌, length, MatchOption, IsFalse, ⊤};
+ghost use Rattle.std.specs.Prelude.{◌≡◌, ◌≢◌, ◌⊎◌, ℕ, ◌+◌, ◌<◌, ◌≤◌, min, max, [], ◌∷◌, length, MatchOption, IsFalse, ⊤};
 ghost use Rattle.mapf_grid.specs.Least.{IsLeast, NoneBefore, Precedes};
 ghost use Rattle.mapf_plan.specs.declared.conflict.Conflict.{Conflict};
 ghost use Rattle.mapf_plan.specs.declared.rule.Rule.{Rule};
-ghost use Rattle.mapf_plan.specs.Plan.{conflict_rank, conflict_time};
+ghost use Rattle.mapf_plan.specs.Path.{at, cost, AreApart, IsFirstTime};
+ghost use Rattle.mapf_plan.specs.Plan.{conflict_rank, conflict_time, path_of};
 ghost use Rattle.mapf_plan.specs.FirstConflict.{IsConflictOfPair, IsEarlier};
 
-use crate::{AgentPaths, Conflict, Rule};
+use crate::path::BLOCK;
+use crate::{AgentPaths, Conflict, Path, Rule};
 use mapf_grid::Cell;
+
+/// Fewer time steps than these are looked at one after another.
+const FEW: u32 = 16;
 
 /// The first conflict of these two agents, if there is one before the end; they have none before the first of these time
 /// steps.
 pub(crate) fn first_of_pair<P: AgentPaths>(
+    plan: &P,
+    rule: Rule,
+    first: usize,
+    second: usize,
+    from: u32,
+    end: u32,
+) -> Option<Conflict>
+    requires agents { first < second }
+    requires plan { second < length (P.paths plan.now) }
+    requires before { NoneBefore conflict_rank (IsConflictOfPair rule (P.paths plan.now) first second) (from ∷ []) }
+    ensures time { MatchOption result ⊤ (λ c. conflict_time c < end) }
+    ensures conflict { MatchOption result (NoneBefore conflict_rank (IsConflictOfPair rule (P.paths plan.now) first second) (end ∷ []))
+        (λ c. IsLeast conflict_rank (IsConflictOfPair rule (P.paths plan.now) first second) c) }
+{
+    if end.saturating_sub(from) < FEW {
+        first_step_by_step(plan, rule, first, second, from, end)
+    } else {
+        first_by_blocks(plan, rule, first, second, from, end)
+    }
+}
+
+/// The same, with many time steps looked at together.
+#[inline(never)]
+fn first_by_blocks<P: AgentPaths>(
+    plan: &P,
+    rule: Rule,
+    first: usize,
+    second: usize,
+    from: u32,
+    end: u32,
+) -> Option<Conflict>
+    requires agents { first < second }
+    requires plan { second < length (P.paths plan.now) }
+    requires before { NoneBefore conflict_rank (IsConflictOfPair rule (P.paths plan.now) first second) (from ∷ []) }
+    ensures time { MatchOption result ⊤ (λ c. conflict_time c < end) }
+    ensures conflict { MatchOption result (NoneBefore conflict_rank (IsConflictOfPair rule (P.paths plan.now) first second) (end ∷ []))
+        (λ c. IsLeast conflict_rank (IsConflictOfPair rule (P.paths plan.now) first second) c) }
+{
+    let (one, other) = (plan.path(first).cost(), plan.path(second).cost());
+    let one_rests = end.min(one.min(other) + 1);
+    let both_rest = end.min(one.max(other) + 1);
+    match first_while_both_move(plan, rule, first, second, from, one_rests) {
+        Some(found) => Some(found),
+        None => first_while_one_rests(plan, rule, first, second, from.max(one_rests), both_rest),
+    }
+}
+
+/// The same, block by block, where both paths go on to the end of these time steps.
+fn first_while_both_move<P: AgentPaths>(
+    plan: &P,
+    rule: Rule,
+    first: usize,
+    second: usize,
+    from: u32,
+    end: u32,
+) -> Option<Conflict>
+    requires agents { first < second }
+    requires plan { second < length (P.paths plan.now) }
+    requires before { NoneBefore conflict_rank (IsConflictOfPair rule (P.paths plan.now) first second) (from ∷ []) }
+    requires within { end ≤ min (cost (path_of (P.paths plan.now) first)) (cost (path_of (P.paths plan.now) second)) + 1 }
+    ensures time { MatchOption result ⊤ (λ c. conflict_time c < end) }
+    ensures conflict { MatchOption result (NoneBefore conflict_rank (IsConflictOfPair rule (P.paths plan.now) first second) (end ∷ []))
+        (λ c. IsLeast conflict_rank (IsConflictOfPair rule (P.paths plan.now) first second) c) }
+{
+    let mut start = from;
+    while start < end {
+        let next = start + BLOCK.min(end - start);
+        if let Some(found) = first_of_block(plan, rule, first, second, start, next) {
+            return Some(found);
+        }
+        start = next;
+    }
+    None
+}
+
+/// The same for one block, which is looked at step by step only where they meet in it.
+fn first_of_block<P: AgentPaths>(
+    plan: &P,
+    rule: Rule,
+    first: usize,
+    second: usize,
+    from: u32,
+    end: u32,
+) -> Option<Conflict>
+    requires agents { first < second }
+    requires plan { second < length (P.paths plan.now) }
+    requires before { NoneBefore conflict_rank (IsConflictOfPair rule (P.paths plan.now) first second) (from ∷ []) }
+    requires block { from < end }
+    requires within { end ≤ min (cost (path_of (P.paths plan.now) first)) (cost (path_of (P.paths plan.now) second)) + 1 }
+    ensures time { MatchOption result ⊤ (λ c. conflict_time c < end) }
+    ensures conflict { MatchOption result (NoneBefore conflict_rank (IsConflictOfPair rule (P.paths plan.now) first second) (end ∷ []))
+        (λ c. IsLeast conflict_rank (IsConflictOfPair rule (P.paths plan.now) first second) c) }
+{
+    if meet_within(
+        plan.path(first),
+        plan.path(second),
+        from as usize,
+        end as usize,
+    ) {
+        return first_step_by_step(plan, rule, first, second, from, end);
+    }
+    None
+}
+
+/// Whether at one of these time steps one of two agents is where the other is or was one time step before.
+fn meet_within(one: &Path, other: &Path, from: usize, end: usize) -> bool
+    requires block { from < end }
+    requires within { end ≤ min (cost one.now) (cost other.now) + 1 }
+    ensures { IsFalse result → (t : ℕ) → from ≤ t → t < end → AreApart one.now other.now t }
+{
+    let (one_cells, other_cells) = (one.cells(), other.cells());
+    let mut met = one_cells[from] == other_cells[from];
+    for time in from.max(1)..end {
+        let before = time - 1;
+        met |= meet(
+            one_cells[before],
+            one_cells[time],
+            other_cells[before],
+            other_cells[time],
+        );
+    }
+    met
+}
+
+/// The same, one time step after another.
+#[inline]
+fn first_step_by_step<P: AgentPaths>(
     plan: &P,
     rule: Rule,
     first: usize,
@@ -51,6 +183,43 @@ fn meet(one_was: Cell, one_is: Cell, other_was: Cell, other_is: Cell) -> bool
     ensures other { IsFalse result → other_is ≢ one_was }
 {
     one_is == other_is || one_is == other_was || other_is == one_was
+}
+
+/// The same, where one of them has ended its path before these time steps, and the other goes on to their end: their first
+/// conflict is where they are on one cell.
+fn first_while_one_rests<P: AgentPaths>(
+    plan: &P,
+    rule: Rule,
+    first: usize,
+    second: usize,
+    from: u32,
+    end: u32,
+) -> Option<Conflict>
+    requires agents { first < second }
+    requires plan { second < length (P.paths plan.now) }
+    requires before { NoneBefore conflict_rank (IsConflictOfPair rule (P.paths plan.now) first second) (from ∷ []) }
+    requires rests { from < end → min (cost (path_of (P.paths plan.now) first)) (cost (path_of (P.paths plan.now) second)) < from }
+    requires within { end ≤ max (cost (path_of (P.paths plan.now) first)) (cost (path_of (P.paths plan.now) second)) + 1 }
+    ensures time { MatchOption result ⊤ (λ c. conflict_time c < end) }
+    ensures conflict { MatchOption result (NoneBefore conflict_rank (IsConflictOfPair rule (P.paths plan.now) first second) (end ∷ []))
+        (λ c. IsLeast conflict_rank (IsConflictOfPair rule (P.paths plan.now) first second) c) }
+{
+    let time = first_together(plan.path(first), plan.path(second), from, end)?;
+    pair_at(plan, rule, first, second, time)
+}
+
+/// The first of these time steps at which two agents are on one cell, where one of them has ended its path before them: the
+/// cell on which it rests is looked for on the other's path.
+fn first_together(one: &Path, other: &Path, from: u32, end: u32) -> Option<u32>
+    requires rests { from < end → min (cost one.now) (cost other.now) < from }
+    requires within { end ≤ max (cost one.now) (cost other.now) + 1 }
+    ensures { IsFirstTime (λ t. at one.now t ≡ at other.now t) from end result }
+{
+    if one.cost() < other.cost() {
+        other.first_time_on(one.at(from), from, end)
+    } else {
+        one.first_time_on(other.at(from), from, end)
+    }
 }
 
 /// The conflict of these two agents at a time step, where they have none before it.

@@ -1,11 +1,14 @@
-ghost use Rattle.std.specs.Prelude.{◌≡◌, ℕ, ◌<◌, ◌≤◌, length};
-ghost use Rattle.mapf_plan.specs.Path.{at, cost, most_cells};
+ghost use Rattle.std.specs.Prelude.{◌≡◌, ◌≢◌, ℕ, ◌+◌, ◌<◌, ◌≤◌, length, slice_index, IsFalse};
+ghost use Rattle.mapf_plan.specs.Path.{at, cost, most_cells, IsFirstTime};
 ghost use Rattle.mapf_plan.specs.Plan.{most_bound};
 
 mod copy;
 
 use mapf_grid::Cell;
 use std::marker::Model;
+
+/// How many time steps are looked at together, without an early end among them: a processor can do so with several at once.
+pub(crate) const BLOCK: u32 = 64;
 
 /// One agent's cells at the time steps 0, 1, 2 and so on: at least one, at most 1,000,001.
 #[derive(Debug, Drop)]
@@ -75,4 +78,45 @@ impl Path {
         }
         steps
     }
+
+    /// The first of these time steps at which the agent is on a cell, if it is on it at one of them.
+    pub(crate) fn first_time_on(&self, cell: Cell, from: u32, end: u32) -> Option<u32>
+        requires { end ≤ cost self.now + 1 }
+        ensures { IsFirstTime (λ t. at self.now t ≡ cell) from end result }
+    {
+        for time in self.first_block_with(cell, from, end)..end {
+            if self.at(time) == cell {
+                return Some(time);
+            }
+        }
+        None
+    }
+
+    /// Where the first block of these time steps begins in which the agent is on a cell; their end, if it is in none.
+    fn first_block_with(&self, cell: Cell, from: u32, end: u32) -> u32
+        requires { end ≤ cost self.now + 1 }
+        ensures from { from ≤ result }
+        ensures none { (t : ℕ) → from ≤ t → t < result → at self.now t ≢ cell }
+    {
+        let mut start = from;
+        while start < end {
+            let next = start + BLOCK.min(end - start);
+            if is_among(cell, &self.cells[start as usize..next as usize]) {
+                return start;
+            }
+            start = next;
+        }
+        start
+    }
+}
+
+/// Whether a cell is one of these.
+fn is_among(cell: Cell, cells: &[Cell]) -> bool
+    ensures { IsFalse result → (k : ℕ) → k < length cells.now → slice_index cells.now k ≢ cell }
+{
+    let mut found = false;
+    for other in cells {
+        found |= *other == cell;
+    }
+    found
 }

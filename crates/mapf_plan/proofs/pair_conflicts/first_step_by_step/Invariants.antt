@@ -2,7 +2,7 @@ use Rattle.std.proofs.Common.{◌≡◌, ◌-◌, [], ◌∷◌}
 use Rattle.mapf_grid.specs.Least.{NoneBefore}
 use Rattle.mapf_plan.specs.Plan.{conflict_rank, place}
 use Rattle.mapf_plan.specs.FirstConflict.{IsConflictOfPair}
-use Rattle.mapf_plan.proofs.pair_conflicts.first_of_pair.Given as goal
+use Rattle.mapf_plan.proofs.pair_conflicts.first_step_by_step.Given as goal
 
 abbrev pub invariant-loop-time : goal.invariant-loop-time
 invariant-loop-time g l =

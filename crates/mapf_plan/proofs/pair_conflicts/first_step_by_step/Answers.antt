@@ -4,8 +4,8 @@ use Rattle.mapf_plan.specs.Path.{at}
 use Rattle.mapf_plan.specs.Plan.{place, conflict_rank}
 use Rattle.mapf_plan.specs.FirstConflict.{IsConflictOfPair}
 use Rattle.mapf_plan.proofs.Steps.{none_apart, none_on}
-use Rattle.mapf_plan.proofs.pair_conflicts.first_of_pair.Goals.{then-meet+in_default, else-meet}
-use Rattle.mapf_plan.proofs.pair_conflicts.first_of_pair.Goals as goal
+use Rattle.mapf_plan.proofs.pair_conflicts.first_step_by_step.Goals.{then-meet+in_default, else-meet}
+use Rattle.mapf_plan.proofs.pair_conflicts.first_step_by_step.Goals as goal
 
 pub loop-time-preserved : goal.loop-time-preserved
 loop-time-preserved g c =
