@@ -1,34 +1,30 @@
 -- A child that was worked ahead is the child of the node that has the same name.
-use Rattle.std.proofs.Common.{◌≡◌, Bool, true, false, ◌&&◌, List, [], ◌∷◌, ℕ, Option, Some, None, IsSome, refl, ap, sym, ◌∙◌, subst}
-use lib.Pointwise.{pointwise}
+use Rattle.std.proofs.Common.{◌≡◌, true, ℕ, List, map, Ordering, Less, Equal, Greater, nat_cmp, Option, Some, None, IsSome, refl, ap, sym, ◌∙◌, subst}
+use Rattle.std.specs.Ordering.{is_eq, eq_by_cmp, on}
+use Rattle.std.specs.Cmp.Lexicographic.{slice_cmp}
+use Rattle.std.proofs.lemmas.Map.Lookups.{exact_bytes}
 use Rattle.mapf_plan.specs.declared.conflict.Conflict.{Conflict}
 use Rattle.mapf_plan.specs.declared.rule.Rule.{Rule}
 use Rattle.mapf_plan.specs.Plan.{IsFirstConflict}
 use Rattle.mapf_plan.proofs.Conflicts.{same_first}
 use Rattle.mapf_tree.specs.declared.side.Side.{Side}
-use Rattle.mapf_tree.specs.declared.side.Side.TheVariants.{Left, Right}
+use Rattle.mapf_tree.specs.Names.{turn}
 use Rattle.mapf_tree.specs.Problem.{Problem}
 use Rattle.mapf_tree.specs.Tree.{HasPlan, PlannedNode}
 use Rattle.mapf_tree.specs.Nodes.{Node, StandsFor, IsConflictOf}
 use Rattle.mapf_tree.proofs.Plans.{same_plan}
-use Rattle.mapf_tree.proofs.Unique.{same_node}
+use Rattle.mapf_tree.proofs.Unique.{same_node, same_turns}
 use Rattle.mapf_tree.specs.Family.{IsBranching, IsChildOf}
 use Rattle.mapf_solve.specs.Rounds.{WantedChild, FitsSide}
 
--- the second of two facts
-second : (a b : Bool) → (a && b) ≡ true → b ≡ true
-second true b h = h
-second false b h = cc
+is_equal : (o : Ordering) → is_eq o ≡ true → o ≡ Equal
+is_equal Less h = cc
+is_equal Equal h = refl
+is_equal Greater h = cc
 
--- two names that agree turn by turn are one
-pub same_names : (E : Side → Side → Bool) (xs ys : List Side) → E Left Right ≡ false → E Right Left ≡ false → pointwise E xs ys ≡ true → xs ≡ ys
-same_names E [] [] lr rl h = refl
-same_names E [] (y ∷ ys) lr rl h = cc
-same_names E (x ∷ xs) [] lr rl h = cc
-same_names E (Left ∷ xs) (Left ∷ ys) lr rl h = ap (λ l. Left ∷ l) (same_names E xs ys lr rl (second (E Left Left) (pointwise E xs ys) h))
-same_names E (Left ∷ xs) (Right ∷ ys) lr rl h = cc
-same_names E (Right ∷ xs) (Left ∷ ys) lr rl h = cc
-same_names E (Right ∷ xs) (Right ∷ ys) lr rl h = ap (λ l. Right ∷ l) (same_names E xs ys lr rl (second (E Right Right) (pointwise E xs ys) h))
+-- two names that are compared alike are one
+pub one_name : (m n : List Side) → eq_by_cmp (on (map turn) (slice_cmp nat_cmp)) m n ≡ true → m ≡ n
+one_name m n h = same_turns m n (exact_bytes (map turn m) (map turn n) (is_equal (slice_cmp nat_cmp (map turn m) (map turn n)) h))
 
 -- two nodes of the tree with one name stand for one
 same_planned : (p : Problem) (a b : Node) (m n : PlannedNode) → StandsFor p a m → StandsFor p b n → a.name ≡ b.name → m ≡ n

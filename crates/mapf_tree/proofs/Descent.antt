@@ -14,7 +14,8 @@ use Rattle.mapf_low.proofs.OwnPaths.{own_path_costs}
 use Rattle.mapf_tree.specs.Problem.{Problem}
 use Rattle.mapf_tree.specs.declared.side.Side.{Side}
 use Rattle.mapf_tree.specs.declared.side.Side.TheVariants.{Left, Right}
-use Rattle.mapf_tree.specs.Tree.{TreeNode, HasPlan, InTree, root, side, side_of, root_of, turn, IsSolution, PlannedNode}
+use Rattle.mapf_tree.specs.Names.{turn}
+use Rattle.mapf_tree.specs.Tree.{TreeNode, HasPlan, InTree, root, side, side_of, root_of, IsSolution, PlannedNode}
 use Rattle.mapf_tree.specs.Laws.{ObeyedIsInCost, ObeysNode, DepthIsBounded, AnswerIsOptimum, NoneIsNone}
 use Rattle.mapf_tree.proofs.Branch.{obeys_one_side}
 use Rattle.mapf_tree.proofs.Measure.{grown_all, most, depth_le, depth_most}

@@ -15,6 +15,8 @@ pub mod SearchLaws
 pub mod TakenNodes
 pub mod Limits
 pub mod Keyed
+pub mod NameTurns
+pub mod NameOrder
 pub mod Examples
 pub mod Tables
 pub mod RootNodes

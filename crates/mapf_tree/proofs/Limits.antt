@@ -10,7 +10,8 @@ use Rattle.mapf_plan.specs.declared.answer.Answer.{Answer}
 use Rattle.mapf_plan.specs.declared.answer.Answer.TheVariants as answer
 use Rattle.mapf_plan.proofs.Conflicts.{first_conflict}
 use Rattle.mapf_tree.specs.Problem.{Problem}
-use Rattle.mapf_tree.specs.Tree.{PlannedNode, IsMember, IsSolution, key, turn}
+use Rattle.mapf_tree.specs.Names.{turn}
+use Rattle.mapf_tree.specs.Tree.{PlannedNode, IsMember, IsSolution, key}
 use Rattle.mapf_tree.specs.Cut.{IsAtPlace, IsInCut, IsCutAt}
 use Rattle.mapf_tree.specs.Answered.{stated, IsStated, IsAnswerUpTo, IsAnswerOf}
 use Rattle.mapf_tree.specs.Search.{IsReached, IsWaiting, TakesBetween}

@@ -10,7 +10,8 @@ use Rattle.mapf_plan.proofs.Conflicts.{same_first}
 use Rattle.mapf_tree.specs.declared.side.Side.{Side}
 use Rattle.mapf_tree.specs.declared.side.Side.TheVariants.{Left, Right}
 use Rattle.mapf_tree.specs.Problem.{Problem}
-use Rattle.mapf_tree.specs.Tree.{TreeNode, HasPlan, root_of, side_of, turn, key, PlannedNode, IsMember}
+use Rattle.mapf_tree.specs.Names.{turn}
+use Rattle.mapf_tree.specs.Tree.{TreeNode, HasPlan, root_of, side_of, key, PlannedNode, IsMember}
 use Rattle.mapf_tree.specs.Search.{IsChild}
 use Rattle.mapf_tree.specs.Nodes.{Node, node_key, StandsFor, IsConflictOf, AllStand, HasNodeFor}
 use Rattle.mapf_tree.specs.Family.{IsRoot, IsSide}

@@ -7,7 +7,8 @@ use Rattle.mapf_plan.proofs.Conflicts.{same_first}
 use Rattle.mapf_tree.specs.Problem.{Problem}
 use Rattle.mapf_tree.specs.declared.side.Side.{Side}
 use Rattle.mapf_tree.specs.declared.side.Side.TheVariants.{Left, Right}
-use Rattle.mapf_tree.specs.Tree.{TreeNode, HasPlan, InTree, root, side, side_of, turn, key, IsSolution, PlannedNode, IsMember}
+use Rattle.mapf_tree.specs.Names.{turn}
+use Rattle.mapf_tree.specs.Tree.{TreeNode, HasPlan, InTree, root, side, side_of, key, IsSolution, PlannedNode, IsMember}
 use Rattle.mapf_tree.specs.Laws.{AnswerIsUnique}
 use Rattle.mapf_tree.proofs.Plans.{same_plan}
 
@@ -24,7 +25,7 @@ same_node problem _ _ (side {node = p} {plan = a} {c = c} s i h f _) (side {node
     ap₂ (λ r x. side_of r x s) ep ec ∙ ap (λ x. side_of q d x) names.1
 
 -- turns by their numbers
-same_turns : (m n : List Side) → map turn m ≡ map turn n → m ≡ n
+pub same_turns : (m n : List Side) → map turn m ≡ map turn n → m ≡ n
 same_turns [] [] e = refl
 same_turns [] (y ∷ n) e = cc
 same_turns (x ∷ m) [] e = cc

@@ -1,4 +1,5 @@
 pub mod Problem
+pub mod Names
 pub mod Tree
 pub mod Cut
 pub mod Answered

@@ -10,6 +10,7 @@ use Rattle.mapf_low.specs.Constraints.{IsAllowed}
 use Rattle.mapf_low.specs.OwnPath.{IsOwnPath}
 use Rattle.mapf_tree.specs.declared.side.Side.{Side}
 use Rattle.mapf_tree.specs.declared.side.Side.TheVariants.{Left, Right}
+use Rattle.mapf_tree.specs.Names.{turn}
 use Rattle.mapf_tree.specs.declared.key.Key.{Key}
 use Rattle.mapf_tree.specs.Problem.{Problem}
 
@@ -88,10 +89,6 @@ pub record IsSolution (problem : Problem) (m : PlannedNode) : Type 0 where
   pub planned : IsMember problem m
   pub no_conflict : HasNoConflict problem.rule m.1
 
-abbrev pub turn : Side → ℕ
-turn Left = 0
-turn Right = 1
-
 -- nodes are taken by cost, then by depth, then by name with left before right: best first, and this project's order of
 -- equal costs
 abbrev pub rank : ℕ → ℕ → List Side → List ℕ
@@ -101,7 +98,7 @@ abbrev pub key : PlannedNode → List ℕ
 key m = rank (plan_cost m.1) (length m.0.name) m.0.name
 
 abbrev pub key_rank : Key → List ℕ
-key_rank k = rank k.cost k.depth k.name.items
+key_rank k = rank k.cost k.depth k.name
 
 abbrev pub IsFirstSolution : Problem → PlannedNode → Type 0
 IsFirstSolution problem = IsLeast key (IsSolution problem)

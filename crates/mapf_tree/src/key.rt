@@ -2,7 +2,7 @@ ghost use Rattle.std.specs.Prelude.{◌↔◌, IsTrue};
 ghost use Rattle.mapf_grid.specs.Least.{Precedes};
 ghost use Rattle.mapf_tree.specs.Tree.{key_rank};
 
-use crate::Side;
+use crate::Name;
 
 /// Where a node stands in the order of a search: by cost, then by depth, then by name, left before right.
 #[derive(Debug, Drop, PartialEq, Eq, PartialOrd, Ord)]
@@ -12,7 +12,7 @@ pub struct Key {
     /// How many turns lead from the root to the node.
     pub depth: usize,
     /// These turns, the root's first.
-    pub name: Vec<Side>,
+    pub name: Name,
 }
 
 impl Key {

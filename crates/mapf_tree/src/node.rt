@@ -6,7 +6,7 @@ ghost use Rattle.mapf_tree.specs.Nodes.{Changed};
 use crate::chain::{constraints_after, path_after, paths_after, shared, turned_path};
 use crate::change::Change;
 use crate::current_paths::CurrentPaths;
-use crate::{Key, Side};
+use crate::{Key, Name, Side};
 use mapf_grid::NoMemory;
 use mapf_low::{Constraint, Constraints};
 use mapf_plan::{Conflict, Path, Plan, Rule, first_conflict_of_changed};
@@ -34,9 +34,9 @@ impl Model for Node {
 
     ghost Value = { Node };
 
-    ghost view = { λ n. node_of n.key.name.items n.root.value (map arc_value n.changes.items) n.rule n.conflict };
+    ghost view = { λ n. node_of n.key.name n.root.value (map arc_value n.changes.items) n.rule n.conflict };
 
-    ghost invariant = { λ n. AgreesWith n.key.cost n.key.depth (node_of n.key.name.items n.root.value (map arc_value n.changes.items) n.rule n.conflict) };
+    ghost invariant = { λ n. AgreesWith n.key.cost n.key.depth (node_of n.key.name n.root.value (map arc_value n.changes.items) n.rule n.conflict) };
 }
 
 impl Node {
@@ -56,7 +56,7 @@ impl Node {
         let key = Key {
             cost: plan.cost(),
             depth: 0,
-            name: Vec::new(alloc),
+            name: Name::root(alloc),
         };
         Ok(Node {
             key,
@@ -109,10 +109,9 @@ impl Node {
         requires small { plan_cost (slice_set self.now.plan agent path.now) ≤ most_bound }
         ensures cost { IfOk result (λ key. key.cost ≡ plan_cost (slice_set self.now.plan agent path.now)) }
         ensures depth { IfOk result (λ key. key.depth ≡ length self.now.name + 1) }
-        ensures name { IfOk result (λ key. key.name.items ≡ self.now.name ++ side ∷ []) }
+        ensures name { IfOk result (λ key. key.name ≡ self.now.name ++ side ∷ []) }
     {
-        let mut name = self.key.name.as_slice().to_vec(alloc)?;
-        name.push(side)?;
+        let name = self.key.name.with(alloc, side)?;
         let others = self.key.cost - u64::from(self.path(agent).cost());
         Ok(Key {
             cost: others + u64::from(path.cost()),
@@ -144,7 +143,7 @@ impl Node {
     /// Where the node stands in the order of a search.
     pub fn key(&self) -> &Key
         ensures rank { key_rank result.now ≡ node_key self.now }
-        ensures name { result.now.name.items ≡ self.now.name }
+        ensures name { result.now.name ≡ self.now.name }
     {
         &self.key
     }
@@ -218,7 +217,7 @@ impl Node {
         let key = Key {
             cost: self.key.cost,
             depth: self.key.depth,
-            name: self.key.name.as_slice().to_vec(alloc)?,
+            name: self.key.name.copy(alloc)?,
         };
         Ok(Node {
             key,

@@ -43,7 +43,7 @@ impl<'p> Entry<'p> {
         let key = Key {
             cost: key.cost,
             depth: key.depth,
-            name: key.name.as_slice().to_vec(alloc).ok()?,
+            name: key.name.copy(alloc).ok()?,
         };
         Some(Entry {
             key,

@@ -8,7 +8,7 @@ use super::problem_of;
 use super::texts::{letters, push_change, push_conflict, push_paths};
 use crate::worked::{BAY, CHANGE, CROSSING, RING};
 use mapf_grid::NoMemory;
-use mapf_tree::{Node, Problem, Side, child, root};
+use mapf_tree::{Name, Node, Problem, Side, child, root};
 use std::alloc::Global;
 use std::process::Abort;
 use std::test::Fail;
@@ -44,7 +44,8 @@ fn write_node(rt: &impl Abort, alloc: Global, node: &Node, text: &mut String) ->
     let key = node.key();
     assert_eq!(rt; key.depth, key.name.len());
     assert_eq!(rt; node.copy(alloc)?.key(), key);
-    write!(text, "{} {}:", letters(alloc, &key.name)?, key.cost)?;
+    let name = key.name.to_vec(alloc)?;
+    write!(text, "{} {}:", letters(alloc, name.as_slice())?, key.cost)?;
     push_paths(text, node.plan(alloc)?.paths())?;
     if let Some(conflict) = node.conflict() {
         push_conflict(text, conflict)?;
@@ -153,6 +154,32 @@ fn changes_on_the_left(rt: HostRuntime) -> Result<(), Fail> {
     }
     assert_eq!(rt; text.as_str(), LEFT_CHANGES);
     assert!(rt; node.change(3).is_none());
+    Ok(())
+}
+
+/// More turns than a name keeps in its number.
+const SEVENTY_TURNS: &str =
+    "LRLLRLRLLRLRLLRLRLLRLRLLRLRLLRLRLLRLRLLRLRLLRLRLLRLRLLRLRLLRLRLLRLRLLR";
+
+/// The name that these letters spell.
+fn name_of(alloc: Global, turns: &str) -> Result<Name, NoMemory> {
+    let mut name = Name::root(alloc);
+    for turn in turns.chars() {
+        name = name.with(alloc, if turn == 'L' { Side::Left } else { Side::Right })?;
+    }
+    Ok(name)
+}
+
+#[test]
+fn name_of_seventy_turns(rt: HostRuntime) -> Result<(), Fail> {
+    let alloc = rt.alloc();
+    let name = name_of(alloc, SEVENTY_TURNS)?;
+    let turns = name.copy(alloc)?.to_vec(alloc)?;
+    assert_eq!(rt; name.len(), 70);
+    assert_eq!(rt; letters(alloc, turns.as_slice())?.as_str(), SEVENTY_TURNS);
+    assert!(rt; name == name_of(alloc, SEVENTY_TURNS)?);
+    assert!(rt; name < name.with(alloc, Side::Left)?);
+    assert!(rt; name.with(alloc, Side::Left)? < name.with(alloc, Side::Right)?);
     Ok(())
 }
 

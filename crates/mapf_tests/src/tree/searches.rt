@@ -129,7 +129,8 @@ fn taken(alloc: Global, problem: &Problem, turns: u8) -> Result<String, Fail> {
     for _ in 0..turns {
         let progress = search.go(&mut children, 1)?;
         let last = search.last().ok_or("no node was taken")?;
-        text.push_str(letters(alloc, &last.name)?.as_str())?;
+        let name = last.name.to_vec(alloc)?;
+        text.push_str(letters(alloc, name.as_slice())?.as_str())?;
         text.push_str(if progress == Progress::Finished {
             ". "
         } else {
