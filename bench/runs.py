@@ -30,8 +30,8 @@ def program(given):
     return os.path.join(HERE, "..", "crates", "mapf", "out", "mapf")
 
 
-def instances(folder, kind):
-    subprocess.run([sys.executable, os.path.join(HERE, "instances.py"), folder, kind], check=True)
+def instances(folder, *kinds):
+    subprocess.run([sys.executable, os.path.join(HERE, "instances.py"), folder, *kinds], check=True)
 
 
 def plain_programs(folder):
