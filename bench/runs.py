@@ -3,18 +3,26 @@ import os
 import shutil
 import subprocess
 import sys
+import threading
 import time
 
 HERE = os.path.dirname(os.path.abspath(__file__))
 
 
-def measured(words):
-    """The milliseconds and the greatest resident memory, in MB, of a run; and its output."""
+def measured(words, most=None):
+    """The milliseconds and the greatest resident memory, in MB, of a run; and its output, which is None where the run was
+    ended since it took more than so many seconds."""
     begin = time.monotonic()
     process = subprocess.Popen(words, stdout=subprocess.PIPE)
+    end = threading.Timer(most, process.kill) if most else None
+    if end:
+        end.start()
     text = process.stdout.read().decode()
-    _, _, usage = os.wait4(process.pid, 0)
-    return (time.monotonic() - begin) * 1000, usage.ru_maxrss / 1024, text
+    _, status, usage = os.wait4(process.pid, 0)
+    taken = (time.monotonic() - begin) * 1000
+    if end:
+        end.cancel()
+    return taken, usage.ru_maxrss / 1024, None if os.WIFSIGNALED(status) else text
 
 
 def middle(numbers):
