@@ -1,6 +1,6 @@
 //! The first conflict of a plan: by time steps as far as most plans need it, and by pairs of agents from there on.
 
-ghost use Rattle.std.specs.Prelude.{◌≡◌, ◌≢◌, ◌⊎◌, ◌+◌, ◌<◌, ◌≤◌, [], ◌∷◌, length, MatchOption, ⊤};
+ghost use Rattle.std.specs.Prelude.{◌≡◌, ◌≢◌, ◌⊎◌, ◌+◌, ◌<◌, ◌≤◌, min, max, [], ◌∷◌, length, MatchOption, ⊤};
 ghost use Rattle.mapf_grid.specs.Least.{NoneBefore};
 ghost use Rattle.mapf_plan.specs.declared.conflict.Conflict.{Conflict};
 ghost use Rattle.mapf_plan.specs.declared.rule.Rule.{Rule};
@@ -8,7 +8,7 @@ ghost use Rattle.mapf_plan.specs.Plan.{most_bound, conflict_rank, conflict_time,
 ghost use Rattle.mapf_plan.specs.FirstConflict.{IsConflictOfPair, IsConflictWithout, IsConflictBefore, IsEarlier};
 
 use crate::marks::Marks;
-use crate::pair_conflicts::{earlier, first_of_pair};
+use crate::pair_conflicts::{earlier, first_of_pair, may_meet};
 use crate::step_conflicts::first_at;
 use crate::{AgentPaths, Conflict, Rule};
 
@@ -38,6 +38,7 @@ pub fn first_conflict_of_changed<P: AgentPaths>(
 
 /// The first conflict that this agent has with another, if there is one before the end; no two agents have one before the
 /// first of these time steps.
+#[inline(never)]
 fn first_with<P: AgentPaths>(
     plan: &P,
     rule: Rule,
@@ -56,11 +57,38 @@ fn first_with<P: AgentPaths>(
         if other == agent {
             continue;
         }
-        let end = end_by(&known, end);
-        let found = first_of_pair(plan, rule, agent.min(other), agent.max(other), from, end);
-        known = earlier(known, found);
+        known = earlier_with(plan, rule, agent, other, from, end, known);
     }
     known
+}
+
+/// The conflict that is known, or an earlier one of this agent with the other. Two that are apart in all of these time steps
+/// have none.
+fn earlier_with<P: AgentPaths>(
+    plan: &P,
+    rule: Rule,
+    agent: usize,
+    other: usize,
+    from: u32,
+    end: u32,
+    known: Option<Conflict>,
+) -> Option<Conflict>
+    requires agent { agent < length (P.paths plan.now) }
+    requires other { other < length (P.paths plan.now) }
+    requires two { other ≢ agent }
+    requires before { NoneBefore conflict_rank (IsConflict rule (P.paths plan.now)) (from ∷ []) }
+    requires conflict { MatchOption known ⊤ (IsConflictBefore rule (P.paths plan.now) end) }
+    ensures conflict { MatchOption result ⊤ (IsConflictBefore rule (P.paths plan.now) end) }
+    ensures keeps { (c : Conflict) → IsEarlier c result → IsEarlier c known }
+    ensures first { (c : Conflict) → IsConflictOfPair rule (P.paths plan.now) (min agent other) (max agent other) c → conflict_time c < end
+        → ¬ IsEarlier c result }
+{
+    let (first, second) = (agent.min(other), agent.max(other));
+    let end = end_by(&known, end);
+    if !may_meet(plan.path(first), plan.path(second), from, end) {
+        return known;
+    }
+    earlier(known, first_of_pair(plan, rule, first, second, from, end))
 }
 
 /// The time step from which on no conflict comes before the one that is known; the end, where none is known.

@@ -122,6 +122,18 @@ fn first_of_block<P: AgentPaths>(
     None
 }
 
+/// Whether two agents may have a conflict at one of these time steps. It is looked at only where they are few and both paths go
+/// on to their end: whether at one of them one agent is where the other is or was one time step before.
+pub(crate) fn may_meet(one: &Path, other: &Path, from: u32, end: u32) -> bool
+    ensures { IsFalse result → (t : ℕ) → from ≤ t → t < end → AreApart one.now other.now t }
+{
+    if end <= from {
+        return false;
+    }
+    let both_move = end <= one.cost().min(other.cost()) + 1;
+    !both_move || end - from > BLOCK || meet_within(one, other, from as usize, end as usize)
+}
+
 /// Whether at one of these time steps one of two agents is where the other is or was one time step before.
 fn meet_within(one: &Path, other: &Path, from: usize, end: usize) -> bool
     requires block { from < end }

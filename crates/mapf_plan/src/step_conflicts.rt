@@ -13,6 +13,7 @@ use crate::{AgentPaths, Conflict, Rule};
 
 /// The first conflict at a time step, where no two agents have one before it. Two agents are compared only where their marks
 /// meet.
+#[inline(never)]
 pub(crate) fn first_at<P: AgentPaths>(
     plan: &P,
     rule: Rule,
