@@ -15,7 +15,7 @@ use Rattle.mapf_tree.specs.Nodes.{Node, StandsFor, IsConflictOf}
 use Rattle.mapf_tree.proofs.Plans.{same_plan}
 use Rattle.mapf_tree.proofs.Unique.{same_node, same_turns}
 use Rattle.mapf_tree.specs.Family.{IsBranching, IsChildOf}
-use Rattle.mapf_solve.specs.Rounds.{WantedChild, FitsSide}
+use Rattle.mapf_solve.specs.Rounds.{WantedChild, FitsSide, IsChildOfNamed}
 
 is_equal : (o : Ordering) → is_eq o ≡ true → o ≡ Equal
 is_equal Less h = cc
@@ -39,7 +39,7 @@ same_conflict rule plan (Some d) c some is first = ap (λ x. Some x) (same_first
 same_conflict rule plan None c some is first = cc
 
 -- so a child of the one is the child of the other
-child_of_same_name : (p : Problem) (a b : Node) (side : Side) (found : Option Node) → IsBranching p a → a.name ≡ b.name → IsChildOf p a side found → IsChildOf p b side found
+pub child_of_same_name : (p : Problem) (a b : Node) (side : Side) (found : Option Node) → IsBranching p a → a.name ≡ b.name → IsChildOf p a side found → IsChildOf p b side found
 child_of_same_name p a b side found branching e is n c shows on =
     let m = same_planned p a b branching.of n branching.stands shows e in
     let here : StandsFor p a n = subst (λ x. StandsFor p a x) m branching.stands in
@@ -57,3 +57,10 @@ used_child p node side job asked found branching fits is of named turn =
     let b' : IsBranching p asked.node = subst (λ q. IsBranching q asked.node) of b in
     let f' : IsChildOf p asked.node asked.side found = subst (λ q. IsChildOf q asked.node asked.side found) of f in
     subst (λ t. IsChildOf p node t found) turn (child_of_same_name p asked.node node asked.side found b' named f')
+
+-- and so is a child that was made for its name
+pub made_child : (p q : Problem) (node : Node) (name : List Side) (side asked : Side) (found : Option Node) →
+    IsChildOfNamed q name side found → q ≡ p → IsBranching p node → node.name ≡ name → side ≡ asked → IsChildOf p node asked found
+made_child p q node name side asked found made of branching named turn =
+    let here : IsChildOfNamed p name side found = subst (λ r. IsChildOfNamed r name side found) of made in
+    subst (λ t. IsChildOf p node t found) turn (here node branching named)

@@ -7,7 +7,7 @@ use Rattle.mapf_low.specs.Walk.{AreDistances}
 use Rattle.mapf_tree.specs.declared.side.Side.{Side}
 use Rattle.mapf_tree.specs.Problem.{Problem}
 use Rattle.mapf_tree.specs.Nodes.{Node}
-use Rattle.mapf_tree.specs.Family.{IsOwn, IsChildOf}
+use Rattle.mapf_tree.specs.Family.{IsOwn, IsBranching, IsChildOf}
 
 -- the distances to a goal are wanted
 pub record WantedTable : Type 0 where
@@ -55,6 +55,17 @@ AreOfGoals inst jobs = jobs ≡ map (wanted_table inst) (range_with_len 0 (lengt
 -- the child is the one that was asked for
 abbrev pub FitsSide : WantedChild → Option Node → Type 0
 FitsSide j found = IsChildOf j.problem j.node j.side found
+
+-- the child on that side of each node of the tree that has this name
+abbrev pub IsChildOfNamed : Problem → List Side → Side → Option Node → Type 0
+IsChildOfNamed p name side found = (n : Node) → IsBranching p n → n.name ≡ name → IsChildOf p n side found
+
+-- a child that is made for the nodes of a name
+pub record ChildMade : Type 0 where
+  pub problem : Problem
+  pub name : List Side
+  pub side : Side
+  pub child : Option Node
 
 -- a child that was worked out for a job
 pub record SideWorked : Type 0 where

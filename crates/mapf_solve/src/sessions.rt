@@ -4,6 +4,7 @@ mod ahead;
 mod coordinator;
 mod course;
 mod desk;
+mod made;
 mod ready;
 mod side_job;
 mod workers;

@@ -1,7 +1,7 @@
 -- One change more at the end of a chain.
-use Rattle.std.proofs.Common.{◌≡◌, ◌≢◌, ◌↔◌, ℕ, suc, ◌+◌, ◌<◌, ◌≤◌, List, [], ◌∷◌, ◌++◌, length, take, take_all, map, get_or, set, All, Option, Some, None, option_map, Result, Ok, Err, IfOk, IfSome, replicate, ap₂, refl, sym, ap, ◌∙◌, subst, subst₂, arith, Contains}
+use Rattle.std.proofs.Common.{◌≡◌, ◌≢◌, ◌↔◌, ℕ, suc, ◌+◌, ◌<◌, ◌≤◌, List, [], ◌∷◌, ◌++◌, length, take, take_all, map, get_or, set, All, Option, Some, None, option_map, Result, Ok, Err, IfOk, IfSome, replicate, ap₂, refl, sym, ap, ◌∙◌, subst, subst₂, append_assoc, arith, Contains}
 use Rattle.std.proofs.Math.Seq.{take-suc}
-use Rattle.std.proofs.lemmas.List.{length-set, length-map, length_push, get_or-map}
+use Rattle.std.proofs.lemmas.List.{length-set, length-map, length_push, length-append, get_or-map, get_or-append-add}
 use Rattle.std.proofs.lemmas.List.Elements.{All-push}
 use Rattle.mapf_grid.proofs.Lists.{set_cases}
 use Rattle.mapf_low.specs.declared.constraint.Constraint.{Constraint}
@@ -20,6 +20,15 @@ changed_plan-push plan (y ∷ xs) x = changed_plan-push (set plan y.agent y.path
 pub changed_sets-push : (sets : List (List Constraint)) (xs : List Changed) (x : Changed) → changed_sets sets (xs ++ x ∷ []) ≡ set (changed_sets sets xs) x.agent (x.constraint ∷ get_or (changed_sets sets xs) x.agent [])
 changed_sets-push sets [] x = refl
 changed_sets-push sets (y ∷ xs) x = changed_sets-push (set sets y.agent (y.constraint ∷ get_or sets y.agent [])) xs x
+
+-- the later changes are made of what the earlier ones left
+pub changed_plan-append : (plan : List (List ℕ)) (xs ys : List Changed) → changed_plan plan (xs ++ ys) ≡ changed_plan (changed_plan plan xs) ys
+changed_plan-append plan [] ys = refl
+changed_plan-append plan (x ∷ xs) ys = changed_plan-append (set plan x.agent x.path) xs ys
+
+pub changed_sets-append : (sets : List (List Constraint)) (xs ys : List Changed) → changed_sets sets (xs ++ ys) ≡ changed_sets (changed_sets sets xs) ys
+changed_sets-append sets [] ys = refl
+changed_sets-append sets (x ∷ xs) ys = changed_sets-append (set sets x.agent (x.constraint ∷ get_or sets x.agent [])) xs ys
 
 -- no change adds an agent
 pub length-changed_plan : (plan : List (List ℕ)) (xs : List Changed) → length (changed_plan plan xs) ≡ length plan
@@ -66,6 +75,14 @@ sets_more sets xs x agent old new inside is own other =
 -- one more of a chain's front, where the new one is known by its value
 pub chain_more : {X Y : Type 0} (f : X → Y) (xs : List X) (k : ℕ) (x : X) (y : Y) → k < length xs → x ≡ get_or xs k x → y ≡ f x → take (k + 1) (map f xs) ≡ take k (map f xs) ++ y ∷ []
 chain_more f xs k x y inside is e = taken_more f xs k x inside is ∙ ap (λ z. take k (map f xs) ++ z ∷ []) (sym e)
+
+-- one more behind two lists is one more behind the second
+pub one_behind : {X : Type 0} (xs ys : List X) (x : X) (zs : List X) → zs ≡ ys ++ x ∷ [] → (xs ++ ys) ++ x ∷ [] ≡ xs ++ zs
+one_behind xs ys x zs e = append_assoc xs ys (x ∷ []) ∙ ap (λ l. xs ++ l) (sym e)
+
+-- what holds of two lists holds of the second
+pub all_behind : {X : Type 0} (P : X → Type 0) (xs ys : List X) → All P (xs ++ ys) → All P ys
+all_behind P xs ys all k d h = subst P (get_or-append-add xs ys k d) (all (length xs + k) d (omega (arith, length-append xs ys, h)))
 
 -- the whole chain
 pub chain_whole : {X Y : Type 0} (f : X → Y) (xs : List X) (k : ℕ) → length xs ≤ k → take k (map f xs) ≡ map f xs

@@ -1,10 +1,10 @@
-//! What a chain of changes makes of the root's plan, and of no constraints.
+//! The changes that lead from the root to a node.
 
-ghost use Rattle.std.specs.Prelude.{◌≡◌, ◌≢◌, ◌↔◌, ◌<◌, ℕ, ◌⊎◌, [], All, length, map, replicate, slice_index_or, option_map, List, Some, IfOk, Contains};
+ghost use Rattle.std.specs.Prelude.{◌≡◌, ◌≢◌, ◌↔◌, ◌<◌, ◌≤◌, ℕ, ◌⊎◌, [], ◌∷◌, ◌++◌, All, length, map, replicate, slice_get, slice_index_or, option_map, List, Some, IfOk, OnOk, Contains, MatchOption};
 ghost use Rattle.std.specs.Arc.{arc_value};
 ghost use Rattle.mapf_plan.specs.Plan.{path_of};
 ghost use Rattle.mapf_low.specs.declared.constraint.Constraint.{Constraint};
-ghost use Rattle.mapf_tree.specs.Nodes.{IsTurnedTo, changed_plan, changed_sets};
+ghost use Rattle.mapf_tree.specs.Nodes.{Changed, IsTurnedTo, IsSameSet, changed_plan, changed_sets};
 
 use crate::change::Change;
 use crate::current_paths::CurrentPaths;
@@ -12,24 +12,156 @@ use mapf_grid::NoMemory;
 use mapf_low::Constraints;
 use mapf_plan::{Path, Plan};
 use std::alloc::Global;
+use std::marker::Model;
 use std::sync::Arc;
 
-/// An agent's path: that of its last change, or the root's.
-pub(crate) fn path_after<'a>(root: &'a Plan, changes: &'a [Arc<Change>], agent: usize) -> &'a Path
-    requires { agent < length root.now }
-    ensures { result.now ≡ path_of (changed_plan root.now (map arc_value changes.now)) agent }
-{
-    match turned_path(changes, agent) {
-        Some(path) => path,
-        None => &root.paths()[agent],
+/// So many changes a node may have of its own; with one more it shares them all with the nodes below it.
+const FEW: usize = 7;
+
+/// The changes that lead from the root to a node, the first turn's first.
+///
+/// The older ones are one list that nodes share, so a child's chain copies no more than a few of its parent's pointers.
+#[derive(Drop)]
+pub(crate) struct Chain {
+    older: Arc<Vec<Arc<Change>>>,
+    own: Vec<Arc<Change>>,
+}
+
+impl Model for Chain {
+    ghost use Rattle.std.specs.Prelude.{List, ◌++◌, map};
+    ghost use Rattle.std.specs.Arc.{arc_value};
+    ghost use Rattle.mapf_tree.specs.Nodes.{Changed};
+
+    ghost Value = { List Changed };
+
+    ghost view = { λ c. map arc_value c.older.value.items ++ map arc_value c.own.items };
+}
+
+impl Chain {
+    /// No change.
+    pub(crate) fn new(alloc: Global) -> Result<Chain, NoMemory>
+        ensures { IfOk result (λ chain. chain ≡ []) }
+    {
+        Ok(Chain {
+            older: Arc::new(alloc, Vec::new(alloc))?,
+            own: Vec::new(alloc),
+        })
+    }
+
+    /// Where its memory is from.
+    pub(crate) fn allocator(&self) -> Global {
+        *self.own.allocator()
+    }
+
+    /// What a turn changed, turns from 0.
+    pub(crate) fn get(&self, turn: usize) -> Option<&Change>
+        ensures { MatchOption result (length self.now ≤ turn) (λ change. slice_get self.now turn ≡ Some change.now) }
+    {
+        let older = self.older.len();
+        if turn < older {
+            Some(&self.older[turn])
+        } else {
+            Some(self.own.get(turn - older)?)
+        }
+    }
+
+    /// The chain with one change more.
+    pub(crate) fn with(&self, alloc: Global, change: Change) -> Result<Chain, NoMemory>
+        ensures { IfOk result (λ chain. chain ≡ self.now ++ change ∷ []) }
+    {
+        let mut own = Vec::with_capacity(alloc, self.own.len() + 1)?;
+        share_all(&mut own, &self.own)?;
+        own.push(Arc::new(alloc, change)?)?;
+        if own.len() <= FEW {
+            return Ok(Chain {
+                older: Arc::try_clone(&self.older)?,
+                own,
+            });
+        }
+        let mut all = Vec::with_capacity(alloc, self.older.len() + own.len())?;
+        share_all(&mut all, &self.older)?;
+        share_all(&mut all, &own)?;
+        Ok(Chain {
+            older: Arc::new(alloc, all)?,
+            own: Vec::new(alloc),
+        })
+    }
+
+    /// An equal chain.
+    pub(crate) fn copy(&self, alloc: Global) -> Result<Chain, NoMemory>
+        ensures { IfOk result (λ chain. chain ≡ self.now) }
+    {
+        let mut own = Vec::with_capacity(alloc, self.own.len())?;
+        share_all(&mut own, &self.own)?;
+        Ok(Chain {
+            older: Arc::try_clone(&self.older)?,
+            own,
+        })
+    }
+
+    /// An agent's path as its last change left it; none where no change is the agent's.
+    pub(crate) fn turned_path(&self, agent: usize) -> Option<&Arc<Path>>
+        ensures { (root : List (List ℕ)) → agent < length root → IsTurnedTo root self.now agent (option_map (λ p. arc_value p.now) result) }
+    {
+        let older = turned_after(None, &self.older, agent);
+        turned_after(older, &self.own, agent)
+    }
+
+    /// An agent's path: that of its last change, or the root's.
+    pub(crate) fn path<'a>(&'a self, root: &'a Plan, agent: usize) -> &'a Path
+        requires { agent < length root.now }
+        ensures { result.now ≡ path_of (changed_plan root.now self.now) agent }
+    {
+        match self.turned_path(agent) {
+            Some(path) => path,
+            None => &root.paths()[agent],
+        }
+    }
+
+    /// All agents' paths, which the root's plan had before.
+    pub(crate) fn paths<'a>(
+        &'a self,
+        alloc: Global,
+        root: &'a Plan,
+    ) -> Result<CurrentPaths<'a>, NoMemory>
+        requires { All (λ x. x.agent < length root.now) self.now }
+        ensures { IfOk result (λ paths. paths ≡ changed_plan root.now self.now) }
+    {
+        let mut paths = CurrentPaths::of(alloc, root)?;
+        change_all(&mut paths, &self.older);
+        change_all(&mut paths, &self.own);
+        Ok(paths)
+    }
+
+    /// What an agent is forbidden.
+    pub(crate) fn constraints(&self, alloc: Global, agent: usize) -> Result<Constraints, NoMemory>
+        ensures { IfOk result (λ set. (agents : ℕ) → agent < agents → IsSameSet set (slice_index_or (changed_sets (replicate agents []) self.now) agent [])) }
+    {
+        let older = constraints_after(Constraints::new(alloc), &self.older, agent)?;
+        constraints_after(older, &self.own, agent)
     }
 }
 
-/// An agent's path as its last change left it; none where no change is the agent's.
-pub(crate) fn turned_path<'a>(changes: &'a [Arc<Change>], agent: usize) -> Option<&'a Arc<Path>>
-    ensures { (root : List (List ℕ)) → agent < length root → IsTurnedTo root (map arc_value changes.now) agent (option_map (λ p. arc_value p.now) result) }
+/// Puts these changes behind others, and shares them.
+fn share_all(all: &mut Vec<Arc<Change>>, changes: &[Arc<Change>]) -> Result<(), NoMemory>
+    ensures { OnOk result (map arc_value all.new.items ≡ map arc_value all.old.items ++ map arc_value changes.now) }
 {
-    let mut path = None;
+    for change in changes {
+        all.push(Arc::try_clone(change)?)?;
+    }
+    Ok(())
+}
+
+/// An agent's path after some changes, from its path before them; none where it has the root's.
+fn turned_after<'a>(
+    before: Option<&'a Arc<Path>>,
+    changes: &'a [Arc<Change>],
+    agent: usize,
+) -> Option<&'a Arc<Path>>
+    ensures { (root : List (List ℕ)) (old : List Changed) → agent < length root → IsTurnedTo root old agent (option_map (λ p. arc_value p.now) before.entry)
+        → IsTurnedTo root (old ++ map arc_value changes.now) agent (option_map (λ p. arc_value p.now) result) }
+{
+    let mut path = before;
     for change in changes {
         path = turned_once(path, change, agent);
     }
@@ -52,32 +184,26 @@ fn turned_once<'a>(
     }
 }
 
-/// All agents' paths.
-pub(crate) fn paths_after<'a>(
-    alloc: Global,
-    root: &'a Plan,
-    changes: &'a [Arc<Change>],
-) -> Result<CurrentPaths<'a>, NoMemory>
-    requires { All (λ x. x.agent < length root.now) (map arc_value changes.now) }
-    ensures { IfOk result (λ paths. paths ≡ changed_plan root.now (map arc_value changes.now)) }
+/// Each change's agent has another path.
+fn change_all<'a>(paths: &mut CurrentPaths<'a>, changes: &'a [Arc<Change>])
+    requires { All (λ x. x.agent < length paths.old) (map arc_value changes.now) }
+    ensures { paths.new ≡ changed_plan paths.old (map arc_value changes.now) }
 {
-    let mut paths = CurrentPaths::of(alloc, root)?;
     for change in changes {
         paths.change(change);
     }
-    Ok(paths)
 }
 
-/// What an agent is forbidden.
-pub(crate) fn constraints_after(
-    alloc: Global,
+/// What an agent is forbidden after some changes, from what it was before them.
+fn constraints_after(
+    before: Constraints,
     changes: &[Arc<Change>],
     agent: usize,
 ) -> Result<Constraints, NoMemory>
-    ensures { IfOk result (λ set. (agents : ℕ) → agent < agents → (c : Constraint) →
-        Contains set c ↔ Contains (slice_index_or (changed_sets (replicate agents []) (map arc_value changes.now)) agent []) c) }
+    ensures { IfOk result (λ set. (sets : List (List Constraint)) → agent < length sets → IsSameSet before (slice_index_or sets agent [])
+        → IsSameSet set (slice_index_or (changed_sets sets (map arc_value changes.now)) agent [])) }
 {
-    let mut constraints = Constraints::new(alloc);
+    let mut constraints = before;
     for change in changes {
         constraints = constraints_with(constraints, change, agent)?;
     }
@@ -98,15 +224,4 @@ fn constraints_with(
     } else {
         Ok(constraints)
     }
-}
-
-/// The same changes, shared, with room for one more.
-pub(crate) fn shared(alloc: Global, changes: &[Arc<Change>]) -> Result<Vec<Arc<Change>>, NoMemory>
-    ensures { IfOk result (λ others. map arc_value others.items ≡ map arc_value changes.now) }
-{
-    let mut others = Vec::with_capacity(alloc, changes.len() + 1)?;
-    for change in changes {
-        others.push(Arc::try_clone(change)?)?;
-    }
-    Ok(others)
 }

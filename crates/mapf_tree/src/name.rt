@@ -177,6 +177,7 @@ impl Ord for Name {
 
     ghost matches_eq = { Prim.search (comparing, rules) };
 
+    #[inline(always)]
     fn cmp(&self, other: &Name) -> Ordering {
         match self.first.cmp(&other.first).then(self.few.cmp(&other.few)) {
             Ordering::Equal => self.rest.cmp(&other.rest),

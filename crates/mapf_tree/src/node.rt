@@ -3,13 +3,13 @@ ghost use Rattle.std.specs.Arc.{arc_value};
 ghost use Rattle.mapf_plan.specs.Plan.{path_of, plan_cost, most_bound};
 ghost use Rattle.mapf_tree.specs.Nodes.{Changed};
 
-use crate::chain::{constraints_after, path_after, paths_after, shared, turned_path};
+use crate::chain::Chain;
 use crate::change::Change;
 use crate::current_paths::CurrentPaths;
 use crate::{Key, Name, Side};
 use mapf_grid::NoMemory;
 use mapf_low::{Constraint, Constraints};
-use mapf_plan::{Conflict, Path, Plan, Rule, first_conflict_of_changed};
+use mapf_plan::{AgentPaths, Conflict, Path, Plan, Rule, first_conflict_of_changed};
 use std::alloc::Global;
 use std::marker::Model;
 use std::sync::Arc;
@@ -23,20 +23,18 @@ pub struct Node {
     pub(crate) key: Key,
     rule: Rule,
     root: Arc<Plan>,
-    changes: Vec<Arc<Change>>,
+    changes: Chain,
     conflict: Option<Conflict>,
 }
 
 impl Model for Node {
-    ghost use Rattle.std.specs.Prelude.{map};
-    ghost use Rattle.std.specs.Arc.{arc_value};
     ghost use Rattle.mapf_tree.specs.Nodes.{Node, node_of, AgreesWith};
 
     ghost Value = { Node };
 
-    ghost view = { λ n. node_of n.key.name n.root.value (map arc_value n.changes.items) n.rule n.conflict };
+    ghost view = { λ n. node_of n.key.name n.root.value n.changes n.rule n.conflict };
 
-    ghost invariant = { λ n. AgreesWith n.key.cost n.key.depth (node_of n.key.name n.root.value (map arc_value n.changes.items) n.rule n.conflict) };
+    ghost invariant = { λ n. AgreesWith n.key.cost n.key.depth (node_of n.key.name n.root.value n.changes n.rule n.conflict) };
 }
 
 impl Node {
@@ -62,7 +60,7 @@ impl Node {
             key,
             rule,
             root: Arc::new(alloc, plan)?,
-            changes: Vec::new(alloc),
+            changes: Chain::new(alloc)?,
             conflict,
         })
     }
@@ -86,13 +84,11 @@ impl Node {
     {
         let conflict = self.first_conflict_with(alloc, change.agent, &change.path)?;
         let key = self.key_with(alloc, side, change.agent, &change.path)?;
-        let mut changes = shared(alloc, &self.changes)?;
-        changes.push(Arc::new(alloc, change)?)?;
         Ok(Node {
             key,
             rule: self.rule,
             root: Arc::try_clone(&self.root)?,
-            changes,
+            changes: self.changes.with(alloc, change)?,
             conflict,
         })
     }
@@ -135,7 +131,7 @@ impl Node {
     {
         let time = self.conflict.unwrap().time();
         let mut paths = self.paths(alloc)?;
-        let from = path.shared_steps(self.path(agent)).min(time);
+        let from = path.shared_steps(paths.path(agent)).min(time);
         paths.set(agent, path);
         Ok(first_conflict_of_changed(&paths, self.rule, agent, from, time))
     }
@@ -172,7 +168,7 @@ impl Node {
         requires { agent < length self.now.plan }
         ensures { result.now ≡ path_of self.now.plan agent }
     {
-        path_after(&self.root, &self.changes, agent)
+        self.changes.path(&self.root, agent)
     }
 
     /// An agent's path as a turn of the name gave it; none where it has the root's.
@@ -180,14 +176,14 @@ impl Node {
         requires { agent < length self.now.plan }
         ensures { IfSome result (λ path. arc_value path.now ≡ path_of self.now.plan agent) }
     {
-        turned_path(&self.changes, agent)
+        self.changes.turned_path(agent)
     }
 
     /// The agents' paths.
     fn paths(&self, alloc: Global) -> Result<CurrentPaths<'_>, NoMemory>
         ensures { IfOk result (λ paths. paths ≡ self.now.plan) }
     {
-        paths_after(alloc, &self.root, &self.changes)
+        self.changes.paths(alloc, &self.root)
     }
 
     /// What an agent is forbidden.
@@ -195,12 +191,12 @@ impl Node {
         requires { agent < length self.now.plan }
         ensures { IfOk result (λ set. (c : _) → Contains set c ↔ Contains (slice_index_or self.now.constraints agent []) c) }
     {
-        constraints_after(alloc, &self.changes, agent)
+        self.changes.constraints(alloc, agent)
     }
 
     /// Where the node's memory is from.
     pub(crate) fn allocator(&self) -> Global {
-        *self.changes.allocator()
+        self.changes.allocator()
     }
 
     /// A copy of the node's plan.
@@ -223,7 +219,7 @@ impl Node {
             key,
             rule: self.rule,
             root: Arc::try_clone(&self.root)?,
-            changes: shared(alloc, &self.changes)?,
+            changes: self.changes.copy(alloc)?,
             conflict: self.conflict,
         })
     }

@@ -11,9 +11,12 @@ use mapf_grid::NoMemory;
 use mapf_low::Constraint;
 use mapf_plan::Path;
 use std::alloc::Global;
-use std::collections::BTreeMap;
+use std::collections::HashMap;
 use std::marker::Model;
 use std::sync::Arc;
+
+/// 2^64 by the golden ratio.
+const MIXER: u64 = 11_400_714_819_323_198_485;
 
 /// What a query was answered: the own path that it asks for, shared with the nodes that have it; none where there is none.
 #[derive(Drop)]
@@ -52,12 +55,13 @@ impl<'p> Found<'p> {
     }
 }
 
-/// Own paths of one agent that were searched before, and for each set of constraints where the newest of them stands.
+/// Own paths of one agent that were searched before, and where the newest of them stands that has a number for its set of
+/// constraints.
 #[derive(Drop)]
 struct OfAgent<'p> {
     problem: &'p Problem,
     found: Vec<Found<'p>>,
-    places: BTreeMap<Vec<Constraint>, usize>,
+    places: HashMap<u64, usize>,
 }
 
 impl<'p> Model for OfAgent<'p> {
@@ -79,7 +83,7 @@ impl<'p> OfAgent<'p> {
         OfAgent {
             problem,
             found: Vec::new(alloc),
-            places: BTreeMap::new(alloc),
+            places: HashMap::new(alloc),
         }
     }
 
@@ -88,21 +92,20 @@ impl<'p> OfAgent<'p> {
         requires { query.now.problem ≡ self.now }
         ensures { IfSome result (λ path. IsFoundBy query.now (option_map (λ p. arc_value p.now) path)) }
     {
-        let place = *self.places.get(query.constraints())?;
+        let place = *self.places.get(&number_of(query.constraints()))?;
         self.found.get(place)?.answer(query)
     }
 
     /// Remembers what a query was answered. It is forgotten where memory runs out.
-    fn remember(&mut self, alloc: Global, query: SideQuery<'p>, path: Option<Arc<Path>>)
+    fn remember(&mut self, query: SideQuery<'p>, path: Option<Arc<Path>>)
         requires problem { query.problem ≡ self.old }
         requires path { IsFoundBy query (option_map arc_value path) }
         ensures { self.new ≡ self.old }
     {
-        if let Ok(key) = query.constraints().to_vec(alloc) {
-            let place = self.found.len();
-            if self.found.push(Found { query, path }).is_ok() {
-                let _before = self.places.insert(key, place);
-            }
+        let number = number_of(query.constraints());
+        let place = self.found.len();
+        if self.found.push(Found { query, path }).is_ok() {
+            let _before = self.places.insert(number, place);
         }
     }
 }
@@ -158,14 +161,18 @@ impl<'p> OwnPaths<'p> {
         query.child(self.alloc, node, path)
     }
 
-    /// Whether the path of a node's child on one side is known, or that there is no such child.
-    pub fn knows(&self, node: &Node, side: Side) -> bool
+    /// The child of a node of the tree on one side of its conflict, where its path is known, or that there is no such child:
+    /// none exactly where it isn't in the tree. None where nothing is known.
+    pub fn known_child(&self, node: &Node, side: Side) -> Result<Option<Option<Node>>, NoMemory>
         requires { IsBranching self.now node.now }
+        ensures { IfOk result (λ found. IfSome found (IsChildOf self.now node.now side)) }
     {
-        match SideQuery::of(self.alloc, self.problem, node, side) {
-            Ok(query) => self.known(&query).is_some(),
-            Err(_) => false,
-        }
+        let query = SideQuery::of(self.alloc, self.problem, node, side)?;
+        let Some(path) = self.known(&query) else {
+            return Ok(None);
+        };
+        let path = shared(path)?;
+        Ok(Some(query.child(self.alloc, node, path)?))
     }
 
     /// Remembers the path of a node's child on one side, or that there is no such child, where that was worked out elsewhere.
@@ -230,7 +237,7 @@ impl<'p> OwnPaths<'p> {
         };
         let agent = query.agent();
         if agent < self.agents.len() {
-            self.agents[agent].remember(self.alloc, query, path);
+            self.agents[agent].remember(query, path);
         }
     }
 }
@@ -261,4 +268,23 @@ fn shared(path: Option<&Arc<Path>>) -> Result<Option<Arc<Path>>, NoMemory>
         Some(path) => Ok(Some(Arc::try_clone(path)?)),
         None => Ok(None),
     }
+}
+
+/// A number for a list of constraints. Other lists seldom have the same, and nothing rests on it.
+fn number_of(constraints: &[Constraint]) -> u64 {
+    let mut number = 0;
+    for constraint in constraints {
+        number = mixed(number, *constraint);
+    }
+    number
+}
+
+/// A number that one more constraint goes into.
+fn mixed(number: u64, constraint: Constraint) -> u64 {
+    let (from, to, time) = match constraint {
+        Constraint::Vertex { cell, time } => (cell, cell, time),
+        Constraint::Edge { from, to, time } => (from, to, time),
+    };
+    let cells = u64::from(from.number()) * 4_294_967_296 + u64::from(to.number());
+    (number.rotate_left(5) ^ cells ^ u64::from(time).rotate_left(24)).wrapping_mul(MIXER)
 }

@@ -5,6 +5,7 @@ ghost use Rattle.mapf_board.specs.declared.limits.TheConstants.{MOST_SLOTS};
 ghost use Rattle.mapf_tree.specs.Problem.{Problem};
 ghost use Rattle.mapf_solve.specs.Ahead.{IsKnownOf, IsEntryOf};
 
+use crate::sessions::made::Made;
 use crate::sessions::side_job::{SideJob, Worked};
 use mapf_tree::{Key, Node, Problem, Side};
 use std::alloc::Global;
@@ -22,8 +23,8 @@ pub(crate) enum Known<'p> {
     Worked(Worked<'p>),
     /// A worker gave its job back for want of memory.
     Undone,
-    /// Its path is known, or that there is no such child; no job for it is needed.
-    Searched,
+    /// It was made, since its path was known, or that there is no such child; no job for it is needed.
+    Made(Made<'p>),
 }
 
 /// What is known of the children of the node of this key.
@@ -145,12 +146,13 @@ impl<'p> Ahead<'p> {
         }
     }
 
-    /// The path of this child of the node with that place is known.
-    pub(crate) fn set_searched(&mut self, place: usize, side: Side)
+    /// This child of the node with that place is made.
+    pub(crate) fn set_made(&mut self, place: usize, side: Side, made: Made<'p>)
+        requires { made.problem ≡ self.old }
         ensures { self.new ≡ self.old }
     {
         if place < self.entries.len() {
-            set_known(&mut self.entries, place, side, Known::Searched);
+            set_known(&mut self.entries, place, side, Known::Made(made));
         }
     }
 

@@ -1,15 +1,16 @@
 //! The coordinator of a session, who posts jobs on a live board and takes back what becomes of them.
 
-ghost use Rattle.std.specs.Prelude.{◌≡◌, ◌≤◌, All, IfOk, IfSome, Ok, None};
+ghost use Rattle.std.specs.Prelude.{◌≡◌, ◌≤◌, All, IfOk, Ok, None};
 ghost use Rattle.mapf_board.specs.Owners.{currents};
 ghost use Rattle.mapf_board.specs.declared.limits.TheConstants.{MOST_WORKERS};
 ghost use Rattle.mapf_tree.specs.Nodes.{AllStand};
-ghost use Rattle.mapf_tree.specs.Family.{IsBranching};
+ghost use Rattle.mapf_tree.specs.Family.{IsBranching, IsChildOf};
 ghost use Rattle.mapf_tree.specs.Search.{TakesBetween};
 ghost use Rattle.mapf_solve.specs.Ahead.{AreSidesOf, IsGivenOf, IsKnownOf};
 
 use crate::sessions::ahead::{Ahead, Known};
 use crate::sessions::desk::Desk;
+use crate::sessions::made::Made;
 use crate::sessions::ready::Ready;
 use crate::sessions::side_job::{SideJob, SideWork, Worked};
 use mapf_board::{Gate, Left, MOST_SLOTS, Pair};
@@ -51,6 +52,11 @@ impl<'p> Coordinator<'p> {
             nodes: 4 * workers,
             next,
         })
+    }
+
+    /// The number of the next job.
+    pub(crate) fn next_job(&self) -> u64 {
+        self.next
     }
 
     /// Collects what is done, and posts jobs for the children of the first waiting nodes, where nothing is known of a child,
@@ -146,7 +152,8 @@ impl<'p> Coordinator<'p> {
             && self.post_side(desk, node, Side::Right, place)
     }
 
-    /// Posts the job for a child of which nothing is known, not even its path. False where no slot is free.
+    /// Makes a child of which nothing is known yet, where its path is known, and else posts the job for it. False where no slot
+    /// is free.
     fn post_side(
         &mut self,
         desk: &mut Desk<'_, SideWork<'p>>,
@@ -163,10 +170,42 @@ impl<'p> Coordinator<'p> {
         if !self.ahead.is_unknown(place, side) {
             return true;
         }
-        if self.ready.knows(node, side) {
-            self.ahead.set_searched(place, side);
-            return true;
+        match self.ready.known_child(node, side) {
+            Ok(None) => self.post_unknown(desk, node, side, place),
+            Ok(Some(child)) => {
+                self.keep_made(node, side, place, child);
+                true
+            }
+            Err(_) => true,
         }
+    }
+
+    /// Keeps a child that was made. It is made again at its node's turn where memory runs out.
+    fn keep_made(&mut self, node: &Node, side: Side, place: usize, child: Option<Node>)
+        requires node { IsBranching self.old.ahead node.now }
+        requires child { IsChildOf self.old.ahead node.now side child }
+        ensures { self.new.ahead ≡ self.old.ahead }
+    {
+        let problem = self.ahead.problem();
+        if let Some(made) = Made::of(self.alloc, problem, node, side, child) {
+            self.ahead.set_made(place, side, made);
+        }
+    }
+
+    /// Posts the job for a child of which nothing is known, not even its path. False where no slot is free.
+    fn post_unknown(
+        &mut self,
+        desk: &mut Desk<'_, SideWork<'p>>,
+        node: &Node,
+        side: Side,
+        place: usize,
+    ) -> bool
+        requires node { IsBranching self.old.ahead node.now }
+        requires jobs { AreSidesOf self.old.ahead (currents desk.old.owner) }
+        ensures problem { self.new.ahead ≡ self.old.ahead }
+        ensures live { desk.new.live ≡ desk.old.live }
+        ensures jobs { AreSidesOf self.old.ahead (currents desk.new.owner) }
+    {
         let Some(slot) = desk.free_slot() else {
             return false;
         };
@@ -216,28 +255,30 @@ impl<'p> Coordinator<'p> {
         }
     }
 
-    /// A child of which this is known; where it was posted, what became of its job. None where it is still to be worked out.
+    /// What is known of a child; where its job was posted, once what became of it is fetched.
     fn fetch<G: Gate>(
         &mut self,
         desk: &mut Desk<'_, SideWork<'p>>,
         known: Known<'p>,
         gate: &G,
-    ) -> Option<Worked<'p>>
+    ) -> Known<'p>
         requires known { IsKnownOf self.old.ahead known }
         requires jobs { AreSidesOf self.old.ahead (currents desk.old.owner) }
         ensures problem { self.new.ahead ≡ self.old.ahead }
         ensures live { desk.new.live ≡ desk.old.live }
         ensures jobs { AreSidesOf self.old.ahead (currents desk.new.owner) }
-        ensures worked { IfSome result (λ w. w.job.problem ≡ self.old.ahead) }
+        ensures known { IsKnownOf self.old.ahead result }
     {
         match known {
-            Known::Worked(worked) => Some(worked),
-            Known::Posted(slot) => {
-                let worked = Worked::by(desk.fetch(slot, gate)?);
-                self.ready.learn(&worked);
-                Some(worked)
-            }
-            Known::Nothing | Known::Undone | Known::Searched => None,
+            Known::Posted(slot) => match desk.fetch(slot, gate) {
+                Some(pair) => {
+                    let worked = Worked::by(pair);
+                    self.ready.learn(&worked);
+                    Known::Worked(worked)
+                }
+                None => Known::Nothing,
+            },
+            known => known,
         }
     }
 }

@@ -18,6 +18,9 @@ use mapf_tree::{Progress, Search};
 use std::alloc::Global;
 use std::thread::Threads;
 
+/// The most turns in a row that a session goes on while nothing is posted, and the most nodes that it takes without workers.
+const QUIET_NODES: u64 = 256;
+
 /// A search under way.
 #[derive(Drop)]
 pub(crate) struct Course<'p> {
@@ -68,8 +71,9 @@ impl<'p> Course<'p> {
         self.coordinator.work_ahead(desk, self.search.waiting());
     }
 
-    /// Takes a node, and works children of other nodes ahead.
-    fn turn<G: Gate>(&mut self, desk: &mut Desk<'_, SideWork<'p>>, gate: &G)
+    /// Takes a node, and works children of other nodes ahead. Of how many turns in a row nothing was posted: of so many before
+    /// this one, and maybe of this one.
+    fn turn<G: Gate>(&mut self, desk: &mut Desk<'_, SideWork<'p>>, gate: &G, quiet: u64) -> u64
         requires open_yet { self.old.search.outcome ≡ Ok None }
         requires jobs { AreSidesOf self.old.coordinator.ahead (currents desk.old.owner) }
         ensures problem { self.new.search.problem ≡ self.old.search.problem }
@@ -78,14 +82,21 @@ impl<'p> Course<'p> {
         ensures jobs { AreSidesOf self.old.coordinator.ahead (currents desk.new.owner) }
         ensures working { self.new.progress ≡ Progress.Working → (self.new.search.outcome ≡ Ok None) × TakesBetween self.old.search.problem self.old.search.last self.new.search.last 1 }
     {
+        let next = self.coordinator.next_job();
         self.coordinator.work_ahead(desk, self.search.waiting());
+        let has_posted = self.coordinator.next_job() != next;
         self.coordinator
             .make_ready(desk, self.search.waiting(), gate);
         self.progress = self.coordinator.take_next(&mut self.search);
+        if has_posted {
+            0
+        } else {
+            quiet.saturating_add(1)
+        }
     }
 }
 
-/// The coordinator's part of a session, at most so many turns; then the board is shut.
+/// The coordinator's part of a session, at most so many turns, and fewer where nothing more is posted; then the board is shut.
 fn lead<'p, 's, G: Gate>(
     mut course: Course<'p>,
     mut desk: Desk<'s, SideWork<'p>>,
@@ -100,11 +111,13 @@ fn lead<'p, 's, G: Gate>(
     ensures jobs { AreSidesOf course.entry.coordinator.ahead (currents result.1.owner) }
     ensures working { result.0.progress ≡ Progress.Working → (result.0.search.outcome ≡ Ok None) × TakesOn course.entry.search.problem course.entry.search.last result.0.search.last }
 {
-    course.turn(&mut desk, gate);
+    let mut quiet = course.turn(&mut desk, gate, 0);
     for _turn in 1..turns {
         match course.progress {
-            Progress::Working => course.turn(&mut desk, gate),
-            Progress::Finished => break,
+            Progress::Working if quiet < QUIET_NODES => {
+                quiet = course.turn(&mut desk, gate, quiet);
+            }
+            _ => break,
         }
     }
     desk.shut();
@@ -161,6 +174,43 @@ fn side_by_side<'p, 's, R: Threads + Sync, G: Gate, S: Supply>(
     (course, desk, seats)
 }
 
+/// The coordinator's part of a session, and beside it that of the workers where there is a job for them. Without workers few
+/// nodes are taken, so that it is soon seen whether there are jobs.
+fn with_workers_if_needed<'p, 's, R: Threads + Sync, G: Gate, S: Supply>(
+    rt: &R,
+    live: &Live<SideWork<'p>>,
+    work: &SideWork<'p>,
+    seats: Vec<WorkerSeat<SideWork<'p>>>,
+    course: Course<'p>,
+    desk: Desk<'s, SideWork<'p>>,
+    pace: Pace,
+    gate: &G,
+    supply: &S,
+) -> (
+    Course<'p>,
+    Desk<'s, SideWork<'p>>,
+    Result<Vec<WorkerSeat<SideWork<'p>>>, NoMemory>,
+)
+    requires workers { All (IsWorkerOf live.now) seats.items }
+    requires idle { All IsIdle seats.items }
+    requires open_yet { course.search.outcome ≡ Ok None }
+    requires jobs { AreSidesOf course.coordinator.ahead (currents desk.owner) }
+    ensures problem { result.0.search.problem ≡ course.entry.search.problem }
+    ensures ahead { result.0.coordinator.ahead ≡ course.entry.coordinator.ahead }
+    ensures live { result.1.live ≡ desk.entry.live }
+    ensures jobs { AreSidesOf course.entry.coordinator.ahead (currents result.1.owner) }
+    ensures working { result.0.progress ≡ Progress.Working → (result.0.search.outcome ≡ Ok None) × TakesOn course.entry.search.problem course.entry.search.last result.0.search.last }
+    ensures all { IfOk result.2 (λ back. vec_len back ≡ vec_len seats.entry) }
+    ensures workers { IfOk result.2 (λ back. All (IsWorkerOf live.now) back.items) }
+    ensures idle { IfOk result.2 (λ back. All IsIdle back.items) }
+{
+    if desk.has_jobs() {
+        return side_by_side(rt, live, work, seats, course, desk, pace, gate, supply);
+    }
+    let (course, desk) = lead(course, desk, pace.session_nodes.min(QUIET_NODES), gate);
+    (course, desk, Ok(seats))
+}
+
 /// One session: at most so many nodes are taken, and workers beside work out children of those that wait.
 pub(crate) fn session<'p, R: Threads + Sync, G: Gate, S: Supply>(
     rt: &R,
@@ -182,7 +232,7 @@ pub(crate) fn session<'p, R: Threads + Sync, G: Gate, S: Supply>(
     };
     let mut desk = Desk::new(&live, &work, owner);
     course.begin(&mut desk);
-    let (mut course, desk, seats) = side_by_side(
+    let (mut course, desk, seats) = with_workers_if_needed(
         rt, &live, &work, seats, course, desk, pace, gate, supply,
     );
     let owner = desk.into_owner();

@@ -53,6 +53,11 @@ impl<'s, W: Work> Desk<'s, W> {
         self.used[slot]
     }
 
+    /// Whether any slot has a job.
+    pub(crate) fn has_jobs(&self) -> bool {
+        self.used.contains(&true)
+    }
+
     /// The first slot that has no job.
     pub(crate) fn free_slot(&self) -> Option<usize>
         ensures { IfSome result (λ slot. slot < MOST_SLOTS) }

@@ -2,34 +2,36 @@
 
 ghost use Rattle.std.specs.Prelude.{◌≡◌, IfOk, IfSome};
 ghost use Rattle.mapf_tree.specs.Family.{IsBranching, IsChildOf};
+ghost use Rattle.mapf_solve.specs.Ahead.{IsKnownOf};
 
+use crate::sessions::ahead::Known;
 use crate::sessions::side_job::Worked;
 use mapf_grid::NoMemory;
 use mapf_tree::{Children, Node, OpenList, OwnPaths, Problem, Side};
 use std::alloc::Global;
 use std::marker::Model;
+use std::mem::replace;
 
-/// The children of the node of a problem's tree whose turn it is, each with the job that it was worked out for, and the own
-/// paths that are known.
+/// What is known of the children of the node of a problem's tree whose turn it is, and the own paths that are known.
 ///
-/// A child is used only for the node and the side that its job names; what is missing is worked out here, and an own path is
+/// A child is used only for the node and the side that it or its job names; what is missing is worked out here, and an own path is
 /// searched only where it isn't known.
 #[derive(Drop)]
 pub(crate) struct Ready<'p> {
     own_paths: OwnPaths<'p>,
-    left: Option<Worked<'p>>,
-    right: Option<Worked<'p>>,
+    left: Known<'p>,
+    right: Known<'p>,
 }
 
 impl<'p> Model for Ready<'p> {
-    ghost use Rattle.std.specs.Prelude.{◌≡◌, IfSome};
     ghost use Rattle.mapf_tree.specs.Problem.{Problem};
+    ghost use Rattle.mapf_solve.specs.Ahead.{IsKnownOf};
 
     ghost Value = { Problem };
 
     ghost view = { λ r. r.own_paths };
 
-    ghost invariant = { λ r. IfSome r.left (λ w. w.job.problem ≡ r.own_paths) × IfSome r.right (λ w. w.job.problem ≡ r.own_paths) };
+    ghost invariant = { λ r. IsKnownOf r.own_paths r.left × IsKnownOf r.own_paths r.right };
 }
 
 impl<'p> Ready<'p> {
@@ -39,16 +41,21 @@ impl<'p> Ready<'p> {
     {
         Ok(Ready {
             own_paths: OwnPaths::new(alloc, problem)?,
-            left: None,
-            right: None,
+            left: Known::Nothing,
+            right: Known::Nothing,
         })
     }
 
-    /// Whether the path of a node's child on one side is known, or that there is no such child.
-    pub(crate) fn knows(&self, node: &Node, side: Side) -> bool
+    /// The child of a node on one side, where its path is known, or that there is no such child. None where nothing is known.
+    pub(crate) fn known_child(
+        &self,
+        node: &Node,
+        side: Side,
+    ) -> Result<Option<Option<Node>>, NoMemory>
         requires { IsBranching self.now node.now }
+        ensures { IfOk result (λ found. IfSome found (IsChildOf self.now node.now side)) }
     {
-        self.own_paths.knows(node, side)
+        self.own_paths.known_child(node, side)
     }
 
     /// Remembers the path of a child that was worked out.
@@ -59,10 +66,10 @@ impl<'p> Ready<'p> {
         worked.teach(&mut self.own_paths);
     }
 
-    /// These are the children of the node whose turn it is.
-    pub(crate) fn bring(&mut self, left: Option<Worked<'p>>, right: Option<Worked<'p>>)
-        requires left { IfSome left (λ w. w.job.problem ≡ self.old) }
-        requires right { IfSome right (λ w. w.job.problem ≡ self.old) }
+    /// This is known of the children of the node whose turn it is.
+    pub(crate) fn bring(&mut self, left: Known<'p>, right: Known<'p>)
+        requires left { IsKnownOf self.old left }
+        requires right { IsKnownOf self.old right }
         ensures { self.new ≡ self.old }
     {
         self.left = left;
@@ -75,11 +82,15 @@ impl<'p> Ready<'p> {
         ensures problem { self.new ≡ self.old }
         ensures child { IfSome result (IsChildOf self.old node.now side) }
     {
-        let worked = match side {
-            Side::Left => self.left.take(),
-            Side::Right => self.right.take(),
+        let known = match side {
+            Side::Left => replace(&mut self.left, Known::Nothing),
+            Side::Right => replace(&mut self.right, Known::Nothing),
         };
-        worked?.child_of(node, side)
+        match known {
+            Known::Worked(worked) => worked.child_of(node, side),
+            Known::Made(made) => made.child_of(node, side),
+            Known::Nothing | Known::Posted(_) | Known::Undone => None,
+        }
     }
 
     /// A child of a node: as it was worked out, or worked out now.

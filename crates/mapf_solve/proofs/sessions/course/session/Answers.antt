@@ -11,4 +11,4 @@ begin-requires-clause-jobs g c slot job at =
 pub keep_all-requires : goal.keep_all-requires
 keep_all-requires g c k d low =
     let x = slice_index_or c.in-Ok-close.left.items k d in
-    c.side_by_side-course.ensures.jobs x.0 _ (ap (λ o. current_in o x.0) (sym c.into_owner-owner.ensures.owner) ∙ c.in-Ok-close.ensures.jobs k d low) ∙ sym c.side_by_side-course.ensures.ahead
+    c.with_workers_if_needed-course.ensures.jobs x.0 _ (ap (λ o. current_in o x.0) (sym c.into_owner-owner.ensures.owner) ∙ c.in-Ok-close.ensures.jobs k d low) ∙ sym c.with_workers_if_needed-course.ensures.ahead

@@ -1,5 +1,5 @@
 use Rattle.mapf_tree.proofs.Chains.{at_root}
 use Rattle.mapf_tree.proofs.node.Node.path.Goals as goal
 
-pub path_after-requires : goal.path_after-requires
-path_after-requires c = at_root _ _ _ _ _ c.args.self.now c.self.view_is c.args.agent c.deref.result.now c.deref.ensures c.requires
+pub path-requires : goal.path-requires
+path-requires c = at_root _ _ _ _ _ c.args.self.now c.self.view_is c.args.agent c.deref.result.now c.deref.ensures c.requires
