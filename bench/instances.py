@@ -1,8 +1,9 @@
 #!/usr/bin/env python3
 """Makes the benchmark's maps and scenarios, the same everywhere: docs/BENCHMARK.md has the rule.
 
-Usage: instances.py FOLDER [large|shapes]. It writes NAME.map and NAME.scen for each map into the folder; with `large`
-those of tables of distances alone, with `shapes` those on which planners take long, and plans for two of them.
+Usage: instances.py FOLDER KIND... It writes NAME.map and NAME.scen for each map of these kinds into the folder: `maps`, five
+of them; `extremes`, the largest map and two pockets; `large` and `small`, three for tables of distances alone; `rest` and
+`corridor`, on which planners take long, with plans.
 """
 import os
 import sys
@@ -161,20 +162,20 @@ def scenario(name, grid, random, rows):
     return lines
 
 
-def distances(folder):
-    """Three maps of the largest size, for tables of distances: 64 rows each, whose last word, the length, is left 0."""
-    walls = empty(2048, 2048)
+def distances(folder, size):
+    """Three maps of this size, for tables of distances: 64 rows each, whose last word, the length, is left 0."""
+    walls = empty(size, size)
     walled(walls)
     random = Random(6)
-    for kind, grid in (("open", empty(2048, 2048)), ("walls", walls), ("random-20", blocked(2048, 2048, 20, random))):
-        name = f"{kind}-2048-2048"
+    for kind, grid in (("open", empty(size, size)), ("walls", walls), ("random-20", blocked(size, size, 20, random))):
+        name = f"{kind}-{size}-{size}"
         cells = largest_part(grid)
         starts, goals = set(), set()
         lines = ["version 1"]
         for _ in range(64):
             start, goal = draw(cells, starts, random), draw(cells, goals, random)
             places = f"{start[0]}\t{start[1]}\t{goal[0]}\t{goal[1]}"
-            lines.append(f"0\t{name}.map\t2048\t2048\t{places}\t0")
+            lines.append(f"0\t{name}.map\t{size}\t{size}\t{places}\t0")
         write(folder, name, grid, lines)
 
 
@@ -213,15 +214,7 @@ def write_lines(folder, name, lines):
         file.write("\n".join(lines) + "\n")
 
 
-def main():
-    folder = sys.argv[1]
-    if sys.argv[2:] == ["large"]:
-        distances(folder)
-        return
-    if sys.argv[2:] == ["shapes"]:
-        rest(folder)
-        snake(folder, 1000000)
-        return
+def maps(folder):
     seed = 1
     for name, make in (
         ("empty-32-32", lambda random: empty(32, 32)),
@@ -234,6 +227,9 @@ def main():
         grid = make(random)
         write(folder, name, grid, scenario(name, grid, random, ROWS))
         seed += 1
+
+
+def extremes(folder):
     large = empty(2048, 2048)
     walled(large)
     lines = ["version 1"]
@@ -245,5 +241,15 @@ def main():
     pocket(folder, 100000)
 
 
+KINDS = {
+    "maps": maps,
+    "extremes": extremes,
+    "large": lambda folder: distances(folder, 2048),
+    "small": lambda folder: distances(folder, 64),
+    "rest": rest,
+    "corridor": lambda folder: snake(folder, 1000000),
+}
+
 if __name__ == "__main__":
-    main()
+    for word in sys.argv[2:]:
+        KINDS[word](sys.argv[1])

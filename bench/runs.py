@@ -1,12 +1,20 @@
-"""Runs of the program and of the plain pass, for the scripts that time them: docs/BENCHMARK.md."""
+"""Runs of the program and of the plain ones, for the scripts that time them: docs/BENCHMARK.md.
+
+From the environment: RUNS, of how many runs a time is the middle one (3); QUICK, one small row alone, to see that a script
+works.
+"""
 import os
 import shutil
 import subprocess
 import sys
+import tempfile
 import threading
 import time
 
 HERE = os.path.dirname(os.path.abspath(__file__))
+QUICK = "QUICK" in os.environ
+RUNS = 1 if QUICK else int(os.environ.get("RUNS", "3"))
+WORKERS = (1, 2, 4)
 
 
 def measured(words, most=None):
@@ -25,8 +33,24 @@ def measured(words, most=None):
     return taken, usage.ru_maxrss / 1024, None if os.WIFSIGNALED(status) else text
 
 
+def solved(solver, name, agents, workers, bound=1000000, nodes=None, most=None):
+    """A run of the solver on an instance."""
+    words = [solver, "solve", "--map", name + ".map", "--scen", name + ".scen", "--agents", str(agents)]
+    words += ["--bound", str(bound), "--workers", str(workers)]
+    return measured(words + (["--nodes", str(nodes)] if nodes else []), most)
+
+
 def middle(numbers):
     return sorted(numbers)[len(numbers) // 2]
+
+
+def row(*columns):
+    print("| " + " | ".join(str(column) for column in columns) + " |", flush=True)
+
+
+def head(*columns):
+    row(*columns)
+    print("|" + "---|" * len(columns), flush=True)
 
 
 def program(given):
@@ -38,8 +62,12 @@ def program(given):
     return os.path.join(HERE, "..", "crates", "mapf", "out", "mapf")
 
 
-def instances(folder, *kinds):
-    subprocess.run([sys.executable, os.path.join(HERE, "instances.py"), folder, *kinds], check=True)
+def with_instances(work, *kinds):
+    """Calls `work` with the program that is to be timed and a folder of these kinds of instances, which goes afterwards."""
+    solver = program(sys.argv[1:])
+    with tempfile.TemporaryDirectory() as folder:
+        subprocess.run([sys.executable, os.path.join(HERE, "instances.py"), folder, *kinds], check=True)
+        work(solver, folder)
 
 
 def plain_programs(folder):
