@@ -206,7 +206,7 @@ fn the_answers_are_the_same_where_workers_leave_at_once(rt: HostRuntime) {
     assert!(rt; answers_at_each(&rt, rt.alloc(), 64));
 }
 
-/// Whether each of 200 runs with so many workers answers this text.
+/// Whether each of 20 runs with so many workers answers this text. (`tests/same-bytes` runs the program 200 times.)
 fn answers_each_time<R: Threads + Sync>(
     rt: &R,
     alloc: Global,
@@ -215,7 +215,7 @@ fn answers_each_time<R: Threads + Sync>(
     workers: u64,
     text: &[u8],
 ) -> bool {
-    (0..200).all(|_run| match answered(rt, alloc, worked, bound, workers) {
+    (0..20).all(|_run| match answered(rt, alloc, worked, bound, workers) {
         Ok(bytes) => bytes.as_slice() == text,
         Err(_) => false,
     })
