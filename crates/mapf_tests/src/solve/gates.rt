@@ -2,23 +2,23 @@
 
 ghost use Rattle.std.specs.Prelude.{◌<◌, ◌≤◌};
 
-use crate::worked::{CROSSING, Worked};
-use mapf_board::Gate;
+use crate::worked::{CHANGE, CROSSING, Worked};
+use mapf_board::{AlwaysGrants, Gate};
 use mapf_grid::instance_of;
 use mapf_plan::{Answer, Rule};
-use mapf_solve::{Ask, answer, solve};
+use mapf_solve::{Ask, Pace, answer, solve, solve_paced};
 use mapf_tree::Problem;
 use std::alloc::Global;
 use std::sync::atomic::{AtomicU64, Ordering};
 use std::thread::Threads;
 
-/// How many jobs there are in all: a goal, a root path and a side for each of two agents.
-const JOBS: usize = 6;
+/// How many jobs are counted one by one: more than there are in any of these problems.
+const JOBS: usize = 10;
 
 /// How long a job waits for another at most, in looks.
 const MOST_LOOKS: u64 = 1_000_000_000;
 
-/// How often each of the jobs 0 to 5 was entered and left, and how often others were.
+/// How often each of the first jobs was entered and left, and how often others were.
 #[derive(Drop)]
 struct Counts {
     entered: [AtomicU64; JOBS],
@@ -82,11 +82,24 @@ impl Counts {
             && is_once(&self.left, first)
             && self.others.load(Ordering::SeqCst) == 0
     }
+
+    /// How often one of the first jobs was entered.
+    fn entries(&self) -> u64 {
+        let mut entries = 0_u64;
+        for job in &self.entered {
+            entries = entries.saturating_add(job.load(Ordering::SeqCst));
+        }
+        entries
+    }
 }
 
 /// A count for each job.
 fn zeros() -> [AtomicU64; JOBS] {
     [
+        AtomicU64::new(0),
+        AtomicU64::new(0),
+        AtomicU64::new(0),
+        AtomicU64::new(0),
         AtomicU64::new(0),
         AtomicU64::new(0),
         AtomicU64::new(0),
@@ -201,4 +214,29 @@ fn one_worker_and_the_coordinator_do_two_sides_at_one_time(rt: HostRuntime) {
 #[test]
 fn two_workers_do_two_sides_at_one_time(rt: HostRuntime) {
     assert!(rt; does_two_sides_at_one_time(&rt, rt.alloc(), 2));
+}
+
+/// Of a worker that takes no turn, in sessions of one node: a job that nobody did in one session is posted in the next again.
+///
+/// Two agents change places at a cost of at most 3, for which there is no plan: three nodes are taken, each of whose sides
+/// has a set of constraints of its own, so with two root paths eight jobs are done. Those of the third node's sides come back
+/// from the board of the second, and are posted as 8 and 9.
+#[test]
+fn a_job_that_a_closed_board_gives_back_is_posted_again(rt: HostRuntime) {
+    let gate = Counts::new();
+    let answer = paced_one_by_one(&rt, rt.alloc(), &gate);
+    assert!(rt; matches!(answer, Some(Answer::None { bound: 3 })));
+    assert_eq!(rt; gate.entries(), 8);
+    assert_eq!(rt; gate.others.load(Ordering::SeqCst), 0);
+}
+
+/// The answer to the change of places at a cost of at most 3, of sessions of one node with a worker that takes no turn.
+fn paced_one_by_one<R: Threads + Sync>(rt: &R, alloc: Global, gate: &Counts) -> Option<Answer> {
+    let pace = Pace {
+        worker_turns: 0,
+        session_nodes: 1,
+    };
+    let instance = instance_of(alloc, CHANGE.map, CHANGE.scen, CHANGE.agents).ok()?;
+    let problem = Problem::new(alloc, instance, 3).ok()?;
+    solve_paced(rt, alloc, &problem, 1, pace, gate, &AlwaysGrants).ok()
 }
