@@ -7,6 +7,7 @@ mod ConstraintOrder
 mod Adding
 mod Places
 mod Layering
+mod Arrivals
 mod FirstArrival
 pub mod Limits
 mod Growing
@@ -24,5 +25,10 @@ mod Searching
 mod ClassLists
 mod Found
 mod Chains
+mod StatePairs
+mod OutOfReach
+mod Placing
+mod BackwardCosts
+mod AscendingSides
 mod Taking
 pub mod Sets

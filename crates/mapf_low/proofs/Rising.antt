@@ -15,7 +15,8 @@ use Rattle.mapf_low.specs.Layers.{MayEnter}
 use Rattle.mapf_low.specs.Reached.{IsUsable, MayStep, ComesFrom}
 use Rattle.mapf_low.proofs.Growing.{members_push, all_in_front, Grown}
 use Rattle.mapf_low.proofs.LevelSearch.{Next_back}
-use Rattle.mapf_low.proofs.Bests.{IsSmallest, smallest_same}
+use Rattle.mapf_low.specs.Best.{IsSmallest}
+use Rattle.mapf_low.proofs.Bests.{smallest_same}
 
 -- a search in a rising list tells whether the number is there
 pub rising_has : (xs : List ℕ) (x : ℕ) (r : Result ℕ ℕ) (b : Bool) → IsStrictlyIncreasing xs → b ≡ is_ok r → IsBinarySearchResult (λ y. nat_cmp y x) xs r → IsTrue b ↔ Contains xs x

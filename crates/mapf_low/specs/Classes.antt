@@ -7,9 +7,9 @@ use Rattle.mapf_low.specs.Reached.{AreReached, EndsAt}
 use Rattle.mapf_low.specs.Walk.{distance_at}
 use Rattle.std.specs.Option.{unwrap_or}
 
--- the new list is the old one, with the cell behind it if it wasn't there
-abbrev pub IsAdded : ℕ → List ℕ → List ℕ → Type 0
-IsAdded cell old new = (Contains old cell × (new ≡ old)) ⊎ (new ≡ old ++ cell ∷ [])
+-- the new list is the old one, with the item behind it if it wasn't there
+abbrev pub IsAdded : {X : Type 0} → X → List X → List X → Type 0
+IsAdded item old new = (Contains old item × (new ≡ old)) ⊎ (new ≡ old ++ item ∷ [])
 
 -- the new list begins with the old one, and has just those other cells of which E holds
 pub record Grows (E : ℕ → Type 0) (old new : List ℕ) : Type 0 where

@@ -7,6 +7,7 @@ pub mod OwnPath
 pub mod Best
 pub mod Query
 pub mod Reached
+pub mod Backwards
 pub mod Layers
 pub mod Classes
 pub mod Taken

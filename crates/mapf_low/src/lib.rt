@@ -1,6 +1,8 @@
 //! Distances, constraints, and one agent's cheapest path under constraints.
 #![tactic(auto)]
 
+mod backward_query;
+mod backwards;
 mod busy;
 mod by_layers;
 mod cell_hasher;
@@ -8,6 +10,7 @@ mod chain;
 mod class;
 mod constraint;
 mod constraints;
+mod dead_ends;
 mod distances;
 mod entry;
 mod expansion;
@@ -23,6 +26,7 @@ mod states;
 mod taken;
 mod time;
 
+pub use backwards::cheapest_backwards;
 pub use constraint::Constraint;
 pub use constraints::Constraints;
 pub use distances::Distances;

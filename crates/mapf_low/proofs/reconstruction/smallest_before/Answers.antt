@@ -3,7 +3,8 @@ use Rattle.mapf_grid.specs.Grid.{Next}
 use Rattle.mapf_low.specs.declared.constraint.Constraint.TheVariants.{Edge}
 use Rattle.mapf_low.specs.Reached.{ComesFrom}
 use Rattle.mapf_low.proofs.Growing.{members_more}
-use Rattle.mapf_low.proofs.Bests.{IsSmallest, smallest_takes, smallest_keeps, smallest_some, smallest_at}
+use Rattle.mapf_low.specs.Best.{IsSmallest}
+use Rattle.mapf_low.proofs.Bests.{smallest_takes, smallest_keeps, smallest_some, smallest_at}
 use Rattle.mapf_low.proofs.Rising.{met_before, not_true}
 use Rattle.mapf_low.proofs.reconstruction.smallest_before.Goals as goal
 use Rattle.mapf_low.proofs.reconstruction.smallest_before.Goals.{then-has+then-allows_step, else-has, else-has-via-then-has+else-allows_step, else-has-via-else-has}

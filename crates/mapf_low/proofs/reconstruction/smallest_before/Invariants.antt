@@ -1,6 +1,6 @@
 use Rattle.std.proofs.Common.{take, ◌+◌, Contains}
 use Rattle.mapf_low.specs.declared.constraint.Constraint.TheVariants.{Edge}
-use Rattle.mapf_low.proofs.Bests.{IsSmallest}
+use Rattle.mapf_low.specs.Best.{IsSmallest}
 use Rattle.mapf_low.proofs.reconstruction.smallest_before.Given as goal
 
 abbrev pub invariant-loop-from : goal.invariant-loop-from

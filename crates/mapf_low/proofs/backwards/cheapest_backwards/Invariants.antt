@@ -1,0 +1,10 @@
+use Rattle.mapf_low.specs.Backwards.{AreDead}
+use Rattle.mapf_low.proofs.BackwardCosts.{HasNoneBefore}
+use Rattle.mapf_low.proofs.backwards.cheapest_backwards.Given as goal
+
+abbrev pub invariant-loop-end : goal.invariant-loop-end
+invariant-loop-end l =
+    record {
+      dead : AreDead l.query l.dead.states;
+      before : HasNoneBefore l.query l.end;
+    }

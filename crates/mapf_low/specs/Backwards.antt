@@ -1,0 +1,60 @@
+-- A search backwards from the goal: where an agent may be at a time step, and what isn't ruled out yet. Its query's table has
+-- the distances to the start.
+use Rattle.std.specs.Prelude.{◌≡◌, ◌⊎◌, ◌↔◌, ℕ, zero, suc, ◌+◌, ◌≤◌, List, Option, MatchOption, All, Contains}
+use Rattle.mapf_grid.specs.Grid.{IsFree, HasSizes}
+use Rattle.mapf_low.specs.declared.constraint.Constraint.TheVariants.{Vertex, Edge}
+use Rattle.mapf_low.specs.Best.{IsGreatest}
+use Rattle.mapf_low.specs.Kept.{HasTwoEnds}
+use Rattle.mapf_low.specs.Query.{Query}
+use Rattle.mapf_low.specs.Reached.{ComesFrom, IsReconstructed}
+use Rattle.mapf_low.specs.Walk.{AreDistances, distance_at}
+use Rattle.mapf_plan.specs.Plan.{most_bound}
+
+-- start and goal are free, and the table has the distances to the start
+pub record IsPosedFromStart (query : Query) : Type 0 where
+  pub sizes : HasSizes query.grid
+  pub start : IsFree query.grid query.start
+  pub goal : IsFree query.grid query.goal
+  pub distances : AreDistances query.grid query.start query.table
+  pub ends : All HasTwoEnds query.constraints
+  pub limit : query.limit ≤ most_bound
+
+-- the last time at which the goal is forbidden is known
+pub record IsPreparedFromStart (query : Query) (last : Option ℕ) : Type 0 where
+  pub posed : IsPosedFromStart query
+  pub last_is : IsGreatest (λ t. Contains query.constraints (Vertex query.goal t)) last
+
+-- cells at time steps that are known to be out of reach, and how many more may join them
+pub record DeadEnds : Type 0 where
+  pub states : List (ℕ × ℕ)
+  pub room : ℕ
+
+-- the new states are the old ones and this one
+abbrev pub IsJoined : ℕ × ℕ → List (ℕ × ℕ) → List (ℕ × ℕ) → Type 0
+IsJoined state old new = (s : ℕ × ℕ) → Contains new s ↔ (Contains old s ⊎ (state ≡ s))
+
+-- some list of steps from the start leads to v at time t, and breaks no constraint up to then
+abbrev pub CanBe : Query → ℕ → ℕ → Type 0
+CanBe query zero v = (v ≡ query.start) × (¬ Contains query.constraints (Vertex v 0))
+CanBe query (suc t) v = (¬ Contains query.constraints (Vertex v (suc t))) × ((u : ℕ) × ComesFrom query (suc t) (CanBe query t) v u)
+
+-- no list of steps leads to one of these states
+abbrev pub AreDead : Query → List (ℕ × ℕ) → Type 0
+AreDead query dead = (v t : ℕ) → Contains dead (v, t) → ¬ CanBe query t v
+
+-- the start is near enough, the cell is not forbidden, and the state is no dead end
+abbrev pub IsLeft : Query → List (ℕ × ℕ) → ℕ → ℕ → Type 0
+IsLeft query dead t v =
+    MatchOption (distance_at query.table v) ⊥ (λ n. n ≤ t)
+    × (¬ Contains query.constraints (Vertex v t)) × (¬ Contains dead (v, t))
+
+-- nothing rules out u at time t, or forbids to arrive from there on v
+abbrev pub MayLead : Query → List (ℕ × ℕ) → ℕ → ℕ → ℕ → Type 0
+MayLead query dead t u v = IsLeft query dead t u × (¬ Contains query.constraints (Edge u v (t + 1)))
+
+-- the least list of steps to the goal that ends at this time, read from its end; with none no list of steps does
+abbrev pub IsTraced : Query → ℕ → Option (List ℕ) → Type 0
+IsTraced query end found =
+    MatchOption found
+    (¬ CanBe query end query.goal)
+    (λ p. IsReconstructed query (CanBe query) p 0 end × CanBe query end query.goal)

@@ -1,0 +1,147 @@
+ghost use Rattle.std.specs.Prelude.{◌≡◌, ◌↔◌, ℕ, ◌+◌, ◌<◌, ◌≤◌, IsTrue, Some};
+ghost use Rattle.mapf_grid.specs.Grid.{cells, IsFree};
+ghost use Rattle.mapf_low.specs.Walk.{AreDistances};
+ghost use Rattle.mapf_low.specs.Best.{IsSmallest};
+ghost use Rattle.mapf_low.specs.Query.{MayEnd};
+ghost use Rattle.mapf_low.specs.Reached.{ComesFrom};
+ghost use Rattle.mapf_low.specs.Backwards.{IsPosedFromStart, IsLeft, MayLead};
+ghost use Rattle.mapf_plan.specs.Plan.{most_bound};
+
+use crate::dead_ends::DeadEnds;
+use crate::time::is_past;
+use crate::{Constraints, Distances};
+use mapf_grid::{Cell, Map};
+use std::marker::Model;
+
+/// What a search backwards is asked: one agent's own path from its start to its goal on a map, under constraints, at a cost
+/// of at most a limit. It goes by the distances to the start.
+#[derive(Drop)]
+pub struct BackwardQuery<'a> {
+    map: &'a Map,
+    from_start: &'a Distances,
+    constraints: &'a Constraints,
+    /// Read by contracts alone: a cell at distance 0 from the start is the start.
+    start: Cell,
+    goal: Cell,
+    /// Read by contracts alone.
+    limit: u32,
+    /// The last time step at which the goal is forbidden.
+    last: Option<u32>,
+}
+
+impl<'a> Model for BackwardQuery<'a> {
+    ghost use Rattle.mapf_low.specs.Query.{Query};
+    ghost use Rattle.mapf_low.specs.Backwards.{IsPreparedFromStart};
+
+    ghost Value = { Query };
+
+    ghost view = { λ q. record { grid = q.map.now; table = q.from_start.now; constraints = q.constraints.now; start = q.start; goal = q.goal; limit = q.limit } };
+
+    ghost invariant = { λ q. IsPreparedFromStart (record { grid = q.map.now; table = q.from_start.now; constraints = q.constraints.now; start = q.start; goal = q.goal; limit = q.limit }) q.last };
+}
+
+impl<'a> BackwardQuery<'a> {
+    /// Asks for the own path between two cells; `from_start` are the distances to the start on this map.
+    pub fn new(
+        map: &'a Map,
+        from_start: &'a Distances,
+        start: Cell,
+        goal: Cell,
+        constraints: &'a Constraints,
+        limit: u32,
+    ) -> BackwardQuery<'a>
+        requires start { IsFree map.now start }
+        requires goal { IsFree map.now goal }
+        requires from_start { AreDistances map.now start from_start.now }
+        requires limit { limit ≤ most_bound }
+        ensures asks { result ≡ record { grid = map.now; table = from_start.now; constraints = constraints.now; start = start; goal = goal; limit = limit } }
+        ensures posed { IsPosedFromStart result }
+    {
+        // A map's sizes are known from a call alone.
+        let _width = map.width();
+        let last = constraints.last_time_at(goal);
+        BackwardQuery {
+            map,
+            from_start,
+            constraints,
+            start,
+            goal,
+            limit,
+            last,
+        }
+    }
+
+    /// Where the agent ends.
+    pub fn goal(&self) -> Cell
+        ensures goal { result ≡ self.now.goal }
+        ensures posed { IsPosedFromStart self.now }
+    {
+        self.goal
+    }
+
+    /// Whether nothing forbids the goal from this time step on.
+    pub fn may_end(&self, time: u32) -> bool
+        ensures { IsTrue result ↔ MayEnd self.now time }
+    {
+        is_past(self.last, time)
+    }
+
+    /// Whether nothing rules out so far that the agent is on the cell at this time step: the start is near enough, the cell
+    /// is not forbidden, and the state is no dead end.
+    #[inline]
+    pub fn is_left(&self, dead: &DeadEnds, cell: Cell, time: u32) -> bool
+        ensures { IsTrue result ↔ IsLeft self.now dead.now.states time cell }
+    {
+        match self.from_start.get(cell) {
+            Some(distance) => {
+                distance <= time
+                    && self.constraints.allows_at(cell, time)
+                    && !dead.contains(cell, time)
+            }
+            None => false,
+        }
+    }
+
+    /// The cell `from`, where there is one, if nothing rules out so far that the agent is there at this time step, and nothing
+    /// forbids the step from there to `to`.
+    #[inline]
+    fn if_left(&self, dead: &DeadEnds, from: Option<Cell>, to: Cell, time: u32) -> Option<Cell>
+        requires { time < most_bound }
+        ensures { (v : ℕ) → (result ≡ Some v) ↔ ((from ≡ Some v) × MayLead self.now dead.now.states time v to) }
+    {
+        match from {
+            Some(cell)
+                if self.is_left(dead, cell, time)
+                    && self.constraints.allows_step(cell, to, time + 1) => { Some(cell) }
+            _ => None,
+        }
+    }
+
+    /// The smallest cell from which a step leads to `to`, of those where nothing rules out so far that the agent is there at
+    /// this time step; none, if all are ruled out.
+    pub fn smallest_before(&self, dead: &DeadEnds, to: Cell, time: u32) -> Option<Cell>
+        requires free { IsFree self.now.grid to }
+        requires inside { to < cells self.now.grid }
+        requires early { time < most_bound }
+        ensures { IsSmallest (ComesFrom self.now (time + 1) (IsLeft self.now dead.now.states time) to) result }
+    {
+        // The sides in ascending order of their numbers, with the cell itself in the middle.
+        let above = self.if_left(dead, self.map.free_above(to), to, time);
+        if above.is_some() {
+            return above;
+        }
+        let at_left = self.if_left(dead, self.map.free_at_left(to), to, time);
+        if at_left.is_some() {
+            return at_left;
+        }
+        let stays = self.if_left(dead, Some(to), to, time);
+        if stays.is_some() {
+            return stays;
+        }
+        let at_right = self.if_left(dead, self.map.free_at_right(to), to, time);
+        if at_right.is_some() {
+            return at_right;
+        }
+        self.if_left(dead, self.map.free_below(to), to, time)
+    }
+}

@@ -1,0 +1,101 @@
+ghost use Rattle.std.specs.Prelude.{◌≡◌, ℕ, ◌≤◌, List, IfOk, OnOk, IfSome, MatchOption};
+ghost use Rattle.mapf_grid.specs.Grid.{IsFree};
+ghost use Rattle.mapf_low.specs.Backwards.{CanBe, IsLeft, AreDead, IsTraced};
+ghost use Rattle.mapf_low.specs.Constraints.{IsAllowed};
+ghost use Rattle.mapf_low.specs.OwnPath.{IsOwnPath};
+ghost use Rattle.mapf_low.specs.Walk.{AreDistances};
+ghost use Rattle.mapf_plan.specs.Path.{cost};
+ghost use Rattle.mapf_plan.specs.Plan.{most_bound};
+
+use crate::backward_query::BackwardQuery;
+use crate::dead_ends::DeadEnds;
+use crate::{Constraints, Distances};
+use mapf_grid::{Cell, Map, NoMemory};
+use mapf_plan::Path;
+use std::alloc::Global;
+
+/// The least list of steps to the goal that arrives there at this time step, by the smaller cell at the last place where two
+/// differ: read from its end, where each place before is the smallest cell that nothing rules out. `Some(None)`, if no list of
+/// steps does; `None`, if there was no room for a dead end.
+///
+/// What turns out to be a dead end is added to `dead`, and holds for every cost.
+fn trace(
+    alloc: Global,
+    query: &BackwardQuery,
+    end: u32,
+    dead: &mut DeadEnds,
+) -> Result<Option<Option<Path>>, NoMemory>
+    requires end { end ≤ most_bound }
+    requires left { IsLeft query.now dead.old.states end query.now.goal }
+    requires dead { AreDead query.now dead.old.states }
+    ensures path { IfOk result (λ answer. IfSome answer (IsTraced query.now end)) }
+    ensures dead { OnOk result (AreDead query.now dead.new.states) }
+{
+    let mut cells = vec![in alloc; query.goal(); end as usize + 1]?;
+    let mut time = end;
+    while time > 0 {
+        let cell = cells[time as usize];
+        match query.smallest_before(dead, cell, time - 1) {
+            Some(before) => {
+                time -= 1;
+                cells[time as usize] = before;
+            }
+            None => {
+                if dead.is_full() {
+                    return Ok(None);
+                }
+                dead.add(cell, time)?;
+                if time == end {
+                    return Ok(Some(None));
+                }
+                time += 1;
+            }
+        }
+    }
+    Ok(Some(Some(Path::of(cells))))
+}
+
+/// An agent's own path, as [`crate::cheapest`] gives it, by a search backwards: for a rising cost, from the goal at that time
+/// step to the start at time 0. Where it meets no dead end it visits one state a time step.
+///
+/// `from_start` are the distances to the start on this map, and no path that the agent may take costs less than `least`. A
+/// dead end is a cell at a time step from which the search had to turn back. `None` says that it met more than `budget` dead
+/// ends, and nothing of paths; `Some(None)` that there is no path that the agent may take; `Some(Some(path))` is its own path.
+/// Only `NoMemory` is an error.
+pub fn cheapest_backwards(
+    alloc: Global,
+    map: &Map,
+    from_start: &Distances,
+    start: Cell,
+    goal: Cell,
+    constraints: &Constraints,
+    least: u32,
+    bound: u32,
+    budget: usize,
+) -> Result<Option<Option<Path>>, NoMemory>
+    requires start { IsFree map.now start }
+    requires goal { IsFree map.now goal }
+    requires from_start { AreDistances map.now start from_start.now }
+    requires least { (p : List ℕ) → IsAllowed map.now start goal bound constraints.now p → least ≤ cost p }
+    requires bound { bound ≤ most_bound }
+    ensures { IfOk result (λ answer. IfSome answer (λ found. MatchOption found
+        ((p : List ℕ) → ¬ IsAllowed map.now start goal bound constraints.now p)
+        (IsOwnPath map.now start goal bound constraints.now))) }
+{
+    let query = BackwardQuery::new(map, from_start, start, goal, constraints, bound);
+    let Some(nearest) = from_start.get(goal) else {
+        return Ok(Some(None));
+    };
+    let first = least.max(nearest);
+    let mut dead = DeadEnds::new(alloc, budget);
+    for end in first..bound + 1 {
+        if query.may_end(end) && query.is_left(&dead, goal, end) {
+            match trace(alloc, &query, end, &mut dead)? {
+                None => return Ok(None),
+                Some(Some(path)) => return Ok(Some(Some(path))),
+                Some(None) => {}
+            }
+        }
+    }
+    Ok(Some(None))
+}
