@@ -1,11 +1,13 @@
 -- What the child on a side of a node's conflict asks of the low level (Sharon et al. 2015): the agent on that side has one
 -- constraint more, and the other agents keep their paths.
-use Rattle.std.specs.Prelude.{◌≡◌, ℕ, ◌↔◌, ◌⊎◌, List, [], slice_index_or, Option, Some, Contains}
+use Rattle.std.specs.Prelude.{◌≡◌, ℕ, ◌<◌, ◌≤◌, ◌↔◌, ◌⊎◌, List, [], length, slice_index, slice_index_or, Option, Some, Contains}
+use Rattle.mapf_plan.specs.Path.{cost}
 use Rattle.mapf_plan.specs.declared.conflict.Conflict.{Conflict}
 use Rattle.mapf_low.specs.declared.constraint.Constraint.{Constraint}
+use Rattle.mapf_low.specs.Walk.{AreDistances}
 use Rattle.mapf_tree.specs.declared.side.Side.{Side}
 use Rattle.mapf_tree.specs.Problem.{Problem}
-use Rattle.mapf_tree.specs.Tree.{agent_on, constraint_on}
+use Rattle.mapf_tree.specs.Tree.{IsAllowedFor, agent_on, constraint_on}
 use Rattle.mapf_tree.specs.Nodes.{Node}
 use Rattle.mapf_tree.specs.Family.{IsOwnWithin, Leaves}
 
@@ -28,3 +30,18 @@ pub record IsQueryOf (node : Node) (query : SideQuery) : Type 0 where
 -- the own path that a query asks for, or none where there is none
 abbrev pub IsFoundBy : SideQuery → Option (List ℕ) → Type 0
 IsFoundBy query = IsOwnWithin query.problem query.limit query.agent query.constraints
+
+-- each path that the query's agent may take costs at least this
+abbrev pub CostsAtLeast : SideQuery → ℕ → Type 0
+CostsAtLeast query least =
+    (path : List ℕ) → IsAllowedFor (record query.problem { bound = query.limit }) query.agent query.constraints path → least ≤ cost path
+
+-- an agent, and a table of how far each cell of a map is from its start
+pub record FromStart : Type 0 where
+  pub agent : ℕ
+  pub table : List (Option ℕ)
+
+-- it is an agent of the problem, and the table has the distances from its start
+pub record IsFromStart (problem : Problem) (from : FromStart) : Type 0 where
+  pub inside : from.agent < length problem.inst.starts
+  pub distances : AreDistances problem.inst.grid (slice_index problem.inst.starts from.agent) from.table

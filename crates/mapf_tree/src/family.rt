@@ -1,10 +1,11 @@
 //! The members of the constraint tree: its root, and the children of a node.
 
-ghost use Rattle.std.specs.Prelude.{◌<◌, ◌≤◌, [], length, IfOk, None, MatchOption};
+ghost use Rattle.std.specs.Prelude.{◌<◌, ◌≤◌, [], length, IfOk, IfSome, None, MatchOption};
 ghost use Rattle.mapf_plan.specs.Plan.{most_bound};
+ghost use Rattle.mapf_tree.specs.SideQuery.{IsFromStart};
 ghost use Rattle.mapf_tree.specs.Family.{AreRootPaths, IsBranching, IsChildOf, IsOwn, IsOwnWithin, IsRoot};
 
-use crate::{Node, Problem, Side, SideQuery};
+use crate::{FromStart, Node, Problem, Side, SideQuery};
 use mapf_grid::NoMemory;
 use mapf_low::{Constraints, cheapest};
 use mapf_plan::{Path, Plan};
@@ -49,8 +50,23 @@ pub fn child(
     requires { IsBranching problem.now node.now }
     ensures { IfOk result (IsChildOf problem.now node.now side) }
 {
+    child_with(alloc, problem, node, side, None)
+}
+
+/// The same, where the child's path is looked for backwards first if the distances from its agent's start are given.
+pub fn child_with(
+    alloc: Global,
+    problem: &Problem,
+    node: &Node,
+    side: Side,
+    from_start: Option<&FromStart>,
+) -> Result<Option<Node>, NoMemory>
+    requires node { IsBranching problem.now node.now }
+    requires from_start { IfSome from_start (λ f. IsFromStart problem.now f.now) }
+    ensures { IfOk result (IsChildOf problem.now node.now side) }
+{
     let query = SideQuery::of(alloc, problem, node, side)?;
-    let path = match query.own_path(alloc)? {
+    let path = match query.own_path_with(alloc, from_start)? {
         Some(path) => Some(Arc::new(alloc, path)?),
         None => None,
     };

@@ -9,6 +9,7 @@ mod children;
 mod current_paths;
 mod family;
 mod first;
+mod from_start;
 mod key;
 pub mod laws;
 mod limit;
@@ -27,8 +28,9 @@ mod turn;
 
 pub use alone::solve_alone;
 pub use children::{ByChild, Children};
-pub use family::{child, root, root_path, root_with};
+pub use family::{child, child_with, root, root_path, root_with};
 pub use first::First;
+pub use from_start::FromStart;
 pub use key::Key;
 pub use name::Name;
 pub use node::Node;

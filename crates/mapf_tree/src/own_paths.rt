@@ -1,12 +1,13 @@
 //! Own paths that were searched before.
 
-ghost use Rattle.std.specs.Prelude.{◌≡◌, All, option_map, IfOk, IfSome};
+ghost use Rattle.std.specs.Prelude.{◌≡◌, ◌<◌, All, length, option_map, IfOk, IfSome};
 ghost use Rattle.std.specs.Arc.{arc_value};
 ghost use Rattle.mapf_tree.specs.Problem.{Problem};
 ghost use Rattle.mapf_tree.specs.Family.{IsBranching, IsChildOf};
-ghost use Rattle.mapf_tree.specs.SideQuery.{IsFoundBy};
+ghost use Rattle.mapf_tree.specs.SideQuery.{IsFoundBy, IsFromStart};
 
-use crate::{Children, Node, OpenList, Problem, Side, SideQuery};
+use crate::sides::agent_of;
+use crate::{Children, FromStart, Node, OpenList, Problem, Side, SideQuery};
 use mapf_grid::NoMemory;
 use mapf_low::Constraint;
 use mapf_plan::Path;
@@ -60,19 +61,23 @@ impl<'p> Found<'p> {
 #[derive(Drop)]
 struct OfAgent<'p> {
     problem: &'p Problem,
+    /// The distances from the agent's start, once they were asked for.
+    from_start: Option<Arc<FromStart>>,
     found: Vec<Found<'p>>,
     places: HashMap<u64, usize>,
 }
 
 impl<'p> Model for OfAgent<'p> {
-    ghost use Rattle.std.specs.Prelude.{◌≡◌, All};
+    ghost use Rattle.std.specs.Prelude.{◌≡◌, All, IfSome};
+    ghost use Rattle.std.specs.Arc.{arc_value};
     ghost use Rattle.mapf_tree.specs.Problem.{Problem};
+    ghost use Rattle.mapf_tree.specs.SideQuery.{IsFromStart};
 
     ghost Value = { Problem };
 
     ghost view = { λ a. a.problem.now };
 
-    ghost invariant = { λ a. All (λ f. f.problem ≡ a.problem.now) a.found.items };
+    ghost invariant = { λ a. All (λ f. f.problem ≡ a.problem.now) a.found.items × IfSome a.from_start (λ f. IsFromStart a.problem.now (arc_value f)) };
 }
 
 impl<'p> OfAgent<'p> {
@@ -82,9 +87,24 @@ impl<'p> OfAgent<'p> {
     {
         OfAgent {
             problem,
+            from_start: None,
             found: Vec::new(alloc),
             places: HashMap::new(alloc),
         }
+    }
+
+    /// The distances from this agent's start, which are made where they are asked for first. None on a large map, or where memory
+    /// runs out.
+    fn from_start(&mut self, alloc: Global, agent: usize) -> Option<Arc<FromStart>>
+        requires { agent < length self.old.inst.starts }
+        ensures problem { self.new ≡ self.old }
+        ensures start { IfSome result (λ f. IsFromStart self.old (arc_value f)) }
+    {
+        if self.from_start.is_none() {
+            let made = FromStart::of(alloc, self.problem, agent)?;
+            self.from_start = Some(Arc::new(alloc, made).ok()?);
+        }
+        Arc::try_clone(self.from_start.as_ref()?).ok()
     }
 
     /// What a query is answered, where that is known.
@@ -175,6 +195,30 @@ impl<'p> OwnPaths<'p> {
         Ok(Some(query.child(self.alloc, node, path)?))
     }
 
+    /// The distances from the start of the agent on a side of a node's conflict, which are made where they are asked for first.
+    /// None on a map of more than 65,536 cells, or where memory runs out.
+    pub fn from_start(&mut self, node: &Node, side: Side) -> Option<Arc<FromStart>>
+        requires { IsBranching self.old node.now }
+        ensures problem { self.new ≡ self.old }
+        ensures start { IfSome result (λ f. IsFromStart self.old (arc_value f)) }
+    {
+        let conflict = node.conflict().unwrap();
+        self.from_start_of(agent_of(&conflict, side))
+    }
+
+    /// The distances from an agent's start.
+    fn from_start_of(&mut self, agent: usize) -> Option<Arc<FromStart>>
+        requires { agent < length self.old.inst.starts }
+        ensures problem { self.new ≡ self.old }
+        ensures start { IfSome result (λ f. IsFromStart self.old (arc_value f)) }
+    {
+        if agent < self.agents.len() {
+            self.agents[agent].from_start(self.alloc, agent)
+        } else {
+            None
+        }
+    }
+
     /// Remembers the path of a node's child on one side, or that there is no such child, where that was worked out elsewhere.
     /// It is forgotten where memory runs out.
     pub fn learn(&mut self, node: &Node, side: Side, child: &Option<Node>)
@@ -209,7 +253,8 @@ impl<'p> OwnPaths<'p> {
         if let Some(known) = self.known(query) {
             return shared(known);
         }
-        let path = match query.own_path(self.alloc)? {
+        let from_start = self.from_start_of(query.agent());
+        let path = match query.own_path_with(self.alloc, from_start.as_deref())? {
             Some(path) => Some(Arc::new(self.alloc, path)?),
             None => None,
         };

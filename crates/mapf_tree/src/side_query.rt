@@ -8,9 +8,9 @@ ghost use Rattle.mapf_tree.specs.Family.{IsBranching, IsChildOf, Leaves};
 use crate::change::Change;
 use crate::family::own_path;
 use crate::sides::{agent_of, constraint_of};
-use crate::{Node, Problem, Side};
+use crate::{FromStart, Node, Problem, Side};
 use mapf_grid::NoMemory;
-use mapf_low::{Constraint, Constraints};
+use mapf_low::{Constraint, Constraints, cheapest_backwards};
 use mapf_plan::Path;
 use std::alloc::Global;
 use std::marker::Model;
@@ -26,23 +26,28 @@ pub struct SideQuery<'p> {
     constraint: Constraint,
     constraints: Constraints,
     limit: u32,
+    /// What its path costs at least: what it costs at the node, where the agent is forbidden less.
+    least: u32,
 }
+
+/// So many dead ends a search backwards may meet before it is given up.
+const MOST_DEAD_ENDS: usize = 100;
 
 impl<'p> Model for SideQuery<'p> {
     ghost use Rattle.std.specs.Prelude.{◌<◌, ◌≤◌, length};
     ghost use Rattle.mapf_plan.specs.Plan.{most_bound};
     ghost use Rattle.mapf_low.specs.Kept.{HasTwoEnds};
-    ghost use Rattle.mapf_tree.specs.SideQuery.{SideQuery};
+    ghost use Rattle.mapf_tree.specs.SideQuery.{SideQuery, CostsAtLeast};
 
     ghost Value = { SideQuery };
 
     ghost view = { λ q. record { problem = q.problem.now; side = q.side; agent = q.agent; constraint = q.constraint; constraints = q.constraints; limit = q.limit } };
 
-    ghost invariant = { λ q. (q.agent < length q.problem.now.inst.starts) × (q.problem.now.bound ≤ most_bound) × (q.limit ≤ most_bound) × HasTwoEnds q.constraint };
+    ghost invariant = { λ q. (q.agent < length q.problem.now.inst.starts) × (q.problem.now.bound ≤ most_bound) × (q.limit ≤ most_bound) × HasTwoEnds q.constraint × CostsAtLeast (record { problem = q.problem.now; side = q.side; agent = q.agent; constraint = q.constraint; constraints = q.constraints; limit = q.limit }) q.least };
 }
 
 impl<'p> SideQuery<'p> {
-    ghost use Rattle.mapf_tree.specs.SideQuery.{IsQueryOf, IsFoundBy};
+    ghost use Rattle.mapf_tree.specs.SideQuery.{IsQueryOf, IsFoundBy, IsFromStart};
 
     /// The query of a side of a node of the tree.
     pub fn of(
@@ -66,6 +71,7 @@ impl<'p> SideQuery<'p> {
             constraint,
             constraints: node.constraints(alloc, agent)?.and(constraint)?,
             limit: left_for(problem, node, agent),
+            least: node.path(agent).cost(),
         })
     }
 
@@ -80,12 +86,14 @@ impl<'p> SideQuery<'p> {
             constraint: self.constraint,
             constraints: self.constraints.copy()?,
             limit: self.limit,
+            least: self.least,
         })
     }
 
     /// The agent.
     pub(crate) fn agent(&self) -> usize
-        ensures { result ≡ self.now.agent }
+        ensures agent { result ≡ self.now.agent }
+        ensures inside { result < length self.now.problem.inst.starts }
     {
         self.agent
     }
@@ -122,6 +130,49 @@ impl<'p> SideQuery<'p> {
             self.agent,
             &self.constraints,
             self.limit,
+        )
+    }
+
+    /// The same, which is looked for backwards first if the distances from the agent's start are given.
+    pub fn own_path_with(
+        &self,
+        alloc: Global,
+        from_start: Option<&FromStart>,
+    ) -> Result<Option<Path>, NoMemory>
+        requires { IfSome from_start (λ f. IsFromStart self.now.problem f.now) }
+        ensures { IfOk result (IsFoundBy self.now) }
+    {
+        if let Some(from_start) = from_start {
+            if let Some(found) = self.own_path_back(alloc, from_start)? {
+                return Ok(found);
+            }
+        }
+        self.own_path(alloc)
+    }
+
+    /// The same, looked for backwards. None where too many dead ends were met, or the distances are from another start.
+    fn own_path_back(
+        &self,
+        alloc: Global,
+        from_start: &FromStart,
+    ) -> Result<Option<Option<Path>>, NoMemory>
+        requires { IsFromStart self.now.problem from_start.now }
+        ensures { IfOk result (λ answer. IfSome answer (IsFoundBy self.now)) }
+    {
+        if from_start.agent() != self.agent {
+            return Ok(None);
+        }
+        let instance = self.problem.instance();
+        cheapest_backwards(
+            alloc,
+            instance.map(),
+            from_start.distances(),
+            instance.start(self.agent),
+            instance.goal(self.agent),
+            &self.constraints,
+            self.least,
+            self.limit,
+            MOST_DEAD_ENDS,
         )
     }
 

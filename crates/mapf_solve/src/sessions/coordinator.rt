@@ -209,10 +209,11 @@ impl<'p> Coordinator<'p> {
         let Some(slot) = desk.free_slot() else {
             return false;
         };
+        let from_start = self.ready.from_start(node, side);
         let Ok(node) = node.copy(self.alloc) else {
             return true;
         };
-        let job = SideJob::of(self.ahead.problem(), node, side, self.next);
+        let job = SideJob::of(self.ahead.problem(), node, side, self.next, from_start);
         if desk.post(slot, job) {
             self.next = self.next.saturating_add(1);
             self.ahead.set_posted(place, side, slot);

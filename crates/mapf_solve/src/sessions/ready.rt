@@ -1,16 +1,19 @@
 //! The children of the node whose turn it is, and the own paths that are known by then.
 
 ghost use Rattle.std.specs.Prelude.{◌≡◌, IfOk, IfSome};
+ghost use Rattle.std.specs.Arc.{arc_value};
 ghost use Rattle.mapf_tree.specs.Family.{IsBranching, IsChildOf};
+ghost use Rattle.mapf_tree.specs.SideQuery.{IsFromStart};
 ghost use Rattle.mapf_solve.specs.Ahead.{IsKnownOf};
 
 use crate::sessions::ahead::Known;
 use crate::sessions::side_job::Worked;
 use mapf_grid::NoMemory;
-use mapf_tree::{Children, Node, OpenList, OwnPaths, Problem, Side};
+use mapf_tree::{Children, FromStart, Node, OpenList, OwnPaths, Problem, Side};
 use std::alloc::Global;
 use std::marker::Model;
 use std::mem::replace;
+use std::sync::Arc;
 
 /// What is known of the children of the node of a problem's tree whose turn it is, and the own paths that are known.
 ///
@@ -56,6 +59,15 @@ impl<'p> Ready<'p> {
         ensures { IfOk result (λ found. IfSome found (IsChildOf self.now node.now side)) }
     {
         self.own_paths.known_child(node, side)
+    }
+
+    /// The distances from the start of the agent on a side of a node's conflict; none where they aren't to be had.
+    pub(crate) fn from_start(&mut self, node: &Node, side: Side) -> Option<Arc<FromStart>>
+        requires { IsBranching self.old node.now }
+        ensures problem { self.new ≡ self.old }
+        ensures start { IfSome result (λ f. IsFromStart self.old (arc_value f)) }
+    {
+        self.own_paths.from_start(node, side)
     }
 
     /// Remembers the path of a child that was worked out.

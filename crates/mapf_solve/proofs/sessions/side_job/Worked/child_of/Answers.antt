@@ -8,7 +8,7 @@ pub returns-then-is_for : goal.returns-then-is_for
 returns-then-is_for c =
     let is = c.self.view_is in
     used_child c.args.self.job.problem c.args.node.now c.args.side c.self.inside.job c.args.self.job c.self.inside.child
-    (subst (λ (j : WantedChild). IsBranching j.problem j.node) c.job.view_is c.job.invariant)
+    (subst (λ (j : WantedChild). IsBranching j.problem j.node) c.job.view_is c.job.invariant.0)
     c.self.invariant
     (ap (λ (w : SideWorked). w.job) is)
     refl
