@@ -2,10 +2,10 @@
 use Rattle.std.proofs.Common.{◌≡◌, ℕ, zero, suc, ◌<◌, ◌≤◌, ◌+◌, List, max, Some, None, MatchOption, subst, arith}
 use Rattle.mapf_grid.proofs.Decide.{up_to}
 use Rattle.mapf_plan.specs.Path.{cost}
-use Rattle.mapf_low.specs.Backwards.{IsPosedFromStart, CanBe}
+use Rattle.mapf_low.specs.Backwards.{CanBe}
 use Rattle.mapf_low.specs.Constraints.{IsAllowed}
 use Rattle.mapf_low.specs.OwnPath.{IsOwnPath}
-use Rattle.mapf_low.specs.Query.{Query, MayEnd}
+use Rattle.mapf_low.specs.Query.{Query, IsPosed, MayEnd}
 use Rattle.mapf_low.specs.Reached.{EndsAt, IsReconstructed}
 use Rattle.mapf_low.specs.Walk.{distance_at}
 use Rattle.mapf_low.proofs.Arrivals.{is_allowed, own_path, none_arrives}
@@ -15,7 +15,7 @@ use Rattle.mapf_low.proofs.OutOfReach.{can_near, can_be_at, can_covering, trail}
 abbrev pub HasNoneBefore : Query → ℕ → Type 0
 HasNoneBefore query end = (t : ℕ) → t < end → t ≤ query.limit → ¬ EndsAt query (CanBe query) t
 
-module _ (query : Query) (posed : IsPosedFromStart query) where
+module _ (query : Query) (posed : IsPosed query query.start) where
   -- nor at one cost more
   pub none_more : (end : ℕ) → HasNoneBefore query end → (end ≤ query.limit → ¬ EndsAt query (CanBe query) end) → HasNoneBefore query (end + 1)
   none_more end before not t l = up_to (λ k. k ≤ query.limit → ¬ EndsAt query (CanBe query) k) end t l (before t) not

@@ -23,7 +23,7 @@ match_some None Q h = absurd h
 match_some (Some n) Q h = (n, refl)
 
 -- a step changes the distance by one at most
-pub step_apart : (query : Query) (u v m n : ℕ) → IsPosed query → Next query.grid u v → distance_at query.table u ≡ Some m → distance_at query.table v ≡ Some n → m ≤ n + 1
+pub step_apart : (query : Query) (u v m n : ℕ) → IsPosed query query.goal → Next query.grid u v → distance_at query.table u ≡ Some m → distance_at query.table v ≡ Some n → m ≤ n + 1
 step_apart query u v m n posed step at_u at_v =
     let of_u : IsDistance query.grid query.goal u m = distance u m (free_below query.grid u posed.sizes step.0) at_u in
     let of_v : IsDistance query.grid query.goal v n = distance v n (free_below query.grid v posed.sizes step.1) at_v in
@@ -33,7 +33,7 @@ step_apart query u v m n posed step at_u at_v =
     distance w k l e = let P : Option ℕ → Type 0 = λ o. MatchOption o ((n : ℕ) → ¬ IsWalk query.grid w query.goal n) (IsDistance query.grid query.goal w) in subst P e (posed.distances.shortest w l)
 
 -- the goal is on itself
-pub goal_at : (query : Query) → IsPosed query → distance_at query.table query.goal ≡ Some 0
+pub goal_at : (query : Query) → IsPosed query query.goal → distance_at query.table query.goal ≡ Some 0
 goal_at query posed = by (distance_at query.table query.goal) refl (posed.distances.shortest query.goal (free_below query.grid query.goal posed.sizes posed.goal))
   where
     by : (o : Option ℕ) → distance_at query.table query.goal ≡ o → MatchOption o ((n : ℕ) → ¬ IsWalk query.grid query.goal query.goal n) (IsDistance query.grid query.goal query.goal) → distance_at query.table query.goal ≡ Some 0
@@ -55,10 +55,10 @@ pub record AreClasses (query : Query) (limit nearest : ℕ) (C : ℕ → ℕ →
 
 -- what a search from the start to the goal is about
 pub record Ground (query : Query) (nearest : ℕ) : Type 0 where
-  pub posed : IsPosed query
+  pub posed : IsPosed query query.goal
   pub nearest_is : distance_at query.table query.start ≡ Some nearest
 
-pub ground_of : (query : Query) (start nearest : ℕ) (distance : Option ℕ) → IsPosed query → start ≡ query.start → distance ≡ distance_at query.table start → distance ≡ Some nearest → Ground query nearest
+pub ground_of : (query : Query) (start nearest : ℕ) (distance : Option ℕ) → IsPosed query query.goal → start ≡ query.start → distance ≡ distance_at query.table start → distance ≡ Some nearest → Ground query nearest
 ground_of query start nearest distance posed is at some = record { posed = posed; nearest_is = ap (distance_at query.table) (sym is) ∙ (sym at ∙ some) }
 
 module _ (query : Query) (limit nearest : ℕ) (C : ℕ → ℕ → Type 0) (ground : Ground query nearest) where

@@ -13,7 +13,7 @@ use Rattle.mapf_low.proofs.Places.{free_below, rest_walks, obeys_each}
 
 -- what a search is about
 pub record Setting (query : Query) (limit : ℕ) (At : ℕ → ℕ → Type 0) (count : ℕ) : Type 0 where
-  pub posed : IsPosed query
+  pub posed : IsPosed query query.goal
   pub reached_are : AreReached query limit At count
 
 module _ (query : Query) (limit : ℕ) (At : ℕ → ℕ → Type 0) (count : ℕ) (set : Setting query limit At count) where

@@ -11,7 +11,7 @@ use Rattle.mapf_low.proofs.FirstArrival.{Setting, own, none_by_limit}
 use Rattle.mapf_low.proofs.Limits.{own_by_bound}
 use Rattle.mapf_low.proofs.Reading.{are_linked}
 
-module _ (query : Query) (nearest : ℕ) (classes : List (List ℕ)) (posed : IsPosed query) where
+module _ (query : Query) (nearest : ℕ) (classes : List (List ℕ)) (posed : IsPosed query query.goal) where
   pub setting : (end : Option ℕ) → IsSearched query nearest classes end → (count : ℕ) → Setting query (unwrap_or end query.limit) (InClasses query nearest classes) count
   setting end s count = record { posed = posed; reached_are = s.reached count }
 

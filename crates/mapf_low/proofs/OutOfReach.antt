@@ -5,9 +5,9 @@ use Rattle.std.proofs.lemmas.List.{get_or_push, get_or_append_left}
 use Rattle.mapf_grid.specs.Grid.{IsFree}
 use Rattle.mapf_plan.specs.Path.{cost, at}
 use Rattle.mapf_low.specs.declared.constraint.Constraint.TheVariants.{Vertex}
-use Rattle.mapf_low.specs.Backwards.{IsPosedFromStart, CanBe, IsLeft, AreDead}
+use Rattle.mapf_low.specs.Backwards.{CanBe, IsLeft, AreDead}
 use Rattle.mapf_low.specs.Constraints.{IsAllowed}
-use Rattle.mapf_low.specs.Query.{Query}
+use Rattle.mapf_low.specs.Query.{Query, IsPosed}
 use Rattle.mapf_low.specs.Reached.{MayStep, ComesFrom}
 use Rattle.mapf_low.specs.Walk.{IsWalk, IsDistance, distance_at}
 use Rattle.mapf_low.proofs.Arrivals.{IsCovering, IsTrail, step_at}
@@ -46,11 +46,11 @@ module _ (query : Query) where
   near_if t v (Some n) w h = h.least t w
 
   -- so the start is near enough
-  pub can_near : (t v : ℕ) → IsPosedFromStart query → CanBe query t v → MatchOption (distance_at query.table v) ⊥ (λ n. n ≤ t)
+  pub can_near : (t v : ℕ) → IsPosed query query.start → CanBe query t v → MatchOption (distance_at query.table v) ⊥ (λ n. n ≤ t)
   can_near t v posed i = near_if t v (distance_at query.table v) (can_walk t v i) (posed.distances.shortest v (free_below query.grid v posed.sizes (can_free t v posed.start i)))
 
   -- and nothing rules it out
-  pub can_left : (dead : List (ℕ × ℕ)) (t v : ℕ) → IsPosedFromStart query → AreDead query dead → CanBe query t v → IsLeft query dead t v
+  pub can_left : (dead : List (ℕ × ℕ)) (t v : ℕ) → IsPosed query query.start → AreDead query dead → CanBe query t v → IsLeft query dead t v
   can_left dead t v posed out i = (can_near t v posed i, can_allowed t v i, λ c. out v t c i)
 
   -- the places of an allowed path can be reached
@@ -62,7 +62,7 @@ module _ (query : Query) where
       can_next t (at p t) (at p (t + 1)) (λ i. obeys_each query.constraints p a.obeys (Vertex (at p (t + 1)) (t + 1)) i refl) (can_be_at limit p a t (omega (arith, l))) (step_at query limit p a t (omega (arith, l))) in
       subst (λ k. CanBe query k (at p k)) n here
 
-  pub can_covering : (limit count : ℕ) → IsPosedFromStart query → IsCovering query limit (CanBe query) count
+  pub can_covering : (limit count : ℕ) → IsPosed query query.start → IsCovering query limit (CanBe query) count
   can_covering limit count posed = record {
     start = posed.start;
     ends = posed.ends;

@@ -3,9 +3,9 @@ use Rattle.std.proofs.Common.{◌≡◌, ◌≢◌, ◌⊎◌, ℕ, zero, suc, �
 use Rattle.std.proofs.lemmas.Bool.{cases_lt}
 use Rattle.std.proofs.lemmas.List.{length-set, get_or-set_other, get_or-set_same}
 use Rattle.mapf_grid.specs.Grid.{IsFree, cells}
-use Rattle.mapf_low.specs.Backwards.{IsPosedFromStart, CanBe, IsLeft, AreDead, IsJoined, IsTraced}
+use Rattle.mapf_low.specs.Backwards.{CanBe, IsLeft, AreDead, IsJoined, IsTraced}
 use Rattle.mapf_low.specs.Best.{IsSmallest}
-use Rattle.mapf_low.specs.Query.{Query}
+use Rattle.mapf_low.specs.Query.{Query, IsPosed}
 use Rattle.mapf_low.specs.Reached.{MayStep, ComesFrom}
 use Rattle.mapf_low.specs.Walk.{IsWalk, IsDistance, distance_at}
 use Rattle.mapf_low.proofs.OutOfReach.{can_next, can_before, can_left}
@@ -21,7 +21,7 @@ pub record IsPlaced (query : Query) (dead : List (ℕ × ℕ)) (path : List ℕ)
 
 module _ (query : Query) (end : ℕ) where
   -- one cell more, the smallest that is left
-  pub placed_more : (dead : List (ℕ × ℕ)) (path : List ℕ) (t cell u : ℕ) → t < end → IsPosedFromStart query → AreDead query dead → IsPlaced query dead path (t + 1) end → cell ≡ slice_index path (t + 1) →
+  pub placed_more : (dead : List (ℕ × ℕ)) (path : List ℕ) (t cell u : ℕ) → t < end → IsPosed query query.start → AreDead query dead → IsPlaced query dead path (t + 1) end → cell ≡ slice_index path (t + 1) →
       IsSmallest (ComesFrom query (t + 1) (IsLeft query dead t) cell) (Some u) → IsPlaced query dead (set path t u) t end
   placed_more dead path t cell u l posed out h at s = record {
     long = length-set path t u ∙ h.long;
@@ -89,18 +89,18 @@ module _ (query : Query) (end : ℕ) where
           pick (inr e) = let same : t ≡ k = ap (λ (p : ℕ × ℕ). p.1) e in omega (arith, same, m)
 
   -- the cell that was placed last is free, and one of the map's
-  pub placed_free : (dead : List (ℕ × ℕ)) (path : List ℕ) (t : ℕ) → t ≤ end → IsPosedFromStart query → IsPlaced query dead path t end → IsFree query.grid (slice_index path t)
+  pub placed_free : (dead : List (ℕ × ℕ)) (path : List ℕ) (t : ℕ) → t ≤ end → IsPosed query query.start → IsPlaced query dead path t end → IsFree query.grid (slice_index path t)
   placed_free dead path t l posed h = go (cases_lt t end)
     where
       go : (t < end) ⊎ (end ≤ t) → IsFree query.grid (slice_index path t)
       go (inl m) = (h.steps t (omega arith) m).0.0
       go (inr m) = let e : end ≡ t = omega (arith, l, m) in subst (λ k. IsFree query.grid (slice_index path k)) e (subst (IsFree query.grid) (sym h.ends) posed.goal)
 
-  pub placed_inside : (dead : List (ℕ × ℕ)) (path : List ℕ) (t : ℕ) → t ≤ end → IsPosedFromStart query → IsPlaced query dead path t end → slice_index path t < cells query.grid
+  pub placed_inside : (dead : List (ℕ × ℕ)) (path : List ℕ) (t : ℕ) → t ≤ end → IsPosed query query.start → IsPlaced query dead path t end → slice_index path t < cells query.grid
   placed_inside dead path t l posed h = free_below query.grid (slice_index path t) posed.sizes (placed_free dead path t l posed h)
 
   -- down to time 0 each cell can be reached
-  placed_can : (dead : List (ℕ × ℕ)) (path : List ℕ) → IsPosedFromStart query → IsPlaced query dead path 0 end → (t : ℕ) → t ≤ end → CanBe query t (slice_index path t)
+  placed_can : (dead : List (ℕ × ℕ)) (path : List ℕ) → IsPosed query query.start → IsPlaced query dead path 0 end → (t : ℕ) → t ≤ end → CanBe query t (slice_index path t)
   placed_can dead path posed h zero l =
       (walk (distance_at query.table (slice_index path 0)) (h.left 0 (omega arith) l).0 (posed.distances.shortest (slice_index path 0) (placed_inside dead path 0 l posed h)), (h.left 0 (omega arith) l).1)
     where
@@ -114,7 +114,7 @@ module _ (query : Query) (end : ℕ) where
       subst (λ k. CanBe query k (slice_index path k)) n here
 
   -- so the list is the least one
-  pub placed_all : (dead : List (ℕ × ℕ)) (path : List ℕ) → IsPosedFromStart query → IsPlaced query dead path 0 end → IsTraced query end (Some path)
+  pub placed_all : (dead : List (ℕ × ℕ)) (path : List ℕ) → IsPosed query query.start → IsPlaced query dead path 0 end → IsTraced query end (Some path)
   placed_all dead path posed h = (
     record {
       long = h.long;
@@ -124,7 +124,7 @@ module _ (query : Query) (end : ℕ) where
     subst (CanBe query end) h.ends (placed_can dead path posed h end (omega arith)),
   )
 
-module _ (query : Query) (dead : List (ℕ × ℕ)) (t cell : ℕ) (posed : IsPosedFromStart query) (out : AreDead query dead)
+module _ (query : Query) (dead : List (ℕ × ℕ)) (t cell : ℕ) (posed : IsPosed query query.start) (out : AreDead query dead)
     (none : IsSmallest (ComesFrom query (t + 1) (IsLeft query dead t) cell) None) where
   -- where none is left before it, the cell can't be reached
   pub not_can : ¬ CanBe query (t + 1) cell

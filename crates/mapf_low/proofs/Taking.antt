@@ -119,7 +119,7 @@ module _ (table : List (Option ℕ)) (nearest : ℕ) (classes : List (List ℕ))
 
 -- the states of all classes are those that the search takes
 pub all_taken : (query : Query) (nearest : ℕ) (classes : List (List ℕ)) (end : Option ℕ) (found : Option (List ℕ)) (states : List (ℕ × ℕ)) (count : ℕ) →
-    IsPosed query → IsSearched query nearest classes end → IsFound query found → end ≡ option_map cost found →
+    IsPosed query query.goal → IsSearched query nearest classes end → IsFound query found → end ≡ option_map cost found →
     count ≡ length classes → ListsFirst query.table nearest classes count states → AreTakenBy query states
 all_taken query nearest classes end found states count posed searched own ends whole h =
     record { once = h.once; near = near; near_where_none = near_where_none; path = path }

@@ -1,28 +1,10 @@
 -- A search backwards from the goal: where an agent may be at a time step, and what isn't ruled out yet. Its query's table has
 -- the distances to the start.
-use Rattle.std.specs.Prelude.{◌≡◌, ◌⊎◌, ◌↔◌, ℕ, zero, suc, ◌+◌, ◌≤◌, List, Option, MatchOption, All, Contains}
-use Rattle.mapf_grid.specs.Grid.{IsFree, HasSizes}
+use Rattle.std.specs.Prelude.{◌≡◌, ◌⊎◌, ◌↔◌, ℕ, zero, suc, ◌+◌, ◌≤◌, List, Option, MatchOption, Contains}
 use Rattle.mapf_low.specs.declared.constraint.Constraint.TheVariants.{Vertex, Edge}
-use Rattle.mapf_low.specs.Best.{IsGreatest}
-use Rattle.mapf_low.specs.Kept.{HasTwoEnds}
 use Rattle.mapf_low.specs.Query.{Query}
 use Rattle.mapf_low.specs.Reached.{ComesFrom, IsReconstructed}
-use Rattle.mapf_low.specs.Walk.{AreDistances, distance_at}
-use Rattle.mapf_plan.specs.Plan.{most_bound}
-
--- start and goal are free, and the table has the distances to the start
-pub record IsPosedFromStart (query : Query) : Type 0 where
-  pub sizes : HasSizes query.grid
-  pub start : IsFree query.grid query.start
-  pub goal : IsFree query.grid query.goal
-  pub distances : AreDistances query.grid query.start query.table
-  pub ends : All HasTwoEnds query.constraints
-  pub limit : query.limit ≤ most_bound
-
--- the last time at which the goal is forbidden is known
-pub record IsPreparedFromStart (query : Query) (last : Option ℕ) : Type 0 where
-  pub posed : IsPosedFromStart query
-  pub last_is : IsGreatest (λ t. Contains query.constraints (Vertex query.goal t)) last
+use Rattle.mapf_low.specs.Walk.{distance_at}
 
 -- cells at time steps that are known to be out of reach, and how many more may join them
 pub record DeadEnds : Type 0 where

@@ -1,5 +1,5 @@
 -- What the low-level search is asked (Sharon et al. 2015: the low level finds a path for one agent under its constraints).
-use Rattle.std.specs.Prelude.{ℕ, ◌+◌, ◌≤◌, List, Option, MatchOption, Bool, All, Contains}
+use Rattle.std.specs.Prelude.{ℕ, ◌≤◌, List, Option, MatchOption, All, Contains}
 use Rattle.mapf_grid.specs.Grid.{Grid, IsFree, HasSizes}
 use Rattle.mapf_low.specs.declared.constraint.Constraint.{Constraint}
 use Rattle.mapf_low.specs.declared.constraint.Constraint.TheVariants.{Vertex}
@@ -7,7 +7,6 @@ use Rattle.mapf_low.specs.Best.{IsGreatest}
 use Rattle.mapf_low.specs.Constraints.{IsAllowed}
 use Rattle.mapf_low.specs.OwnPath.{IsOwnPath}
 use Rattle.mapf_low.specs.Kept.{HasTwoEnds}
-use Rattle.mapf_low.specs.Times.{AreMarked}
 use Rattle.mapf_low.specs.Walk.{AreDistances}
 use Rattle.mapf_plan.specs.Plan.{most_bound}
 
@@ -20,12 +19,12 @@ pub record Query : Type 0 where
   pub goal : ℕ
   pub limit : ℕ
 
--- start and goal are free, and the table has the distances to the goal
-pub record IsPosed (query : Query) : Type 0 where
+-- start and goal are free, and the table has the distances to this cell, the goal or the start
+pub record IsPosed (query : Query) (cell : ℕ) : Type 0 where
   pub sizes : HasSizes query.grid
   pub start : IsFree query.grid query.start
   pub goal : IsFree query.grid query.goal
-  pub distances : AreDistances query.grid query.goal query.table
+  pub distances : AreDistances query.grid cell query.table
   pub ends : All HasTwoEnds query.constraints
   pub limit : query.limit ≤ most_bound
 
@@ -33,10 +32,9 @@ pub record IsPosed (query : Query) : Type 0 where
 abbrev pub MayEnd : Query → ℕ → Type 0
 MayEnd query t = (s : ℕ) → t ≤ s → ¬ Contains query.constraints (Vertex query.goal s)
 
--- the times of which there is a constraint are marked, and the last one at which the goal is forbidden is known
-pub record IsPrepared (query : Query) (marks : List Bool) (last : Option ℕ) : Type 0 where
-  pub posed : IsPosed query
-  pub marked : AreMarked query.constraints (query.limit + 1) marks
+-- it is posed, and the last time at which the goal is forbidden is known
+pub record IsPrepared (query : Query) (cell : ℕ) (last : Option ℕ) : Type 0 where
+  pub posed : IsPosed query cell
   pub last_is : IsGreatest (λ t. Contains query.constraints (Vertex query.goal t)) last
 
 -- the agent's own path; none exactly where there is no path that it may take

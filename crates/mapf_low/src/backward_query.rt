@@ -2,9 +2,9 @@ ghost use Rattle.std.specs.Prelude.{◌≡◌, ◌↔◌, ℕ, ◌+◌, ◌<◌,
 ghost use Rattle.mapf_grid.specs.Grid.{cells, IsFree};
 ghost use Rattle.mapf_low.specs.Walk.{AreDistances};
 ghost use Rattle.mapf_low.specs.Best.{IsSmallest};
-ghost use Rattle.mapf_low.specs.Query.{MayEnd};
+ghost use Rattle.mapf_low.specs.Query.{IsPosed, MayEnd};
 ghost use Rattle.mapf_low.specs.Reached.{ComesFrom};
-ghost use Rattle.mapf_low.specs.Backwards.{IsPosedFromStart, IsLeft, MayLead};
+ghost use Rattle.mapf_low.specs.Backwards.{IsLeft, MayLead};
 ghost use Rattle.mapf_plan.specs.Plan.{most_bound};
 
 use crate::dead_ends::DeadEnds;
@@ -30,14 +30,13 @@ pub struct BackwardQuery<'a> {
 }
 
 impl<'a> Model for BackwardQuery<'a> {
-    ghost use Rattle.mapf_low.specs.Query.{Query};
-    ghost use Rattle.mapf_low.specs.Backwards.{IsPreparedFromStart};
+    ghost use Rattle.mapf_low.specs.Query.{Query, IsPrepared};
 
     ghost Value = { Query };
 
     ghost view = { λ q. record { grid = q.map.now; table = q.from_start.now; constraints = q.constraints.now; start = q.start; goal = q.goal; limit = q.limit } };
 
-    ghost invariant = { λ q. IsPreparedFromStart (record { grid = q.map.now; table = q.from_start.now; constraints = q.constraints.now; start = q.start; goal = q.goal; limit = q.limit }) q.last };
+    ghost invariant = { λ q. IsPrepared (record { grid = q.map.now; table = q.from_start.now; constraints = q.constraints.now; start = q.start; goal = q.goal; limit = q.limit }) q.start q.last };
 }
 
 impl<'a> BackwardQuery<'a> {
@@ -55,7 +54,7 @@ impl<'a> BackwardQuery<'a> {
         requires from_start { AreDistances map.now start from_start.now }
         requires limit { limit ≤ most_bound }
         ensures asks { result ≡ record { grid = map.now; table = from_start.now; constraints = constraints.now; start = start; goal = goal; limit = limit } }
-        ensures posed { IsPosedFromStart result }
+        ensures posed { IsPosed result result.start }
     {
         // A map's sizes are known from a call alone.
         let _width = map.width();
@@ -74,7 +73,7 @@ impl<'a> BackwardQuery<'a> {
     /// Where the agent ends.
     pub fn goal(&self) -> Cell
         ensures goal { result ≡ self.now.goal }
-        ensures posed { IsPosedFromStart self.now }
+        ensures posed { IsPosed self.now self.now.start }
     {
         self.goal
     }

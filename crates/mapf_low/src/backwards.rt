@@ -13,17 +13,20 @@ use crate::{Constraints, Distances};
 use mapf_grid::{Cell, Map, NoMemory};
 use mapf_plan::Path;
 use std::alloc::Global;
+use std::mem::replace;
 
 /// The least list of steps to the goal that arrives there at this time step, by the smaller cell at the last place where two
 /// differ: read from its end, where each place before is the smallest cell that nothing rules out. `Some(None)`, if no list of
 /// steps does; `None`, if there was no room for a dead end.
 ///
-/// What turns out to be a dead end is added to `dead`, and holds for every cost.
+/// What turns out to be a dead end is added to `dead`, and holds for every cost. `cells` is room for the list, whatever it has:
+/// it is kept for the next cost, or goes out with the path.
 fn trace(
     alloc: Global,
     query: &BackwardQuery,
     end: u32,
     dead: &mut DeadEnds,
+    cells: &mut Vec<Cell>,
 ) -> Result<Option<Option<Path>>, NoMemory>
     requires end { end ≤ most_bound }
     requires left { IsLeft query.now dead.old.states end query.now.goal }
@@ -31,7 +34,12 @@ fn trace(
     ensures path { IfOk result (λ answer. IfSome answer (IsTraced query.now end)) }
     ensures dead { OnOk result (AreDead query.now dead.new.states) }
 {
-    let mut cells = vec![in alloc; query.goal(); end as usize + 1]?;
+    let goal = query.goal();
+    let count = end as usize + 1;
+    // A path is kept for long, so it gets no room to spare.
+    cells.reserve_exact(count.saturating_sub(cells.len()))?;
+    cells.resize(count, goal)?;
+    cells[end as usize] = goal;
     let mut time = end;
     while time > 0 {
         let cell = cells[time as usize];
@@ -52,7 +60,7 @@ fn trace(
             }
         }
     }
-    Ok(Some(Some(Path::of(cells))))
+    Ok(Some(Some(Path::of(replace(cells, Vec::new(alloc))))))
 }
 
 /// An agent's own path, as [`crate::cheapest`] gives it, by a search backwards: for a rising cost, from the goal at that time
@@ -88,9 +96,10 @@ pub fn cheapest_backwards(
     };
     let first = least.max(nearest);
     let mut dead = DeadEnds::new(alloc, budget);
+    let mut cells = Vec::new(alloc);
     for end in first..bound + 1 {
         if query.may_end(end) && query.is_left(&dead, goal, end) {
-            match trace(alloc, &query, end, &mut dead)? {
+            match trace(alloc, &query, end, &mut dead, &mut cells)? {
                 None => return Ok(None),
                 Some(Some(path)) => return Ok(Some(Some(path))),
                 Some(None) => {}

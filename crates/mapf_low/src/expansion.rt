@@ -87,7 +87,7 @@ fn expand_within(query: &Query, sum: u32, from: Cell, class: &mut Class) -> Resu
 
 /// Empties a class: expands all its states within it.
 pub fn expand_class(query: &Query, sum: u32, class: &mut Class) -> Result<(), NoMemory>
-    requires posed { IsPosed query.now }
+    requires posed { IsPosed query.now query.now.goal }
     requires placed { ArePlaced query.now sum class.old }
     requires sum { sum ≤ query.now.limit }
     ensures closes { OnOk result (Closes query.now sum class.old class.new) }

@@ -30,13 +30,15 @@ pub struct Query<'a> {
 }
 
 impl<'a> Model for Query<'a> {
+    ghost use Rattle.std.specs.Prelude.{◌+◌};
     ghost use Rattle.mapf_low.specs.Query.{Query, IsPrepared};
+    ghost use Rattle.mapf_low.specs.Times.{AreMarked};
 
     ghost Value = { Query };
 
     ghost view = { λ q. record { grid = q.map.now; table = q.distances.now; constraints = q.constraints.now; start = q.start; goal = q.goal; limit = q.limit } };
 
-    ghost invariant = { λ q. IsPrepared (record { grid = q.map.now; table = q.distances.now; constraints = q.constraints.now; start = q.start; goal = q.goal; limit = q.limit }) q.busy_times.items q.last };
+    ghost invariant = { λ q. IsPrepared (record { grid = q.map.now; table = q.distances.now; constraints = q.constraints.now; start = q.start; goal = q.goal; limit = q.limit }) q.goal q.last × AreMarked q.constraints.now (q.limit + 1) q.busy_times.items };
 }
 
 impl<'a> Query<'a> {
@@ -59,7 +61,7 @@ impl<'a> Query<'a> {
         requires distances { AreDistances map.now goal distances.now }
         requires limit { limit ≤ most_bound }
         ensures asks { IfOk result (λ q. q ≡ record { grid = map.now; table = distances.now; constraints = constraints.now; start = start; goal = goal; limit = limit }) }
-        ensures posed { IfOk result IsPosed }
+        ensures posed { IfOk result (λ q. IsPosed q q.goal) }
     {
         // A map's sizes are known from a call alone.
         let _width = map.width();
@@ -94,7 +96,7 @@ impl<'a> Query<'a> {
     /// What its path may cost at most.
     pub fn limit(&self) -> u32
         ensures limit { result ≡ self.now.limit }
-        ensures posed { IsPosed self.now }
+        ensures posed { IsPosed self.now self.now.goal }
     {
         self.limit
     }

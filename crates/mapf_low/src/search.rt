@@ -49,7 +49,7 @@ fn first_room(nearest: u32) -> usize {
 /// Takes the states, cells at time steps, by rising sum of time and distance to the goal, class by class, up to the first
 /// in which the agent can end; that one is emptied too.
 pub fn search(alloc: Global, query: &Query) -> Result<Searched, NoMemory>
-    ensures posed { IsPosed query.now }
+    ensures posed { IsPosed query.now query.now.goal }
     ensures searched { IfOk result (λ s. IsSearched query.now s.nearest s.classes.items s.end) }
 {
     let limit = query.limit();
