@@ -1,5 +1,5 @@
 -- Conflicts at one time step.
-use Rattle.std.proofs.Common.{◌≡◌, ℕ, ◌+◌, ◌-◌, ◌<◌, ◌≤◌, List, [], ◌∷◌, length, min, max, inl, inr, ◌⊎◌, MatchOption, refl, subst, sym, ap, ap₂, ◌∙◌, ⊎_elim, arith}
+use Rattle.std.proofs.Common.{◌≡◌, ◌≢◌, ℕ, ◌+◌, ◌-◌, ◌<◌, ◌≤◌, List, [], ◌∷◌, length, min, max, inl, inr, ◌⊎◌, MatchOption, refl, subst, sym, ap, ap₂, ◌∙◌, ⊎_elim, arith}
 use Rattle.std.specs.Prelude.{Option, Some, None, ⊤}
 use Rattle.std.proofs.lemmas.Bool.{cases_lt}
 use Rattle.mapf_plan.specs.declared.conflict.Conflict.{Conflict}
@@ -178,6 +178,21 @@ module _ (rule : Rule) (plan : List (List ℕ)) (i j : ℕ) (p q : List ℕ) whe
   first_of_together t e None of_i of_j l m same h =
       absurd (not_together rule plan i j (t + 1) t l m h (omega arith) (sym (ap (λ p. at p t) of_i) ∙ same ∙ ap (λ q. at q t) of_j))
   first_of_together t e (Some c) of_i of_j l m same h = h
+
+-- the same, whichever of the two agents has the smaller number
+pub none_while_two_apart : (rule : Rule) (plan : List (List ℕ)) (a b : ℕ) (p q : List ℕ) (s e : ℕ) → p ≡ path_of plan a → q ≡ path_of plan b → b ≢ a
+    → NoneBefore conflict_rank (IsConflictOfPair rule plan (min a b) (max a b)) (s ∷ []) → ((t : ℕ) → s ≤ t → t < e → AreApart p q t)
+    → NoneBefore conflict_rank (IsConflictOfPair rule plan (min a b) (max a b)) (e ∷ [])
+none_while_two_apart rule plan a b p q s e of_a of_b two none apart =
+    ⊎_elim
+    (λ l.
+    let low : a ≡ min a b = omega (arith, l) in let high : b ≡ max a b = omega (arith, l) in
+    none_while_apart rule plan (min a b) (max a b) p q s e (of_a ∙ ap (path_of plan) low) (of_b ∙ ap (path_of plan) high) (omega (arith, l)) none apart)
+    (λ l.
+    let low : b ≡ min a b = omega (arith, l, two) in let high : a ≡ max a b = omega (arith, l, two) in
+    none_while_apart rule plan (min a b) (max a b) q p s e (of_b ∙ ap (path_of plan) low) (of_a ∙ ap (path_of plan) high) (omega (arith, l, two)) none
+    (λ t from to. let h = apart t from to in record { same = λ e. h.same (sym e); one = h.other; other = h.one }))
+    (cases_lt a b)
 
 -- two agents that have no conflict before both rest have none at any time, so what was found by then is found by any end
 pub found_by_rest : (rule : Rule) (plan : List (List ℕ)) (i j b s e : ℕ) (found : Option Conflict) → cost (path_of plan i) ≤ b → cost (path_of plan j) ≤ b → s ≡ min e (b + 1)

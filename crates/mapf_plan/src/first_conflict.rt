@@ -1,6 +1,6 @@
 //! The first conflict of a plan: by time steps as far as most plans need it, and by pairs of agents from there on.
 
-ghost use Rattle.std.specs.Prelude.{◌≡◌, ◌≢◌, ◌⊎◌, ◌+◌, ◌<◌, ◌≤◌, min, max, [], ◌∷◌, length, MatchOption, ⊤};
+ghost use Rattle.std.specs.Prelude.{◌≡◌, ◌≢◌, ◌⊎◌, ◌+◌, ◌<◌, ◌≤◌, min, max, [], ◌∷◌, length, MatchOption, IsFalse, ⊤};
 ghost use Rattle.mapf_grid.specs.Least.{NoneBefore};
 ghost use Rattle.mapf_plan.specs.declared.conflict.Conflict.{Conflict};
 ghost use Rattle.mapf_plan.specs.declared.rule.Rule.{Rule};
@@ -57,13 +57,38 @@ fn first_with<P: AgentPaths>(
         if other == agent {
             continue;
         }
+        if !may_be_earlier(plan, rule, agent, other, from, end, &known) {
+            continue;
+        }
         known = earlier_with(plan, rule, agent, other, from, end, known);
     }
     known
 }
 
-/// The conflict that is known, or an earlier one of this agent with the other. Two that are apart in all of these time steps
-/// have none.
+/// Whether this agent may have a conflict with the other that comes before the one that is known; not where the two are apart up
+/// to there.
+fn may_be_earlier<P: AgentPaths>(
+    plan: &P,
+    rule: Rule,
+    agent: usize,
+    other: usize,
+    from: u32,
+    end: u32,
+    known: &Option<Conflict>,
+) -> bool
+    requires agent { agent < length (P.paths plan.now) }
+    requires other { other < length (P.paths plan.now) }
+    requires two { other ≢ agent }
+    requires before { NoneBefore conflict_rank (IsConflict rule (P.paths plan.now)) (from ∷ []) }
+    requires conflict { MatchOption known.now ⊤ (IsConflictBefore rule (P.paths plan.now) end) }
+    ensures { IsFalse result → (c : Conflict) → IsConflictOfPair rule (P.paths plan.now) (min agent other) (max agent other) c → conflict_time c < end
+        → ¬ IsEarlier c known.now }
+{
+    may_meet(plan.path(agent), plan.path(other), from, end_by(known, end))
+}
+
+/// The conflict that is known, or an earlier one of this agent with the other.
+#[inline(never)]
 fn earlier_with<P: AgentPaths>(
     plan: &P,
     rule: Rule,
@@ -85,9 +110,6 @@ fn earlier_with<P: AgentPaths>(
 {
     let (first, second) = (agent.min(other), agent.max(other));
     let end = end_by(&known, end);
-    if !may_meet(plan.path(first), plan.path(second), from, end) {
-        return known;
-    }
     earlier(known, first_of_pair(plan, rule, first, second, from, end))
 }
 

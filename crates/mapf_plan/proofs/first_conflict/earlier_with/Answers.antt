@@ -1,24 +1,9 @@
-use Rattle.std.proofs.Common.{◌<◌, ⊎_elim, arith, sym, ◌∙◌}
+use Rattle.std.proofs.Common.{◌<◌, ⊎_elim, sym, ◌∙◌}
 use Rattle.std.proofs.lemmas.Bool.{cases_lt}
 use Rattle.mapf_plan.specs.Plan.{conflict_time}
 use Rattle.mapf_plan.specs.FirstConflict.{IsConflictBefore, IsConflictOfPair}
-use Rattle.mapf_plan.proofs.Steps.{of_either, found_that, found_first, some_before, that_is_within, none_while_apart}
+use Rattle.mapf_plan.proofs.Steps.{of_either, found_that, found_first, some_before, that_is_within}
 use Rattle.mapf_plan.proofs.first_conflict.earlier_with.Goals as goal
-
-pub returns-then-not-may_meet : goal.returns-then-not-may_meet
-returns-then-not-may_meet g c =
-    let rule = c.args.rule in let plan = g.P.AgentPaths.paths c.args.plan.now in let i = c.min-first.result in let j = c.max-second.result in
-    let end = c.end_by-end.result in record {
-      conflict = c.requires.conflict;
-      keeps = λ d before. before;
-      first = λ d is soon before.
-          let of_pair : IsConflictOfPair rule plan i j d = (is.0, is.1 ∙ sym c.min-first.ensures, is.2 ∙ sym c.max-second.ensures) in
-          ⊎_elim (λ m.
-          some_before rule plan i j end d of_pair m
-          (none_while_apart rule plan i j c.path.result.now c.path-2.result.now c.args.from end c.path.ensures c.path-2.ensures (omega (arith, c.requires.two, c.min-first.ensures, c.max-second.ensures))
-          (λ e of sooner. c.requires.before e of.0 sooner) (c.may_meet.ensures c.if-not-may_meet.true)))
-          (λ m. c.end_by-end.ensures.later d soon m before) (cases_lt (conflict_time d) end);
-    }
 
 pub returns : goal.returns
 returns g c =
