@@ -1,6 +1,6 @@
 -- What the child on a side of a node's conflict asks of the low level (Sharon et al. 2015): the agent on that side has one
 -- constraint more, and the other agents keep their paths.
-use Rattle.std.specs.Prelude.{◌≡◌, ℕ, ◌<◌, ◌≤◌, ◌↔◌, ◌⊎◌, List, [], length, slice_index, slice_index_or, Option, Some, Contains}
+use Rattle.std.specs.Prelude.{◌≡◌, ℕ, ◌<◌, ◌≤◌, ◌↔◌, ◌⊎◌, List, [], length, slice_index, slice_index_or, Option, Some, IfSome, Contains}
 use Rattle.mapf_plan.specs.Path.{cost}
 use Rattle.mapf_plan.specs.declared.conflict.Conflict.{Conflict}
 use Rattle.mapf_low.specs.declared.constraint.Constraint.{Constraint}
@@ -36,12 +36,12 @@ abbrev pub CostsAtLeast : SideQuery → ℕ → Type 0
 CostsAtLeast query least =
     (path : List ℕ) → IsAllowedFor (record query.problem { bound = query.limit }) query.agent query.constraints path → least ≤ cost path
 
--- an agent, and a table of how far each cell of a map is from its start
+-- an agent, and a table of how far each cell of a map is from its start, if there is one
 pub record FromStart : Type 0 where
   pub agent : ℕ
-  pub table : List (Option ℕ)
+  pub table : Option (List (Option ℕ))
 
--- it is an agent of the problem, and the table has the distances from its start
+-- it is an agent of the problem, and the table, if there is one, has the distances from the agent's start
 pub record IsFromStart (problem : Problem) (from : FromStart) : Type 0 where
   pub inside : from.agent < length problem.inst.starts
-  pub distances : AreDistances problem.inst.grid (slice_index problem.inst.starts from.agent) from.table
+  pub distances : IfSome from.table (AreDistances problem.inst.grid (slice_index problem.inst.starts from.agent))

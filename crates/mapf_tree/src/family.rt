@@ -1,8 +1,8 @@
 //! The members of the constraint tree: its root, and the children of a node.
 
-ghost use Rattle.std.specs.Prelude.{◌<◌, ◌≤◌, [], length, IfOk, IfSome, None, MatchOption};
+ghost use Rattle.std.specs.Prelude.{◌<◌, ◌≤◌, [], length, IfOk, None, MatchOption};
 ghost use Rattle.mapf_plan.specs.Plan.{most_bound};
-ghost use Rattle.mapf_tree.specs.SideQuery.{IsFromStart};
+ghost use Rattle.mapf_tree.specs.SideQuery.{IsFoundBy, IsFromStart, IsQueryOf};
 ghost use Rattle.mapf_tree.specs.Family.{AreRootPaths, IsBranching, IsChildOf, IsOwn, IsOwnWithin, IsRoot};
 
 use crate::{FromStart, Node, Problem, Side, SideQuery};
@@ -50,23 +50,41 @@ pub fn child(
     requires { IsBranching problem.now node.now }
     ensures { IfOk result (IsChildOf problem.now node.now side) }
 {
-    child_with(alloc, problem, node, side, None)
+    let query = SideQuery::of(alloc, problem, node, side)?;
+    let path = query.own_path(alloc)?;
+    child_from(alloc, query, node, path)
 }
 
-/// The same, where the child's path is looked for backwards first if the distances from its agent's start are given.
+/// The same, where the child's path is looked for backwards first if there is a table of distances from its agent's start.
 pub fn child_with(
     alloc: Global,
     problem: &Problem,
     node: &Node,
     side: Side,
-    from_start: Option<&FromStart>,
+    from_start: &FromStart,
 ) -> Result<Option<Node>, NoMemory>
     requires node { IsBranching problem.now node.now }
-    requires from_start { IfSome from_start (λ f. IsFromStart problem.now f.now) }
+    requires from_start { IsFromStart problem.now from_start.now }
     ensures { IfOk result (IsChildOf problem.now node.now side) }
 {
     let query = SideQuery::of(alloc, problem, node, side)?;
-    let path = match query.own_path_with(alloc, from_start)? {
+    let path = query.own_path_with(alloc, from_start)?;
+    child_from(alloc, query, node, path)
+}
+
+/// The child that a query is for, from the own path that it asks for.
+fn child_from(
+    alloc: Global,
+    query: SideQuery<'_>,
+    node: &Node,
+    path: Option<Path>,
+) -> Result<Option<Node>, NoMemory>
+    requires node { IsBranching query.problem node.now }
+    requires query { IsQueryOf node.now query }
+    requires path { IsFoundBy query path }
+    ensures { IfOk result (IsChildOf query.entry.problem node.now query.entry.side) }
+{
+    let path = match path {
         Some(path) => Some(Arc::new(alloc, path)?),
         None => None,
     };

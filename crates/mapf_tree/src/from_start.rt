@@ -1,45 +1,83 @@
 //! Distances from an agent's start, by which its paths are looked for backwards.
 
-ghost use Rattle.std.specs.Prelude.{◌≡◌, ◌<◌, length, IfSome};
+ghost use Rattle.std.specs.Prelude.{◌≡◌, ◌<◌, length, slice_index, option_map, IfSome, None};
+ghost use Rattle.std.specs.Arc.{arc_value};
+ghost use Rattle.mapf_low.specs.Walk.{AreDistances};
+ghost use Rattle.mapf_tree.specs.Problem.{Problem};
 ghost use Rattle.mapf_tree.specs.SideQuery.{IsFromStart};
 
 use crate::Problem;
 use mapf_low::Distances;
 use std::alloc::Global;
 use std::marker::Model;
+use std::sync::Arc;
 
 /// The most cells of a map on which paths are looked for backwards: on a larger one a table of distances costs more than the
 /// searches that it helps.
 const MOST_CELLS: u32 = 65_536;
 
-/// How far each cell of a map is from the start of an agent.
-#[derive(Drop)]
+/// How far each cell of a map is from the start of an agent, in a table that is shared; or an agent without a table.
 pub struct FromStart {
     agent: usize,
-    distances: Distances,
+    distances: Option<Arc<Distances>>,
+}
+
+// By hand, so that a proof about what holds one sees a call where it is dropped, and not a case with a table and one without.
+impl Drop for FromStart {
+    fn drop(self) {
+        let FromStart {
+            agent: _,
+            distances: _,
+        } = self;
+    }
 }
 
 impl Model for FromStart {
+    ghost use Rattle.std.specs.Prelude.{option_map};
+    ghost use Rattle.std.specs.Arc.{arc_value};
     ghost use Rattle.mapf_tree.specs.SideQuery.{FromStart};
 
     ghost Value = { FromStart };
 
-    ghost view = { λ f. record { agent = f.agent; table = f.distances } };
+    ghost view = { λ f. record { agent = f.agent; table = option_map arc_value f.distances } };
 }
 
 impl FromStart {
-    /// The distances from the start of an agent of a problem. None where the map has more than 65,536 cells, or memory runs out.
-    pub(crate) fn of(alloc: Global, problem: &Problem, agent: usize) -> Option<FromStart>
+    /// The distances from the start of an agent of a problem. Without a table where the map has more than 65,536 cells, or
+    /// memory runs out.
+    pub(crate) fn of(alloc: Global, problem: &Problem, agent: usize) -> FromStart
         requires { agent < length problem.now.inst.starts }
-        ensures { IfSome result (IsFromStart problem.now) }
+        ensures { IsFromStart problem.now result }
     {
-        let instance = problem.instance();
-        let map = instance.map();
-        if map.height() * map.width() > MOST_CELLS {
-            return None;
+        FromStart {
+            agent,
+            distances: table_of(alloc, problem, agent),
         }
-        let distances = Distances::to(alloc, map, instance.start(agent)).ok()?;
-        Some(FromStart { agent, distances })
+    }
+
+    /// An agent without a table.
+    pub(crate) fn none(agent: usize) -> FromStart
+        ensures { result ≡ record { agent = agent; table = None } }
+    {
+        FromStart {
+            agent,
+            distances: None,
+        }
+    }
+
+    /// The same, shared once more. Without a table where it can't be shared more often.
+    pub(crate) fn share(&self) -> FromStart
+        ensures { (p : Problem) → IsFromStart p self.now → IsFromStart p result }
+    {
+        if let Some(distances) = &self.distances {
+            if let Ok(shared) = Arc::try_clone(distances) {
+                return FromStart {
+                    agent: self.agent,
+                    distances: Some(shared),
+                };
+            }
+        }
+        FromStart::none(self.agent)
     }
 
     /// The agent.
@@ -49,10 +87,25 @@ impl FromStart {
         self.agent
     }
 
-    /// The distances.
-    pub(crate) fn distances(&self) -> &Distances
-        ensures { result.now ≡ self.now.table }
+    /// The distances, if there is a table.
+    pub(crate) fn distances(&self) -> Option<&Distances>
+        ensures { option_map (λ d. d.now) result ≡ self.now.table }
     {
-        &self.distances
+        self.distances.as_deref()
     }
+}
+
+/// A table of the distances from the start of an agent of a problem. None where the map has more than 65,536 cells, or memory
+/// runs out.
+fn table_of(alloc: Global, problem: &Problem, agent: usize) -> Option<Arc<Distances>>
+    requires { agent < length problem.now.inst.starts }
+    ensures { IfSome result (λ d. AreDistances problem.now.inst.grid (slice_index problem.now.inst.starts agent) (arc_value d)) }
+{
+    let instance = problem.instance();
+    let map = instance.map();
+    if map.height() * map.width() > MOST_CELLS {
+        return None;
+    }
+    let distances = Distances::to(alloc, map, instance.start(agent)).ok()?;
+    Arc::new(alloc, distances).ok()
 }

@@ -62,14 +62,13 @@ impl<'p> Found<'p> {
 struct OfAgent<'p> {
     problem: &'p Problem,
     /// The distances from the agent's start, once they were asked for.
-    from_start: Option<Arc<FromStart>>,
+    from_start: Option<FromStart>,
     found: Vec<Found<'p>>,
     places: HashMap<u64, usize>,
 }
 
 impl<'p> Model for OfAgent<'p> {
     ghost use Rattle.std.specs.Prelude.{◌≡◌, All, IfSome};
-    ghost use Rattle.std.specs.Arc.{arc_value};
     ghost use Rattle.mapf_tree.specs.Problem.{Problem};
     ghost use Rattle.mapf_tree.specs.SideQuery.{IsFromStart};
 
@@ -77,7 +76,7 @@ impl<'p> Model for OfAgent<'p> {
 
     ghost view = { λ a. a.problem.now };
 
-    ghost invariant = { λ a. All (λ f. f.problem ≡ a.problem.now) a.found.items × IfSome a.from_start (λ f. IsFromStart a.problem.now (arc_value f)) };
+    ghost invariant = { λ a. All (λ f. f.problem ≡ a.problem.now) a.found.items × IfSome a.from_start (IsFromStart a.problem.now) };
 }
 
 impl<'p> OfAgent<'p> {
@@ -93,18 +92,20 @@ impl<'p> OfAgent<'p> {
         }
     }
 
-    /// The distances from this agent's start, which are made where they are asked for first. None on a large map, or where memory
-    /// runs out.
-    fn from_start(&mut self, alloc: Global, agent: usize) -> Option<Arc<FromStart>>
+    /// The distances from this agent's start, which are made where they are asked for first. Without a table on a large map, or
+    /// where memory ran out.
+    fn from_start(&mut self, alloc: Global, agent: usize) -> FromStart
         requires { agent < length self.old.inst.starts }
         ensures problem { self.new ≡ self.old }
-        ensures start { IfSome result (λ f. IsFromStart self.old (arc_value f)) }
+        ensures start { IsFromStart self.old result }
     {
-        if self.from_start.is_none() {
-            let made = FromStart::of(alloc, self.problem, agent)?;
-            self.from_start = Some(Arc::new(alloc, made).ok()?);
+        if let Some(known) = &self.from_start {
+            return known.share();
         }
-        Arc::try_clone(self.from_start.as_ref()?).ok()
+        let made = FromStart::of(alloc, self.problem, agent);
+        let shared = made.share();
+        self.from_start = Some(made);
+        shared
     }
 
     /// What a query is answered, where that is known.
@@ -196,26 +197,26 @@ impl<'p> OwnPaths<'p> {
     }
 
     /// The distances from the start of the agent on a side of a node's conflict, which are made where they are asked for first.
-    /// None on a map of more than 65,536 cells, or where memory runs out.
-    pub fn from_start(&mut self, node: &Node, side: Side) -> Option<Arc<FromStart>>
+    /// Without a table on a map of more than 65,536 cells, or where memory ran out.
+    pub fn from_start(&mut self, node: &Node, side: Side) -> FromStart
         requires { IsBranching self.old node.now }
         ensures problem { self.new ≡ self.old }
-        ensures start { IfSome result (λ f. IsFromStart self.old (arc_value f)) }
+        ensures start { IsFromStart self.old result }
     {
         let conflict = node.conflict().unwrap();
         self.from_start_of(agent_of(&conflict, side))
     }
 
     /// The distances from an agent's start.
-    fn from_start_of(&mut self, agent: usize) -> Option<Arc<FromStart>>
+    fn from_start_of(&mut self, agent: usize) -> FromStart
         requires { agent < length self.old.inst.starts }
         ensures problem { self.new ≡ self.old }
-        ensures start { IfSome result (λ f. IsFromStart self.old (arc_value f)) }
+        ensures start { IsFromStart self.old result }
     {
         if agent < self.agents.len() {
             self.agents[agent].from_start(self.alloc, agent)
         } else {
-            None
+            FromStart::none(agent)
         }
     }
 
@@ -254,7 +255,7 @@ impl<'p> OwnPaths<'p> {
             return shared(known);
         }
         let from_start = self.from_start_of(query.agent());
-        let path = match query.own_path_with(self.alloc, from_start.as_deref())? {
+        let path = match query.own_path_with(self.alloc, &from_start)? {
             Some(path) => Some(Arc::new(self.alloc, path)?),
             None => None,
         };

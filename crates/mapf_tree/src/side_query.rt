@@ -133,24 +133,23 @@ impl<'p> SideQuery<'p> {
         )
     }
 
-    /// The same, which is looked for backwards first if the distances from the agent's start are given.
+    /// The same, which is looked for backwards first if there is a table of distances from the agent's start.
     pub fn own_path_with(
         &self,
         alloc: Global,
-        from_start: Option<&FromStart>,
+        from_start: &FromStart,
     ) -> Result<Option<Path>, NoMemory>
-        requires { IfSome from_start (λ f. IsFromStart self.now.problem f.now) }
+        requires { IsFromStart self.now.problem from_start.now }
         ensures { IfOk result (IsFoundBy self.now) }
     {
-        if let Some(from_start) = from_start {
-            if let Some(found) = self.own_path_back(alloc, from_start)? {
-                return Ok(found);
-            }
+        match self.own_path_back(alloc, from_start)? {
+            Some(found) => Ok(found),
+            None => self.own_path(alloc),
         }
-        self.own_path(alloc)
     }
 
-    /// The same, looked for backwards. None where too many dead ends were met, or the distances are from another start.
+    /// The same, looked for backwards. None where too many dead ends were met, where there is no table, or where its distances
+    /// are from another start.
     fn own_path_back(
         &self,
         alloc: Global,
@@ -159,6 +158,9 @@ impl<'p> SideQuery<'p> {
         requires { IsFromStart self.now.problem from_start.now }
         ensures { IfOk result (λ answer. IfSome answer (IsFoundBy self.now)) }
     {
+        let Some(distances) = from_start.distances() else {
+            return Ok(None);
+        };
         if from_start.agent() != self.agent {
             return Ok(None);
         }
@@ -166,7 +168,7 @@ impl<'p> SideQuery<'p> {
         cheapest_backwards(
             alloc,
             instance.map(),
-            from_start.distances(),
+            distances,
             instance.start(self.agent),
             instance.goal(self.agent),
             &self.constraints,

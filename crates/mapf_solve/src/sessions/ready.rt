@@ -1,7 +1,6 @@
 //! The children of the node whose turn it is, and the own paths that are known by then.
 
 ghost use Rattle.std.specs.Prelude.{◌≡◌, IfOk, IfSome};
-ghost use Rattle.std.specs.Arc.{arc_value};
 ghost use Rattle.mapf_tree.specs.Family.{IsBranching, IsChildOf};
 ghost use Rattle.mapf_tree.specs.SideQuery.{IsFromStart};
 ghost use Rattle.mapf_solve.specs.Ahead.{IsKnownOf};
@@ -13,7 +12,6 @@ use mapf_tree::{Children, FromStart, Node, OpenList, OwnPaths, Problem, Side};
 use std::alloc::Global;
 use std::marker::Model;
 use std::mem::replace;
-use std::sync::Arc;
 
 /// What is known of the children of the node of a problem's tree whose turn it is, and the own paths that are known.
 ///
@@ -61,11 +59,11 @@ impl<'p> Ready<'p> {
         self.own_paths.known_child(node, side)
     }
 
-    /// The distances from the start of the agent on a side of a node's conflict; none where they aren't to be had.
-    pub(crate) fn from_start(&mut self, node: &Node, side: Side) -> Option<Arc<FromStart>>
+    /// The distances from the start of the agent on a side of a node's conflict; without a table where none is to be had.
+    pub(crate) fn from_start(&mut self, node: &Node, side: Side) -> FromStart
         requires { IsBranching self.old node.now }
         ensures problem { self.new ≡ self.old }
-        ensures start { IfSome result (λ f. IsFromStart self.old (arc_value f)) }
+        ensures start { IsFromStart self.old result }
     {
         self.own_paths.from_start(node, side)
     }

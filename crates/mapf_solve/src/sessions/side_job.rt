@@ -1,7 +1,6 @@
 //! The jobs of a session: children of nodes that wait.
 
 ghost use Rattle.std.specs.Prelude.{◌≡◌, IfSome, IsTrue};
-ghost use Rattle.std.specs.Arc.{arc_value};
 ghost use Rattle.mapf_tree.specs.Family.{IsBranching, IsChildOf};
 ghost use Rattle.mapf_tree.specs.SideQuery.{IsFromStart};
 ghost use Rattle.mapf_solve.specs.Rounds.{FitsSide};
@@ -10,7 +9,6 @@ use mapf_board::{Pair, Task, Work};
 use mapf_tree::{FromStart, Node, OwnPaths, Problem, Side, child_with};
 use std::alloc::Global;
 use std::marker::{Model, PhantomData};
-use std::sync::Arc;
 
 /// A child of a node is wanted, on one side of the conflict of the node's plan.
 #[derive(Drop)]
@@ -19,13 +17,11 @@ pub(crate) struct SideJob<'p> {
     node: Node,
     side: Side,
     number: u64,
-    /// The distances from the start of the child's agent, where they are known.
-    from_start: Option<Arc<FromStart>>,
+    /// The distances from the start of the child's agent, if there is a table.
+    from_start: FromStart,
 }
 
 impl<'p> Model for SideJob<'p> {
-    ghost use Rattle.std.specs.Prelude.{IfSome};
-    ghost use Rattle.std.specs.Arc.{arc_value};
     ghost use Rattle.mapf_tree.specs.SideQuery.{IsFromStart};
     ghost use Rattle.mapf_tree.specs.Family.{IsBranching};
     ghost use Rattle.mapf_solve.specs.Rounds.{WantedChild};
@@ -34,20 +30,20 @@ impl<'p> Model for SideJob<'p> {
 
     ghost view = { λ j. record { problem = j.problem.now; node = j.node; side = j.side; number = j.number } };
 
-    ghost invariant = { λ j. IsBranching j.problem.now j.node × IfSome j.from_start (λ f. IsFromStart j.problem.now (arc_value f)) };
+    ghost invariant = { λ j. IsBranching j.problem.now j.node × IsFromStart j.problem.now j.from_start };
 }
 
 impl<'p> SideJob<'p> {
-    /// The job for this node and side, with the distances from the start of the child's agent, where they are known.
+    /// The job for this node and side, with the distances from the start of the child's agent, if there is a table.
     pub(crate) fn of(
         problem: &'p Problem,
         node: Node,
         side: Side,
         number: u64,
-        from_start: Option<Arc<FromStart>>,
+        from_start: FromStart,
     ) -> SideJob<'p>
         requires node { IsBranching problem.now node }
-        requires start { IfSome from_start (λ f. IsFromStart problem.now (arc_value f)) }
+        requires start { IsFromStart problem.now from_start }
         ensures { result ≡ record { problem = problem.now; node = node; side = side; number = number } }
     {
         SideJob {
@@ -169,8 +165,13 @@ impl<'p> Work for SideWork<'p> {
     }
 
     fn perform(&self, job: SideJob<'p>) -> Result<Pair<SideWork<'p>>, SideJob<'p>> {
-        let from_start = job.from_start.as_deref();
-        match child_with(self.alloc, job.problem, &job.node, job.side, from_start) {
+        match child_with(
+            self.alloc,
+            job.problem,
+            &job.node,
+            job.side,
+            &job.from_start,
+        ) {
             Ok(found) => Ok(Pair::of(job, found)),
             Err(_) => Err(job),
         }
