@@ -179,8 +179,11 @@ impl Ord for Name {
 
     #[inline(always)]
     fn cmp(&self, other: &Name) -> Ordering {
-        match self.first.cmp(&other.first).then(self.few.cmp(&other.few)) {
-            Ordering::Equal => self.rest.cmp(&other.rest),
+        match self.first.cmp(&other.first) {
+            Ordering::Equal => match self.few.cmp(&other.few) {
+                Ordering::Equal => self.rest.cmp(&other.rest),
+                decided => decided,
+            },
             decided => decided,
         }
     }

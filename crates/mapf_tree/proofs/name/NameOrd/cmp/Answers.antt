@@ -10,13 +10,22 @@ decided Less s h = refl
 decided Equal s h = absurd (h refl)
 decided Greater s h = refl
 
-pub returns-in-Equal : goal.returns-in-Equal
-returns-in-Equal c =
-    c.cmp-in-Equal.ensures ∙ compared_turns _ refl refl refl refl c.self.inside.rest.items c.other.inside.rest.items
-    ∙ ap (λ t. ordering_then t (slice_cmp nat_cmp (map turn c.self.inside.rest.items) (map turn c.other.inside.rest.items))) (sym c.in-Equal.is)
-    ∙ name_order c.then.ensures c.cmp.ensures c.cmp-2.ensures c.self.invariant c.other.invariant c.self.view_is c.other.view_is
+-- the second decides where the first doesn't
+second : (o p : Ordering) → o ≡ Equal → p ≡ ordering_then o p
+second o p equal = ap (λ q. ordering_then q p) (sym equal)
+
+pub returns-in-Equal-cmp : goal.returns-in-Equal-cmp
+returns-in-Equal-cmp c =
+    c.cmp-in-Equal-cmp.ensures ∙ compared_turns _ refl refl refl refl c.self.inside.rest.items c.other.inside.rest.items
+    ∙ ap (λ t. ordering_then t (slice_cmp nat_cmp (map turn c.self.inside.rest.items) (map turn c.other.inside.rest.items))) (sym c.in-Equal-cmp.is)
+    ∙ name_order (second c.cmp.result c.cmp-in-Equal.result c.in-Equal.is) c.cmp.ensures c.cmp-in-Equal.ensures c.self.invariant c.other.invariant c.self.view_is c.other.view_is
+
+pub returns-in_default-cmp : goal.returns-in_default-cmp
+returns-in_default-cmp c =
+    decided c.cmp-in-Equal.result (slice_cmp nat_cmp (map turn c.self.inside.rest.items) (map turn c.other.inside.rest.items)) c.in_default-cmp.not-Equal
+    ∙ name_order (second c.cmp.result c.cmp-in-Equal.result c.in-Equal.is) c.cmp.ensures c.cmp-in-Equal.ensures c.self.invariant c.other.invariant c.self.view_is c.other.view_is
 
 pub returns-in_default : goal.returns-in_default
 returns-in_default c =
-    decided c.then.result (slice_cmp nat_cmp (map turn c.self.inside.rest.items) (map turn c.other.inside.rest.items)) c.in_default.not-Equal
-    ∙ name_order c.then.ensures c.cmp.ensures c.cmp-2.ensures c.self.invariant c.other.invariant c.self.view_is c.other.view_is
+    decided c.cmp.result (slice_cmp nat_cmp (map turn c.self.inside.rest.items) (map turn c.other.inside.rest.items)) c.in_default.not-Equal
+    ∙ name_order (decided c.cmp.result (nat_cmp c.self.inside.few c.other.inside.few) c.in_default.not-Equal) c.cmp.ensures refl c.self.invariant c.other.invariant c.self.view_is c.other.view_is
