@@ -1,5 +1,6 @@
 ghost use Rattle.std.specs.Prelude.{◌≡◌, ◌↔◌, ◌+◌, ◌<◌, ◌≤◌, [], ◌∷◌, ◌++◌, length, replicate, slice_get, slice_set, slice_index_or, map, Some, IfOk, IfSome, IsSome, MatchOption, Contains};
 ghost use Rattle.std.specs.Arc.{arc_value};
+ghost use Rattle.mapf_plan.specs.Path.{cost};
 ghost use Rattle.mapf_plan.specs.Plan.{path_of, plan_cost, most_bound};
 ghost use Rattle.mapf_tree.specs.Nodes.{Changed};
 
@@ -82,8 +83,10 @@ impl Node {
         ensures rule { IfOk result (λ n. n.rule ≡ self.now.rule) }
         ensures conflict { IfOk result (λ n. IsConflictOf self.now.rule (slice_set self.now.plan change.agent change.path) n.conflict) }
     {
-        let conflict = self.first_conflict_with(alloc, change.agent, &change.path)?;
-        let key = self.key_with(alloc, side, change.agent, &change.path)?;
+        let paths = self.paths(alloc)?;
+        let old = paths.path(change.agent).cost();
+        let conflict = self.first_conflict_with(paths, change.agent, &change.path);
+        let key = self.key_with(alloc, side, change.agent, old, &change.path)?;
         Ok(Node {
             key,
             rule: self.rule,
@@ -93,22 +96,24 @@ impl Node {
         })
     }
 
-    /// The key one turn further, where an agent's path is another.
+    /// The key one turn further, where an agent's path is another than that of the old cost.
     fn key_with(
         &self,
         alloc: Global,
         side: Side,
         agent: usize,
+        old: u32,
         path: &Path,
     ) -> Result<Key, NoMemory>
         requires agent { agent < length self.now.plan }
+        requires old { old ≡ cost (path_of self.now.plan agent) }
         requires small { plan_cost (slice_set self.now.plan agent path.now) ≤ most_bound }
         ensures cost { IfOk result (λ key. key.cost ≡ plan_cost (slice_set self.now.plan agent path.now)) }
         ensures depth { IfOk result (λ key. key.depth ≡ length self.now.name + 1) }
         ensures name { IfOk result (λ key. key.name ≡ self.now.name ++ side ∷ []) }
     {
         let name = self.key.name.with(alloc, side)?;
-        let others = self.key.cost - u64::from(self.path(agent).cost());
+        let others = self.key.cost - u64::from(old);
         Ok(Key {
             cost: others + u64::from(path.cost()),
             depth: name.len(),
@@ -121,19 +126,19 @@ impl Node {
     #[tactic(auto, using(mapf_plan::proofs::Conflicts::none_before_change))]
     fn first_conflict_with<'a>(
         &'a self,
-        alloc: Global,
+        mut paths: CurrentPaths<'a>,
         agent: usize,
         path: &'a Path,
-    ) -> Result<Option<Conflict>, NoMemory>
+    ) -> Option<Conflict>
+        requires paths { paths ≡ self.now.plan }
         requires agent { agent < length self.now.plan }
         requires conflict { IsSome self.now.conflict }
-        ensures { IfOk result (IsConflictOf self.now.rule (slice_set self.now.plan agent path.now)) }
+        ensures { IsConflictOf self.now.rule (slice_set self.now.plan agent path.now) result }
     {
         let time = self.conflict.unwrap().time();
-        let mut paths = self.paths(alloc)?;
         let from = path.shared_steps(paths.path(agent)).min(time);
         paths.set(agent, path);
-        Ok(first_conflict_of_changed(&paths, self.rule, agent, from, time))
+        first_conflict_of_changed(&paths, self.rule, agent, from, time)
     }
 
     /// Where the node stands in the order of a search.

@@ -2,7 +2,8 @@
 
 ghost use Rattle.std.specs.Prelude.{◌≡◌, ◌<◌, ◌≤◌, length, option_map, IfOk, IfSome, IsTrue};
 ghost use Rattle.std.specs.Arc.{arc_value};
-ghost use Rattle.mapf_plan.specs.Plan.{plan_cost, most_bound};
+ghost use Rattle.mapf_plan.specs.Path.{cost};
+ghost use Rattle.mapf_plan.specs.Plan.{path_of, plan_cost, most_bound};
 ghost use Rattle.mapf_tree.specs.Family.{IsBranching, IsChildOf, Leaves};
 
 use crate::change::Change;
@@ -64,14 +65,15 @@ impl<'p> SideQuery<'p> {
         let conflict = node.conflict().unwrap();
         let agent = agent_of(&conflict, side);
         let constraint = constraint_of(&conflict, side);
+        let least = node.path(agent).cost();
         Ok(SideQuery {
             problem,
             side,
             agent,
             constraint,
             constraints: node.constraints(alloc, agent)?.and(constraint)?,
-            limit: left_for(problem, node, agent),
-            least: node.path(agent).cost(),
+            limit: left_for(problem, node, agent, least),
+            least,
         })
     }
 
@@ -226,14 +228,16 @@ impl<'p> SideQuery<'p> {
     }
 }
 
-/// What the other agents' paths leave of the bound: with a dearer path of this agent no plan is in the tree.
-fn left_for(problem: &Problem, node: &Node, agent: usize) -> u32
+/// What the other agents' paths leave of the bound, where this agent's own path costs so much: with a dearer path of this agent
+/// than what they leave no plan is in the tree.
+fn left_for(problem: &Problem, node: &Node, agent: usize, own: u32) -> u32
     requires agent { agent < length node.now.plan }
+    requires own { own ≡ cost (path_of node.now.plan agent) }
     requires within { plan_cost node.now.plan ≤ problem.now.bound }
     ensures leaves { Leaves problem.now node.now.plan agent result }
     ensures small { result ≤ most_bound }
     ensures bounded { problem.now.bound ≤ most_bound }
 {
-    let others = node.key().cost - u64::from(node.path(agent).cost());
+    let others = node.key().cost - u64::from(own);
     (u64::from(problem.bound()) - others) as u32
 }

@@ -7,10 +7,10 @@ use Rattle.mapf_tree.proofs.node.Node.changed.Goals as goal
 pub invariant_of-result : goal.invariant_of-result
 invariant_of-result c =
     agrees_turned _ _ _ _ _ c.args.self.now c.self.view_is c.in_ok-try_clone.field-0.value c.in_ok-with.field-0 c.args.change c.in_ok-try_clone.ensures c.in_ok-with.ensures
-    c.self.inside.key.cost c.self.inside.key.depth c.in_ok-key.key.cost c.in_ok-key.key.depth c.in_ok-key.key.name c.args.side c.self.inside.rule c.in_ok-conflict.conflict c.self.invariant c.requires.agent (ap (λ (n : Node). n.rule) c.self.view_is)
+    c.self.inside.key.cost c.self.inside.key.depth c.in_ok-key.key.cost c.in_ok-key.key.depth c.in_ok-key.key.name c.args.side c.self.inside.rule c.first_conflict_with-conflict.result c.self.invariant c.requires.agent (ap (λ (n : Node). n.rule) c.self.view_is)
     (c.in_ok-key.ensures.cost ∙ ap (λ path. plan_cost (set c.args.self.now.plan c.change.inside.agent path)) c.deref-2.ensures ∙ ap (λ (x : Changed). plan_cost (set c.args.self.now.plan x.agent x.path)) c.change.view_is) c.in_ok-key.ensures.depth c.in_ok-key.ensures.name
-    (subst (λ (x : Changed). IsConflictOf c.args.self.now.rule (set c.args.self.now.plan x.agent x.path) c.in_ok-conflict.conflict) c.change.view_is
-    (subst (λ path. IsConflictOf c.args.self.now.rule (set c.args.self.now.plan c.change.inside.agent path) c.in_ok-conflict.conflict) c.deref.ensures c.in_ok-conflict.ensures))
+    (subst (λ (x : Changed). IsConflictOf c.args.self.now.rule (set c.args.self.now.plan x.agent x.path) c.first_conflict_with-conflict.result) c.change.view_is
+    (subst (λ path. IsConflictOf c.args.self.now.rule (set c.args.self.now.plan c.change.inside.agent path) c.first_conflict_with-conflict.result) c.deref.ensures c.first_conflict_with-conflict.ensures))
 
 pub returns-clause-constraints : goal.returns-clause-constraints
 returns-clause-constraints c = sets_turned _ _ _ _ _ c.args.self.now c.self.view_is c.in_ok-try_clone.field-0.value c.in_ok-with.field-0 c.args.change c.in_ok-try_clone.ensures c.in_ok-with.ensures

@@ -10,7 +10,7 @@ overflow_add-result c =
     let changed : plan_cost (set c.args.self.now.plan c.args.agent c.args.path.now) + cost (path_of c.args.self.now.plan c.args.agent) ≡ plan_cost c.args.self.now.plan + cost c.args.path.now =
     sum_by-set cost c.args.self.now.plan c.args.agent c.args.path.now [] c.requires.agent in
     let whole : c.self.inside.key.cost ≡ plan_cost c.args.self.now.plan = c.self.invariant.cost ∙ ap (λ (n : Node). plan_cost n.plan) c.self.view_is in
-    let old : c.from.result ≡ cost (path_of c.args.self.now.plan c.args.agent) = c.from.ensures ∙ c.cost.ensures.cost ∙ ap cost c.path.ensures in
-    let new : c.from-2.result ≡ cost c.args.path.now = c.from-2.ensures ∙ c.cost-2.ensures.cost in
-    let small : (c.self.inside.key.cost - c.from.result) + c.from-2.result ≤ 2000000 = omega (arith, changed, whole, old, new, c.requires.small, c.cost-2.ensures.small) in
+    let old : c.from.result ≡ cost (path_of c.args.self.now.plan c.args.agent) = c.from.ensures ∙ c.requires.old in
+    let new : c.from-2.result ≡ cost c.args.path.now = c.from-2.ensures ∙ c.cost.ensures.cost in
+    let small : (c.self.inside.key.cost - c.from.result) + c.from-2.result ≤ 2000000 = omega (arith, changed, whole, old, new, c.requires.small, c.cost.ensures.small) in
     Fits-le small (Fits-lit tt)
