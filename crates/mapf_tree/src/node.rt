@@ -19,13 +19,25 @@ use std::sync::Arc;
 /// plans of the tree have conflicts.
 ///
 /// It keeps the root's plan and what each turn of its name changed, and shares both with the nodes beside and above it.
-#[derive(Drop)]
 pub struct Node {
     pub(crate) key: Key,
     rule: Rule,
     root: Arc<Plan>,
     changes: Chain,
     conflict: Option<Conflict>,
+}
+
+// By hand, so that a proof about what holds a node sees a call where it is dropped, and not what a node consists of.
+impl Drop for Node {
+    fn drop(self) {
+        let Node {
+            key: _,
+            rule: _,
+            root: _,
+            changes: _,
+            conflict: _,
+        } = self;
+    }
 }
 
 impl Model for Node {
@@ -96,7 +108,7 @@ impl Node {
         })
     }
 
-    /// The key one turn further, where an agent's path is another than that of the old cost.
+    /// The key one turn further, where an agent has another path; the old one's cost is given.
     fn key_with(
         &self,
         alloc: Global,
@@ -147,6 +159,21 @@ impl Node {
         ensures name { result.now.name ≡ self.now.name }
     {
         &self.key
+    }
+
+    /// Its key.
+    pub(crate) fn into_key(self) -> Key
+        ensures rank { key_rank result ≡ node_key self }
+        ensures cost { result.cost ≡ plan_cost self.plan }
+    {
+        let Node {
+            key,
+            rule: _,
+            root: _,
+            changes: _,
+            conflict: _,
+        } = self;
+        key
     }
 
     /// The first conflict of the node's plan by the rule of its tree; none where the plan has no conflict.

@@ -14,14 +14,5 @@ pub(crate) fn key_and_plan(node: Node) -> Result<(Key, Plan), NoMemory>
     ensures cost { IfOk result (λ both. both.0.cost ≡ plan_cost node.plan) }
 {
     let plan = node.plan(node.allocator())?;
-    Ok((key_of(node), plan))
-}
-
-/// The key of a node that is taken.
-pub(crate) fn key_of(node: Node) -> Key
-    ensures rank { key_rank result ≡ node_key node }
-    ensures cost { result.cost ≡ plan_cost node.plan }
-{
-    let Node { key, .. } = node;
-    key
+    Ok((node.into_key(), plan))
 }

@@ -3,7 +3,7 @@ ghost use Rattle.mapf_tree.specs.OpenList.{IsPutIfSome};
 ghost use Rattle.mapf_tree.specs.Turns.{IsTurned};
 ghost use Rattle.mapf_tree.specs.Nodes.{AllStand};
 
-use crate::taken::{key_and_plan, key_of};
+use crate::taken::key_and_plan;
 use crate::{Children, Key, Node, OpenList, Problem};
 use mapf_grid::NoMemory;
 use mapf_plan::Plan;
@@ -41,7 +41,7 @@ pub(crate) fn take_turn<C: Children>(
     let (left, right) = children.both(problem, &node)?;
     put_if_some(waiting, left)?;
     put_if_some(waiting, right)?;
-    Ok(Turn::Branched(key_of(node)))
+    Ok(Turn::Branched(node.into_key()))
 }
 
 /// Puts a node in, if there is one.
