@@ -15,7 +15,7 @@ use Rattle.mapf_tree.specs.Tree.{TreeNode, HasPlan, root_of, side_of, key, Plann
 use Rattle.mapf_tree.specs.Search.{IsChild}
 use Rattle.mapf_tree.specs.Nodes.{Node, node_key, StandsFor, IsConflictOf, AllStand, HasNodeFor}
 use Rattle.mapf_tree.specs.Family.{IsRoot, IsSide}
-use Rattle.mapf_tree.specs.OpenList.{IsRising, IsPut, IsPutIfSome}
+use Rattle.mapf_tree.specs.OpenList.{IsRising, IsAdded, IsAddedIfSome}
 use Rattle.mapf_tree.specs.Turns.{IsTurnOf}
 use Rattle.mapf_tree.proofs.Plans.{same_plan}
 use Rattle.mapf_tree.proofs.Unique.{same_member}
@@ -52,27 +52,23 @@ module _ (p : Problem) (first : Node) (rest : List Node) (x : PlannedNode) (risi
     (λ s. ⊎_elim (λ e. absurd (s.1 (same_stands p s.0.0 first m x s.0.2 is (ap node_key (sym e))))) (λ i. (s.0.0, i, s.0.2)) (here_or_there rest s.0.1)),
   )
 
-module _ (p : Problem) (old new : List Node) (node : Node) (y : PlannedNode) (all : AllStand p old) (put : IsPut old node new) (is : StandsFor p node y) where
-  -- a node that is put in adds its node
-  put_shows : (m : PlannedNode) → HasNodeFor p new m ↔ (HasNodeFor p old m ⊎ (m ≡ y))
-  put_shows m = ((λ s. forth s.0 s.2 ((put s.0).0 s.1)), ⊎_elim (λ s. still s.0 s.2 s.1) added)
-    where
-      added : m ≡ y → HasNodeFor p new m
-      added e = (node, (put node).1 (inl refl), subst (λ z. StandsFor p node z) (sym e) is)
-
-      forth : (n : Node) → StandsFor p n m → (n ≡ node) ⊎ (Contains old n × (node_key n ≢ node_key node)) → HasNodeFor p old m ⊎ (m ≡ y)
-      forth n h (inl e) = inr (same_stands p n node m y h is (ap node_key e))
-      forth n h (inr c) = inl (n, c.0, h)
-
-      still : (n : Node) → StandsFor p n m → Contains old n → HasNodeFor p new m
-      still n h c =
-          let other : node_key n ≢ node_key node → HasNodeFor p new m = λ e. (n, (put n).1 (inr (c, e)), h) in
-          by_compare (node_key n) (node_key node) (λ e. added (same_stands p n node m y h is e))
-          (λ l. other (before_is_other (node_key n) (node_key node) l)) (λ l. other (λ e. before_is_other (node_key node) (node_key n) l (sym e)))
-
+module _ (p : Problem) (old new : List Node) (node : Node) (y : PlannedNode) (all : AllStand p old) (added : IsAdded old node new) (is : StandsFor p node y) where
   -- and all nodes stand for nodes
-  put_all : AllStand p new
-  put_all n c = ⊎_elim (λ e. (y, subst (λ k. StandsFor p k y) (sym e) is)) (λ i. all n i.0) ((put n).0 c)
+  added_all : AllStand p new
+  added_all n c = ⊎_elim (λ i. all n i) (λ e. (y, subst (λ k. StandsFor p k y) (sym e) is)) (added.only n c)
+
+  -- a node that is added adds its node
+  added_shows : (m : PlannedNode) → HasNodeFor p new m ↔ (HasNodeFor p old m ⊎ (m ≡ y))
+  added_shows m = (
+    (λ s. ⊎_elim (λ i. inl (s.0, i, s.2)) (λ e. inr (same_stands p s.0 node m y s.2 is (ap node_key e))) (added.only s.0 s.1)),
+    ⊎_elim (λ s. (s.0, added.stay s.0 s.1, s.2)) with_key,
+  )
+    where
+      with_key : m ≡ y → HasNodeFor p new m
+      with_key e =
+          let n = added.key.0 in
+          let x = added_all n added.key.1 in
+          let same : x.0 ≡ m = same_stands p n node x.0 y x.1 is added.key.2 ∙ sym e in (n, added.key.1, subst (λ z. StandsFor p n z) same x.1)
 
 -- what a list shows once the node of a node is put in, if that has one
 pub record AddsSide (p : Problem) (old new : List Node) (side : TreeNode) : Type 0 where
@@ -95,19 +91,19 @@ side_node p x c s None h = h
 side_node p x c s (Some node) h = h
 
 -- the node of a node adds that node, if it is in the tree
-pub put_node_adds : (p : Problem) (old new : List Node) (pair : TreeNode) (o : Option Node) → AllStand p old → IsNodeOf p pair o → IsPutIfSome old o new → AddsSide p old new pair
-put_node_adds p old new pair None all none e = record {
+pub node_adds : (p : Problem) (old new : List Node) (pair : TreeNode) (o : Option Node) → AllStand p old → IsNodeOf p pair o → IsAddedIfSome old o new → AddsSide p old new pair
+node_adds p old new pair None all none e = record {
   stand = subst (AllStand p) (sym e) all;
   shows = λ m. (
     (λ h. inl (subst (λ ns. HasNodeFor p ns m) e h)),
     ⊎_elim (λ h. subst (λ ns. HasNodeFor p ns m) (sym e) h) (λ h. absurd (none m.1 (subst (λ q. HasPlan p q m.1) h.1 h.0.plan))),
   );
 }
-put_node_adds p old new pair (Some node) all is put = record {
-  stand = put_all p old new node (pair, is.0) all put is.1;
+node_adds p old new pair (Some node) all is put = record {
+  stand = added_all p old new node (pair, is.0) all put is.1;
   shows = λ m. (
-    (λ h. ⊎_elim inl (λ e. inr (subst (IsMember p) (sym e) is.1.member, ap (λ y. y.0) e)) ((put_shows p old new node (pair, is.0) all put is.1 m).0 h)),
-    (λ h. (put_shows p old new node (pair, is.0) all put is.1 m).1
+    (λ h. ⊎_elim inl (λ e. inr (subst (IsMember p) (sym e) is.1.member, ap (λ y. y.0) e)) ((added_shows p old new node (pair, is.0) all put is.1 m).0 h)),
+    (λ h. (added_shows p old new node (pair, is.0) all put is.1 m).1
         (⊎_elim inl (λ k. inr (λ i. (k.1 i, same_plan p pair m.1 is.0 (subst (λ q. HasPlan p q m.1) k.1 k.0.plan) is.1.member.plan i))) h)),
   );
 }
@@ -139,7 +135,7 @@ solved_turn p old new first x e rising all is none =
     )
 
 -- a node is taken, and its sides are put in
-pub branched_turn : (p : Problem) (old rest mid new : List Node) (first : Node) (x : PlannedNode) (c : Conflict) (l r : Option Node) → old ≡ first ∷ rest → IsRising old → AllStand p old → StandsFor p first x → first.conflict ≡ Some c → IsSide p x c Left l → IsSide p x c Right r → IsPutIfSome rest l mid → IsPutIfSome mid r new → IsTurnOf p old new x
+pub branched_turn : (p : Problem) (old rest mid new : List Node) (first : Node) (x : PlannedNode) (c : Conflict) (l r : Option Node) → old ≡ first ∷ rest → IsRising old → AllStand p old → StandsFor p first x → first.conflict ≡ Some c → IsSide p x c Left l → IsSide p x c Right r → IsAddedIfSome rest l mid → IsAddedIfSome mid r new → IsTurnOf p old new x
 branched_turn p old rest mid new first x c l r e rising all is conflict left right put put' =
     record { least = subst (λ ns. IsLeast key (HasNodeFor p ns) x) (sym e) (first_is_least p first rest x up is); stand = two.stand; next = next }
   where
@@ -147,10 +143,10 @@ branched_turn p old rest mid new first x c l r e rising all is conflict left rig
     up = subst IsRising e rising
 
     one : AddsSide p rest mid (side_of x.0 c Left)
-    one = put_node_adds p rest mid (side_of x.0 c Left) l (tail_stands p first rest (subst (AllStand p) e all)) (side_node p x c Left l left) put
+    one = node_adds p rest mid (side_of x.0 c Left) l (tail_stands p first rest (subst (AllStand p) e all)) (side_node p x c Left l left) put
 
     two : AddsSide p mid new (side_of x.0 c Right)
-    two = put_node_adds p mid new (side_of x.0 c Right) r one.stand (side_node p x c Right r right) put'
+    two = node_adds p mid new (side_of x.0 c Right) r one.stand (side_node p x c Right r right) put'
 
     first_conflict : IsFirstConflict p.rule x.1 c
     first_conflict = conflict_stands p first x c is conflict

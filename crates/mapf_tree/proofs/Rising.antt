@@ -1,6 +1,6 @@
 -- Nodes in strict order by key, and a list of them with one node put in.
-use Rattle.std.proofs.Common.{◌≡◌, ℕ, List, [], ◌∷◌, Ordering, Less, Equal, Greater, nat_cmp, inl, inr, subst, sym, ap, ◌∙◌, ⊎_elim, Contains}
-use Rattle.std.specs.BTreeSet.{replace_key}
+use Rattle.std.proofs.Common.{◌≡◌, ℕ, List, [], ◌∷◌, Ordering, Less, Equal, Greater, nat_cmp, inl, inr, refl, subst, sym, ap, ◌∙◌, ⊎_elim, Contains}
+use Rattle.std.specs.BTreeSet.{replace_key, insert_key}
 use Rattle.std.specs.Cmp.{IsTotalOrder, nat_cmp_total, tied_itself}
 use Rattle.std.specs.Cmp.Lexicographic.{slice_cmp, lists_total}
 use Rattle.std.specs.List.{AllByRecursion}
@@ -11,7 +11,7 @@ use Rattle.mapf_grid.specs.Least.{Precedes}
 use Rattle.mapf_grid.proofs.Members.{nowhere, here, there, here_or_there}
 use Rattle.mapf_grid.proofs.Ranks.{by_compare, before_is_other, transitive}
 use Rattle.mapf_tree.specs.Nodes.{Node, node_key}
-use Rattle.mapf_tree.specs.OpenList.{IsRising, IsPut}
+use Rattle.mapf_tree.specs.OpenList.{IsRising, IsPut, IsAdded}
 use Rattle.mapf_tree.proofs.Keyed.{Precedes-slice_cmp}
 
 -- nodes are compared by their keys
@@ -91,6 +91,43 @@ put_in (x ∷ xs) k r =
 -- as the open list does it
 pub put_from : (old keys new : List Node) (k : Node) → keys ≡ old → IsRising keys → new ≡ replace_key by_key keys k → IsPut old k new
 put_from old keys new k e r is = subst (λ xs. IsPut xs k new) e (subst (λ ys. IsPut keys k ys) (sym is) (put_in keys k r))
+
+-- std's insertion adds the node
+added_in : (ns : List Node) (k : Node) → IsAdded ns k (insert_key by_key ns k)
+added_in [] k = record { stay = λ n i. absurd (nowhere i); only = λ n c. ⊎_elim (λ e. inr (sym e)) (λ i. absurd (nowhere i)) (here_or_there [] c); key = (k, here [] refl, refl) }
+added_in (x ∷ xs) k =
+    by_compare (node_key k) (node_key x)
+    (λ e. subst (λ o. IsAdded (x ∷ xs) k (placed o)) (sym (equal_ranks (node_key k) (node_key x) e)) (same e))
+    (λ h. subst (λ o. IsAdded (x ∷ xs) k (placed o)) (sym (lesser_rank (node_key k) (node_key x) h)) first)
+    (λ h. subst (λ o. IsAdded (x ∷ xs) k (placed o)) (sym (greater_rank (node_key k) (node_key x) h)) (later (added_in xs k)))
+  where
+    placed : Ordering → List Node
+    placed o = match_ordering o (k ∷ x ∷ xs) (x ∷ xs) (x ∷ insert_key by_key xs k)
+
+    -- one with its key is there
+    same : node_key k ≡ node_key x → IsAdded (x ∷ xs) k (x ∷ xs)
+    same e = record { stay = λ n i. i; only = λ n c. inl c; key = (x, here xs refl, sym e) }
+
+    -- before all
+    first : IsAdded (x ∷ xs) k (k ∷ x ∷ xs)
+    first = record {
+      stay = λ n i. there (x ∷ xs) i;
+      only = λ n c. ⊎_elim (λ e. inr (sym e)) (λ i. inl i) (here_or_there (x ∷ xs) c);
+      key = (k, here (x ∷ xs) refl, refl);
+    }
+
+    -- after the first
+    later : IsAdded xs k (insert_key by_key xs k) → IsAdded (x ∷ xs) k (x ∷ insert_key by_key xs k)
+    later h =
+        let new = insert_key by_key xs k in record {
+          stay = λ n i. ⊎_elim (λ e. here new e) (λ j. there new (h.stay n j)) (here_or_there xs i);
+          only = λ n c. ⊎_elim (λ e. inl (here xs e)) (λ j. ⊎_elim (λ i. inl (there xs i)) (λ e. inr e) (h.only n j)) (here_or_there new c);
+          key = (h.key.0, there new h.key.1, h.key.2);
+        }
+
+-- as the open list does it
+pub added_from : (old keys new : List Node) (k : Node) → keys ≡ old → new ≡ insert_key by_key keys k → IsAdded old k new
+added_from old keys new k e is = subst (λ xs. IsAdded xs k new) e (subst (λ ys. IsAdded keys k ys) (sym is) (added_in keys k))
 
 -- without its first node it still rises
 pub rises-tail : (n : Node) (keys new : List Node) → keys ≡ n ∷ new → IsRising keys → IsRising new

@@ -9,7 +9,7 @@ use Rattle.mapf_tree.specs.declared.side.Side.TheVariants.{Left, Right}
 use Rattle.mapf_tree.specs.declared.turn.Turn.TheVariants as variant
 use Rattle.mapf_tree.specs.Tree.{key_rank, root_of, key, IsAnswer, PlannedNode, IsMember}
 use Rattle.mapf_tree.specs.Family.{IsRoot, IsBranching, IsChildOf}
-use Rattle.mapf_tree.specs.OpenList.{IsRising, IsPutIfSome}
+use Rattle.mapf_tree.specs.OpenList.{IsRising, IsAddedIfSome}
 use Rattle.mapf_plan.specs.declared.answer.Answer.{Answer}
 use Rattle.mapf_plan.specs.declared.answer.Answer.TheVariants as answer
 use Rattle.mapf_tree.specs.Problem.{Problem, IsLimit}
@@ -20,7 +20,7 @@ use Rattle.mapf_grid.proofs.Members.{nowhere, here}
 use Rattle.mapf_tree.proofs.SearchLaws.{reached_now, reached_then, next_waits, ends_at_first, ends_at_none, starts}
 use Rattle.mapf_tree.proofs.Limits.{is_cut, solved_before, empty_before, as_stated, as_given_up}
 use Rattle.mapf_tree.proofs.GoingOn.{takes_none, takes_more}
-use Rattle.mapf_tree.proofs.OpenNodes.{first_is_least, key-stands, none_stands, conflict_stands, solved_turn, branched_turn, root_node, put_node_adds, AddsSide}
+use Rattle.mapf_tree.proofs.OpenNodes.{first_is_least, key-stands, none_stands, conflict_stands, solved_turn, branched_turn, root_node, node_adds, AddsSide}
 
 module _ (p : Problem) (last : Option (List ℕ)) (old : List Node) (taken : IsTakenTo p last old) (none : NoneSolves p last) where
   -- the search over the nodes that wait
@@ -67,14 +67,14 @@ module _ (p : Problem) (last : Option (List ℕ)) (old : List Node) (taken : IsT
     solves free = (x.0, ends_at_first p last (HasNodeFor p old) x at turn.least free)
 
 -- the root waits at first, if it is in the tree
-pub root_waits : (p : Problem) (o : Option Node) (old new : List Node) → old ≡ [] → IsRoot p o → IsPutIfSome old o new → IsTakenTo p None new × NoneSolves p None
+pub root_waits : (p : Problem) (o : Option Node) (old new : List Node) → old ≡ [] → IsRoot p o → IsAddedIfSome old o new → IsTakenTo p None new × NoneSolves p None
 root_waits p o old new none is given = (record { greatest = tt; none_before = λ m h r n. absurd r; stand = adds.stand; waits = at.waits }, at.none_yet)
   where
-    put : IsPutIfSome [] o new
-    put = subst (λ ns. IsPutIfSome ns o new) none given
+    put : IsAddedIfSome [] o new
+    put = subst (λ ns. IsAddedIfSome ns o new) none given
 
     adds : AddsSide p [] new (root_of p)
-    adds = put_node_adds p [] new (root_of p) o (λ n c. absurd (nowhere c)) (root_node p o is) put
+    adds = node_adds p [] new (root_of p) o (λ n c. absurd (nowhere c)) (root_node p o is) put
 
     at : IsSearchAt p None (HasNodeFor p new)
     at = starts p (HasNodeFor p new) (λ m. ((λ s. ⊎_elim (λ k. absurd (nowhere k.1)) (λ h. h) ((adds.shows m).0 s)), (λ h. (adds.shows m).1 (inr h))))
@@ -107,7 +107,7 @@ branches p old rest first e all some =
     record { of = x.0; stands = x.1; conflict = some }
 
 -- a turn that takes a node whose plan has a conflict
-pub branched_case : (p : Problem) (old rest mid new : List Node) (first : Node) (k : Key) (l r : Option Node) → old ≡ first ∷ rest → IsRising old → AllStand p old → ((c : Conflict) × (first.conflict ≡ Some c)) → IsChildOf p first Left l → IsChildOf p first Right r → IsPutIfSome rest l mid → IsPutIfSome mid r new → key_rank k ≡ node_key first → IsTurned p old new (variant.Branched k)
+pub branched_case : (p : Problem) (old rest mid new : List Node) (first : Node) (k : Key) (l r : Option Node) → old ≡ first ∷ rest → IsRising old → AllStand p old → ((c : Conflict) × (first.conflict ≡ Some c)) → IsChildOf p first Left l → IsChildOf p first Right r → IsAddedIfSome rest l mid → IsAddedIfSome mid r new → key_rank k ≡ node_key first → IsTurned p old new (variant.Branched k)
 branched_case p old rest mid new first k l r e rising all c left right put put' rank =
     let x = all first (subst (λ ns. Contains ns first) (sym e) (here rest refl)) in
     let f = conflict_stands p first x.0 c.0 x.1 c.1 in

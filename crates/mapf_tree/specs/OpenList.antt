@@ -14,10 +14,16 @@ IsRising (n ∷ ns) = AllByRecursion (λ m. Precedes (node_key n) (node_key m)) 
 abbrev pub IsPut : List Node → Node → List Node → Type 0
 IsPut old node new = (n : Node) → Contains new n ↔ ((n ≡ node) ⊎ (Contains old n × (node_key n ≢ node_key node)))
 
--- the node is put in, if there is one
-abbrev pub IsPutIfSome : List Node → Option Node → List Node → Type 0
-IsPutIfSome old None new = new ≡ old
-IsPutIfSome old (Some node) new = IsPut old node new
+-- the new list has the old nodes, and this node where none of them has its key
+pub record IsAdded (old : List Node) (node : Node) (new : List Node) : Type 0 where
+  pub stay : (n : Node) → Contains old n → Contains new n
+  pub only : (n : Node) → Contains new n → (Contains old n ⊎ (n ≡ node))
+  pub key : (n : Node) × Contains new n × (node_key n ≡ node_key node)
+
+-- the node is added, if there is one
+abbrev pub IsAddedIfSome : List Node → Option Node → List Node → Type 0
+IsAddedIfSome old None new = new ≡ old
+IsAddedIfSome old (Some node) new = IsAdded old node new
 
 -- the first node leaves, and the others stay
 abbrev pub IsTaken : List Node → Option Node → List Node → Type 0

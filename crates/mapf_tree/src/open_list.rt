@@ -26,7 +26,7 @@ impl Model for OpenList {
 }
 
 impl OpenList {
-    ghost use Rattle.mapf_tree.specs.OpenList.{IsRising, IsPut, IsTaken};
+    ghost use Rattle.mapf_tree.specs.OpenList.{IsRising, IsPut, IsAdded, IsTaken};
 
     /// No node waits.
     pub fn new(alloc: Global) -> OpenList
@@ -56,6 +56,20 @@ impl OpenList {
         match self.nodes.replace(ByKey { node }) {
             Ok(_same_key) => Ok(()),
             Err(refused) => Err(refused.value.node),
+        }
+    }
+
+    /// Adds a node at its place, which is looked for once; where a node waits with the same key, that one stays and this one goes.
+    pub(crate) fn add(&mut self, node: Node) -> Result<(), Node>
+        ensures ok { OnOk result (IsAdded self.old node self.new) }
+
+        // When memory runs out the node comes back, and the list is unchanged.
+        ensures back { IfErr result (λ n. n ≡ node) }
+        ensures err { IfErr result (λ _. self.new ≡ self.old) }
+    {
+        match self.nodes.insert(ByKey { node }) {
+            Ok(_is_new) => Ok(()),
+            Err(back) => Err(back.value.node),
         }
     }
 

@@ -4,7 +4,7 @@ ghost use Rattle.mapf_plan.specs.declared.answer.Answer.{Answer};
 ghost use Rattle.mapf_tree.specs.Tree.{key_rank};
 
 use crate::limit::given_up;
-use crate::turn::{Turn, put_if_some, take_turn};
+use crate::turn::{Turn, add_if_some, take_turn};
 use crate::{Children, Key, Node, OpenList, Problem, Progress, root};
 use mapf_grid::NoMemory;
 use mapf_plan::Answer;
@@ -64,7 +64,7 @@ impl<'p> Search<'p> {
         ensures fresh { IfOk result (λ s. (s.last ≡ None) × (s.outcome ≡ Ok None)) }
     {
         let mut waiting = OpenList::new(alloc);
-        put_if_some(&mut waiting, first)?;
+        add_if_some(&mut waiting, first)?;
         Ok(Search {
             problem,
             waiting,

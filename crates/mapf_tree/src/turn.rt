@@ -1,5 +1,5 @@
 ghost use Rattle.std.specs.Prelude.{◌≡◌, IfOk, OnOk};
-ghost use Rattle.mapf_tree.specs.OpenList.{IsPutIfSome};
+ghost use Rattle.mapf_tree.specs.OpenList.{IsAddedIfSome};
 ghost use Rattle.mapf_tree.specs.Turns.{IsTurned};
 ghost use Rattle.mapf_tree.specs.Nodes.{AllStand};
 
@@ -39,17 +39,17 @@ pub(crate) fn take_turn<C: Children>(
         return Ok(Turn::Solved { key, plan });
     }
     let (left, right) = children.both(problem, &node)?;
-    put_if_some(waiting, left)?;
-    put_if_some(waiting, right)?;
+    add_if_some(waiting, left)?;
+    add_if_some(waiting, right)?;
     Ok(Turn::Branched(node.into_key()))
 }
 
-/// Puts a node in, if there is one.
-pub(crate) fn put_if_some(waiting: &mut OpenList, node: Option<Node>) -> Result<(), NoMemory>
-    ensures { OnOk result (IsPutIfSome waiting.old node waiting.new) }
+/// Adds a node, if there is one.
+pub(crate) fn add_if_some(waiting: &mut OpenList, node: Option<Node>) -> Result<(), NoMemory>
+    ensures { OnOk result (IsAddedIfSome waiting.old node waiting.new) }
 {
     if let Some(node) = node {
-        waiting.put(node).map_err(|_refused| NoMemory)?;
+        waiting.add(node).map_err(|_refused| NoMemory)?;
     }
     Ok(())
 }

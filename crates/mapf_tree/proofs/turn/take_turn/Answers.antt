@@ -8,9 +8,9 @@ returns-then-is_none-clause-turned g c =
 
 pub returns-clause-turned : goal.returns-clause-turned
 returns-clause-turned g c =
-    branched_case c.args.problem.now c.args.waiting.now c.take_least.new.self c.put_if_some.new.waiting c.put_if_some-2.new.waiting c.in-Some.node c.into_key.result c.in_ok-left.left c.in_ok-left.right
+    branched_case c.args.problem.now c.args.waiting.now c.take_least.new.self c.add_if_some.new.waiting c.add_if_some-2.new.waiting c.in-Some.node c.into_key.result c.in_ok-left.left c.in_ok-left.right
     c.in-Some.ensures.taken c.in-Some.ensures.rising c.requires.nodes (conflict_there _ _ _ c.is_none.ensures c.conflict.ensures.conflict c.if-is_none.false)
-    c.in_ok-left.ensures.left c.in_ok-left.ensures.right c.in_ok-put_if_some.ensures c.in_ok-put_if_some-2.ensures c.into_key.ensures.rank
+    c.in_ok-left.ensures.left c.in_ok-left.ensures.right c.in_ok-add_if_some.ensures c.in_ok-add_if_some-2.ensures c.into_key.ensures.rank
 
 pub both-requires-clause-branching : goal.both-requires-clause-branching
 both-requires-clause-branching g c =
