@@ -12,8 +12,8 @@ use Rattle.mapf_solve.specs.declared.sessions.ahead.Known.TheVariants as known
 
 -- a child that was worked out or made is of this problem's tree, and a slot is one of the board's
 abbrev pub IsKnownOf : Problem → Known → Type 0
-IsKnownOf p (known.Worked w) = w.job.problem ≡ p
-IsKnownOf p (known.Made m) = m.problem ≡ p
+IsKnownOf p (known.Worked w) = w.value.job.problem ≡ p
+IsKnownOf p (known.Made m) = m.value.problem ≡ p
 IsKnownOf p (known.Posted slot) = slot < MOST_SLOTS
 IsKnownOf p _ = Unit {0}
 

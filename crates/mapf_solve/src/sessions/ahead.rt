@@ -13,6 +13,8 @@ use std::cmp::Ordering;
 use std::marker::Model;
 
 /// What is known of a child of a node that waits.
+///
+/// A child is boxed, since it is large and what is known of it is moved often.
 #[derive(Drop)]
 pub(crate) enum Known<'p> {
     /// No job for it was posted, or none that is remembered.
@@ -20,11 +22,33 @@ pub(crate) enum Known<'p> {
     /// Its job was posted in this slot.
     Posted(usize),
     /// It was worked out.
-    Worked(Worked<'p>),
+    Worked(Box<Worked<'p>>),
     /// A worker gave its job back for want of memory.
     Undone,
     /// It was made, since its path was known, or that there is no such child; no job for it is needed.
-    Made(Made<'p>),
+    Made(Box<Made<'p>>),
+}
+
+impl<'p> Known<'p> {
+    /// That a child was worked out. Where memory runs out the child is dropped, and nothing is known of it.
+    pub(crate) fn worked(alloc: Global, worked: Worked<'p>) -> Known<'p>
+        ensures { (p : Problem) → worked.entry.job.problem ≡ p → IsKnownOf p result }
+    {
+        match Box::new(alloc, worked) {
+            Ok(worked) => Known::Worked(worked),
+            Err(_) => Known::Nothing,
+        }
+    }
+
+    /// That a child is made. Where memory runs out the child is dropped, and nothing is known of it.
+    fn made(alloc: Global, made: Made<'p>) -> Known<'p>
+        ensures { (p : Problem) → made.entry.problem ≡ p → IsKnownOf p result }
+    {
+        match Box::new(alloc, made) {
+            Ok(made) => Known::Made(made),
+            Err(_) => Known::Nothing,
+        }
+    }
 }
 
 /// What is known of the children of the node of this key.
@@ -128,6 +152,16 @@ impl<'p> Ahead<'p> {
         }
     }
 
+    /// Whether something is known of both children of the node with that place.
+    pub(crate) fn are_known(&self, place: usize) -> bool {
+        match self.entries.get(place) {
+            Some(entry) => {
+                !matches!(entry.left, Known::Nothing) && !matches!(entry.right, Known::Nothing)
+            }
+            None => false,
+        }
+    }
+
     /// Whether nothing is known of this child of the node with that place.
     pub(crate) fn is_unknown(&self, place: usize, side: Side) -> bool {
         match self.entries.get(place) {
@@ -146,17 +180,18 @@ impl<'p> Ahead<'p> {
         }
     }
 
-    /// This child of the node with that place is made.
+    /// This child of the node with that place is made. It is dropped where memory runs out.
     pub(crate) fn set_made(&mut self, place: usize, side: Side, made: Made<'p>)
         requires { made.problem ≡ self.old }
         ensures { self.new ≡ self.old }
     {
         if place < self.entries.len() {
-            set_known(&mut self.entries, place, side, Known::Made(made));
+            let known = Known::made(self.alloc, made);
+            set_known(&mut self.entries, place, side, known);
         }
     }
 
-    /// A child was worked out. It is dropped where its node no longer waits.
+    /// A child was worked out. It is dropped where its node no longer waits, or memory runs out.
     pub(crate) fn keep(&mut self, worked: Worked<'p>)
         requires { worked.job.problem ≡ self.old }
         ensures { self.new ≡ self.old }
@@ -165,7 +200,8 @@ impl<'p> Ahead<'p> {
         let job = worked.job();
         let side = job.side();
         if let Ok(place) = place_of(&self.entries, below, job.node().key()) {
-            set_known(&mut self.entries, place, side, Known::Worked(worked));
+            let known = Known::worked(self.alloc, worked);
+            set_known(&mut self.entries, place, side, known);
         }
     }
 

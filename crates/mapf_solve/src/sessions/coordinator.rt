@@ -89,6 +89,9 @@ impl<'p> Coordinator<'p> {
         ensures live { desk.new.live ≡ desk.old.live }
         ensures jobs { AreSidesOf self.old.ahead (currents desk.new.owner) }
     {
+        if !desk.has_jobs() {
+            return;
+        }
         for slot in 0..MOST_SLOTS {
             if desk.is_used(slot) {
                 if let Ok(given) = desk.collect(slot) {
@@ -140,7 +143,7 @@ impl<'p> Coordinator<'p> {
         }
     }
 
-    /// Posts the jobs for both children of a node, left first. False where no slot is free.
+    /// Posts the jobs for both children of a node, left first, where they are not known. False where no slot is free.
     fn post_sides(&mut self, desk: &mut Desk<'_, SideWork<'p>>, node: &Node, place: usize) -> bool
         requires node { IsBranching self.old.ahead node.now }
         requires jobs { AreSidesOf self.old.ahead (currents desk.old.owner) }
@@ -148,6 +151,9 @@ impl<'p> Coordinator<'p> {
         ensures live { desk.new.live ≡ desk.old.live }
         ensures jobs { AreSidesOf self.old.ahead (currents desk.new.owner) }
     {
+        if self.ahead.are_known(place) {
+            return true;
+        }
         self.post_side(desk, node, Side::Left, place)
             && self.post_side(desk, node, Side::Right, place)
     }
@@ -256,7 +262,8 @@ impl<'p> Coordinator<'p> {
         }
     }
 
-    /// What is known of a child; where its job was posted, once what became of it is fetched.
+    /// What is known of a child; where its job was posted, once what became of it is fetched. Nothing where there is no memory to
+    /// hold it.
     fn fetch<G: Gate>(
         &mut self,
         desk: &mut Desk<'_, SideWork<'p>>,
@@ -275,7 +282,7 @@ impl<'p> Coordinator<'p> {
                 Some(pair) => {
                     let worked = Worked::by(pair);
                     self.ready.learn(&worked);
-                    Known::Worked(worked)
+                    Known::worked(self.alloc, worked)
                 }
                 None => Known::Nothing,
             },

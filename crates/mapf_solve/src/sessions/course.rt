@@ -124,6 +124,33 @@ fn lead<'p, 's, G: Gate>(
     (course, desk)
 }
 
+/// A search under way and the desk that its jobs are posted at.
+///
+/// They are one value, so that a closure that has both has one lifetime of the problem, and not one for each of them.
+#[derive(Drop)]
+struct AtDesk<'p, 's> {
+    course: Course<'p>,
+    desk: Desk<'s, SideWork<'p>>,
+}
+
+/// The coordinator's part of a session, with the search and the desk as one value.
+fn lead_at<'p, 's, G: Gate>(
+    at: AtDesk<'p, 's>,
+    turns: u64,
+    gate: &G,
+) -> (Course<'p>, Desk<'s, SideWork<'p>>)
+    requires open_yet { at.course.search.outcome ≡ Ok None }
+    requires jobs { AreSidesOf at.course.coordinator.ahead (currents at.desk.owner) }
+    ensures problem { result.0.search.problem ≡ at.entry.course.search.problem }
+    ensures ahead { result.0.coordinator.ahead ≡ at.entry.course.coordinator.ahead }
+    ensures live { result.1.live ≡ at.entry.desk.live }
+    ensures jobs { AreSidesOf at.entry.course.coordinator.ahead (currents result.1.owner) }
+    ensures working { result.0.progress ≡ Progress.Working → (result.0.search.outcome ≡ Ok None) × TakesOn at.entry.course.search.problem at.entry.course.search.last result.0.search.last }
+{
+    let AtDesk { course, desk } = at;
+    lead(course, desk, turns, gate)
+}
+
 /// The coordinator's part of a session, and beside it that of the workers.
 fn side_by_side<'p, 's, R: Threads + Sync, G: Gate, S: Supply>(
     rt: &R,
@@ -153,6 +180,7 @@ fn side_by_side<'p, 's, R: Threads + Sync, G: Gate, S: Supply>(
     ensures workers { IfOk result.2 (λ back. All (IsWorkerOf live.now) back.items) }
     ensures idle { IfOk result.2 (λ back. All IsIdle back.items) }
 {
+    let at = AtDesk { course, desk };
     let (seats, (course, desk)) = work_beside(
         rt,
         live,
@@ -162,14 +190,14 @@ fn side_by_side<'p, 's, R: Threads + Sync, G: Gate, S: Supply>(
         gate,
         supply,
         ||
-            requires open_yet { course.search.outcome ≡ Ok None }
-            requires jobs { AreSidesOf course.coordinator.ahead (currents desk.owner) }
-            ensures problem { result.0.search.problem ≡ course.entry.search.problem }
-            ensures ahead { result.0.coordinator.ahead ≡ course.entry.coordinator.ahead }
-            ensures live { result.1.live ≡ desk.entry.live }
-            ensures jobs { AreSidesOf course.entry.coordinator.ahead (currents result.1.owner) }
-            ensures working { result.0.progress ≡ Progress.Working → (result.0.search.outcome ≡ Ok None) × TakesOn course.entry.search.problem course.entry.search.last result.0.search.last }
-        { lead(course, desk, pace.session_nodes, gate) },
+            requires open_yet { at.course.search.outcome ≡ Ok None }
+            requires jobs { AreSidesOf at.course.coordinator.ahead (currents at.desk.owner) }
+            ensures problem { result.0.search.problem ≡ at.entry.course.search.problem }
+            ensures ahead { result.0.coordinator.ahead ≡ at.entry.course.coordinator.ahead }
+            ensures live { result.1.live ≡ at.entry.desk.live }
+            ensures jobs { AreSidesOf at.entry.course.coordinator.ahead (currents result.1.owner) }
+            ensures working { result.0.progress ≡ Progress.Working → (result.0.search.outcome ≡ Ok None) × TakesOn at.entry.course.search.problem at.entry.course.search.last result.0.search.last }
+        { lead_at(at, pace.session_nodes, gate) },
     );
     (course, desk, seats)
 }

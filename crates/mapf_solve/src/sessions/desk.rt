@@ -17,6 +17,8 @@ pub(crate) struct Desk<'s, W: Work> {
     owner: Owner<W>,
     /// Which slots have a job.
     used: [bool; MOST_SLOTS],
+    /// How many slots have a job, so that no slot is looked at where none has.
+    jobs: usize,
     ghost slots: { size_of live.now ≡ MOST_SLOTS },
     ghost owns: { IsOwnerOf live.now owner },
 }
@@ -34,6 +36,7 @@ impl<'s, W: Work> Desk<'s, W> {
             work,
             owner,
             used: [false; MOST_SLOTS],
+            jobs: 0,
         }
     }
 
@@ -55,7 +58,7 @@ impl<'s, W: Work> Desk<'s, W> {
 
     /// Whether any slot has a job.
     pub(crate) fn has_jobs(&self) -> bool {
-        self.used.contains(&true)
+        self.jobs > 0
     }
 
     /// The first slot that has no job.
@@ -79,6 +82,7 @@ impl<'s, W: Work> Desk<'s, W> {
         let posted = self.live.post(&mut self.owner, slot, job).is_ok();
         if posted {
             self.used[slot] = true;
+            self.jobs = self.jobs.saturating_add(1);
         }
         posted
     }
@@ -92,6 +96,7 @@ impl<'s, W: Work> Desk<'s, W> {
     {
         let left = self.live.collect(&mut self.owner, slot)?;
         self.used[slot] = false;
+        self.jobs = self.jobs.saturating_sub(1);
         Ok(left)
     }
 
@@ -104,6 +109,7 @@ impl<'s, W: Work> Desk<'s, W> {
     {
         let job = self.live.withdraw(&mut self.owner, slot).ok()?;
         self.used[slot] = false;
+        self.jobs = self.jobs.saturating_sub(1);
         Some(job)
     }
 

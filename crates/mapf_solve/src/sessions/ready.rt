@@ -97,8 +97,8 @@ impl<'p> Ready<'p> {
             Side::Right => replace(&mut self.right, Known::Nothing),
         };
         match known {
-            Known::Worked(worked) => worked.child_of(node, side),
-            Known::Made(made) => made.child_of(node, side),
+            Known::Worked(worked) => Box::into_inner(worked).child_of(node, side),
+            Known::Made(made) => Box::into_inner(made).child_of(node, side),
             Known::Nothing | Known::Posted(_) | Known::Undone => None,
         }
     }

@@ -10,8 +10,9 @@ learn-requires g c =
 
 pub returns-in-Some-clause-known : goal.returns-in-Some-clause-known
 returns-in-Some-clause-known g c =
-    ap (λ (j : WantedChild). j.problem) c.by-worked.ensures
-    ∙ c.requires.jobs c.in-Posted.slot c.in-Some.pair.0 c.in-Some.ensures.current
+    c.worked.ensures _
+    (ap (λ (j : WantedChild). j.problem) c.by-worked.ensures
+    ∙ c.requires.jobs c.in-Posted.slot c.in-Some.pair.0 c.in-Some.ensures.current)
 
 pub returns-in-Some-clause-jobs : goal.returns-in-Some-clause-jobs
 returns-in-Some-clause-jobs g c slot job at = c.requires.jobs slot job (c.fetch.ensures.jobs slot job at)
