@@ -257,11 +257,11 @@ before_time c d h =
     (before_place (conflict_time c) (conflict_time d) (drop 1 (conflict_rank c)) (subst (λ r. Precedes r (conflict_time d ∷ [])) (by_time c) h))
 
 -- where another path is put in for one agent, the others are where they were
-other_place : (plan : List (List ℕ)) (agent : ℕ) (path : List ℕ) (k t : ℕ) → k ≢ agent → place plan k t ≡ place (set plan agent path) k t
+pub other_place : (plan : List (List ℕ)) (agent : ℕ) (path : List ℕ) (k t : ℕ) → k ≢ agent → place plan k t ≡ place (set plan agent path) k t
 other_place plan agent path k t n = ap (λ p. at p t) (sym (get_or-set_other plan agent k path [] n))
 
 -- where two plans have a conflict's agents in the same places up to its time, it is a conflict of both
-stands : (rule : Rule) (plan other : List (List ℕ)) (c : Conflict) → length other ≡ length plan
+pub stands : (rule : Rule) (plan other : List (List ℕ)) (c : Conflict) → length other ≡ length plan
     → ((t : ℕ) → t ≤ conflict_time c → place plan (first_agent c) t ≡ place other (first_agent c) t)
     → ((t : ℕ) → t ≤ conflict_time c → place plan (second_agent c) t ≡ place other (second_agent c) t) → IsConflict rule other c → IsConflict rule plan c
 stands rule plan other (Vertex i j v t) l one two is = (is.0, omega (arith, is.1, l), one t (omega arith) ∙ is.2, two t (omega arith) ∙ is.3)

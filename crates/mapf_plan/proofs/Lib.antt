@@ -1,5 +1,6 @@
 pub mod Paths
 pub mod Conflicts
+pub mod PlanNumbers
 pub mod Steps
 pub mod Pieces
 pub mod Known
@@ -15,3 +16,5 @@ pub mod Written
 pub mod OneText
 pub mod OneReading
 pub mod WhatIsLeft
+pub mod OfMeetings
+pub mod PathTimes

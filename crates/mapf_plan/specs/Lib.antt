@@ -8,3 +8,5 @@ pub mod ReadText
 pub mod Text
 pub mod TextLaws
 pub mod Files
+pub mod KnownPaths
+pub mod Meetings

@@ -6,11 +6,17 @@ mod answer;
 mod conflict;
 mod device;
 mod first_conflict;
+mod first_times;
+mod known_paths;
+mod known_plan;
 pub mod laws;
 mod marks;
+mod meetings;
+mod numbered;
 mod pair_conflicts;
 mod path;
 mod plan;
+mod plan_numbers;
 mod rule;
 mod step_conflicts;
 mod text;
@@ -23,6 +29,9 @@ pub use device::{
     write_text, write_whole,
 };
 pub use first_conflict::first_conflict_of_changed;
+pub use known_paths::KnownPaths;
+pub use known_plan::KnownPlan;
+pub use meetings::Meeting;
 pub use path::Path;
 pub use plan::Plan;
 pub use rule::Rule;

@@ -3,6 +3,7 @@ ghost use Rattle.mapf_plan.specs.Path.{at, cost, most_cells, IsFirstTime};
 ghost use Rattle.mapf_plan.specs.Plan.{most_bound};
 
 mod copy;
+mod same;
 
 use mapf_grid::Cell;
 use std::marker::Model;

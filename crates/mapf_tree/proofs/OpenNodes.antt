@@ -3,7 +3,7 @@ use Rattle.std.proofs.Common.{◌≡◌, ◌≢◌, ◌⊎◌, ◌↔◌, ℕ, L
 use Rattle.std.proofs.lemmas.List.Elements.{All-contains, All-from_recursion}
 use Rattle.mapf_grid.specs.Least.{Precedes, IsLeast}
 use Rattle.mapf_grid.proofs.Members.{here, there, here_or_there}
-use Rattle.mapf_grid.proofs.Ranks.{by_compare, irreflexive, asymmetric, before_is_other}
+use Rattle.mapf_grid.proofs.Ranks.{irreflexive, asymmetric}
 use Rattle.mapf_plan.specs.declared.conflict.Conflict.{Conflict}
 use Rattle.mapf_plan.specs.Plan.{plan_cost, HasNoConflict, IsFirstConflict}
 use Rattle.mapf_plan.proofs.Conflicts.{same_first}

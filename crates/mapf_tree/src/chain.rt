@@ -133,6 +133,17 @@ impl Chain {
         Ok(paths)
     }
 
+    /// The numbers that so many agents' paths may have among known paths.
+    pub(crate) fn numbers(&self, alloc: Global, agents: usize) -> Result<Vec<usize>, NoMemory> {
+        let mut numbers = Vec::with_capacity(alloc, agents)?;
+        for agent in 0..agents {
+            numbers.push(agent)?;
+        }
+        note_numbers(&mut numbers, &self.older);
+        note_numbers(&mut numbers, &self.own);
+        Ok(numbers)
+    }
+
     /// What an agent is forbidden.
     pub(crate) fn constraints(&self, alloc: Global, agent: usize) -> Result<Constraints, NoMemory>
         ensures { IfOk result (λ set. (agents : ℕ) → agent < agents → IsSameSet set (slice_index_or (changed_sets (replicate agents []) self.now) agent [])) }
@@ -191,6 +202,15 @@ fn change_all<'a>(paths: &mut CurrentPaths<'a>, changes: &'a [Arc<Change>])
 {
     for change in changes {
         paths.change(change);
+    }
+}
+
+/// Notes the numbers that the changes' paths may have, each for its agent.
+fn note_numbers(numbers: &mut Vec<usize>, changes: &[Arc<Change>]) {
+    for change in changes {
+        if change.agent < numbers.len() {
+            numbers[change.agent] = change.number;
+        }
     }
 }
 

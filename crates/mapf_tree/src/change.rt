@@ -9,6 +9,8 @@ pub(crate) struct Change {
     pub(crate) agent: usize,
     pub(crate) constraint: Constraint,
     pub(crate) path: Arc<Path>,
+    /// The number that the path may have among known paths; nothing rests on it.
+    pub(crate) number: usize,
 }
 
 impl Model for Change {

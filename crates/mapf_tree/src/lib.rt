@@ -35,7 +35,7 @@ pub use key::Key;
 pub use name::Name;
 pub use node::Node;
 pub use open_list::OpenList;
-pub use own_paths::OwnPaths;
+pub use own_paths::{KnownChildren, OwnPaths};
 pub use problem::Problem;
 pub use progress::Progress;
 pub use search::Search;

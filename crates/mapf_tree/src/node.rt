@@ -2,6 +2,7 @@ ghost use Rattle.std.specs.Prelude.{◌≡◌, ◌↔◌, ◌+◌, ◌<◌, ◌�
 ghost use Rattle.std.specs.Arc.{arc_value};
 ghost use Rattle.mapf_plan.specs.Path.{cost};
 ghost use Rattle.mapf_plan.specs.Plan.{path_of, plan_cost, most_bound};
+ghost use Rattle.mapf_plan.specs.KnownPaths.{IsKnownPlan};
 ghost use Rattle.mapf_tree.specs.Nodes.{Changed};
 
 use crate::chain::Chain;
@@ -10,10 +11,18 @@ use crate::current_paths::CurrentPaths;
 use crate::{Key, Name, Side};
 use mapf_grid::NoMemory;
 use mapf_low::{Constraint, Constraints};
-use mapf_plan::{AgentPaths, Conflict, Path, Plan, Rule, first_conflict_of_changed};
+use mapf_plan::{
+    AgentPaths, Conflict, KnownPaths, KnownPlan, Path, Plan, Rule, first_conflict_of_changed,
+};
 use std::alloc::Global;
 use std::marker::Model;
 use std::sync::Arc;
+
+/// Of more agents nothing is kept of when two of them collide, as there are too many pairs of them.
+const MOST_PAIRED: usize = 64;
+
+/// How many steps of a plan cost as much to look at as what is kept of one pair of its agents.
+const STEPS_OF_A_PAIR: u64 = 3;
 
 /// A node of the constraint tree: a name, constraints for each agent, the plan of the agents' own paths, and the rule by which
 /// plans of the tree have conflicts.
@@ -78,16 +87,51 @@ impl Node {
         })
     }
 
-    /// The node one turn further.
-    pub(crate) fn changed(
+    /// The first conflict of the node's plan where an agent has another path.
+    pub(crate) fn conflict_with(
+        &self,
+        alloc: Global,
+        agent: usize,
+        path: &Path,
+    ) -> Result<Option<Conflict>, NoMemory>
+        requires agent { agent < length self.now.plan }
+        requires conflict { IsSome self.now.conflict }
+        ensures { IfOk result (IsConflictOf self.now.rule (slice_set self.now.plan agent path.now)) }
+    {
+        let paths = self.paths(alloc)?;
+        Ok(self.first_conflict_with(paths, agent, path))
+    }
+
+    /// What is known of the node's plan, whose paths are added to those that are known. None where the agents are too many for
+    /// their paths, so that looking at each pair of them costs more than looking at each step.
+    pub(crate) fn known_plan(
+        &self,
+        alloc: Global,
+        known: &mut KnownPaths,
+    ) -> Result<Option<KnownPlan>, NoMemory>
+        ensures rule { known.new.rule ≡ known.old.rule }
+        ensures plan { IfOk result (λ found. IfSome found (λ plan. IsKnownPlan known.new self.now.plan plan.numbers.items plan.meetings.items)) }
+    {
+        let paths = self.paths(alloc)?;
+        let agents = paths.agents();
+        if !has_few_pairs(agents, self.key.cost) {
+            return Ok(None);
+        }
+        let numbers = self.changes.numbers(alloc, agents)?;
+        Ok(Some(known.plan(alloc, &paths, &numbers)?))
+    }
+
+    /// The node one turn further, whose plan has this first conflict.
+    pub(crate) fn turned(
         &self,
         alloc: Global,
         side: Side,
         change: Change,
+        conflict: Option<Conflict>,
     ) -> Result<Node, NoMemory>
         requires agent { change.agent < length self.now.plan }
-        requires conflict { IsSome self.now.conflict }
         requires small { plan_cost (slice_set self.now.plan change.agent change.path) ≤ most_bound }
+        requires conflict { IsConflictOf self.now.rule (slice_set self.now.plan change.agent change.path) conflict }
         ensures name { IfOk result (λ n. n.name ≡ self.now.name ++ side ∷ []) }
         ensures changes { IfOk result (λ n. n.changes ≡ self.now.changes ++ change ∷ []) }
         ensures constraints { IfOk result (λ n. n.constraints ≡ slice_set self.now.constraints change.agent (change.constraint ∷ slice_index_or self.now.constraints change.agent [])) }
@@ -95,9 +139,7 @@ impl Node {
         ensures rule { IfOk result (λ n. n.rule ≡ self.now.rule) }
         ensures conflict { IfOk result (λ n. IsConflictOf self.now.rule (slice_set self.now.plan change.agent change.path) n.conflict) }
     {
-        let paths = self.paths(alloc)?;
-        let old = paths.path(change.agent).cost();
-        let conflict = self.first_conflict_with(paths, change.agent, &change.path);
+        let old = self.path(change.agent).cost();
         let key = self.key_with(alloc, side, change.agent, old, &change.path)?;
         Ok(Node {
             key,
@@ -255,4 +297,9 @@ impl Node {
             conflict: self.conflict,
         })
     }
+}
+
+/// Whether looking at each pair of so many agents costs less than looking at each step of their plan, which has this cost.
+fn has_few_pairs(agents: usize, cost: u64) -> bool {
+    agents <= MOST_PAIRED && STEPS_OF_A_PAIR * (agents as u64 * agents as u64 / 2) <= cost
 }

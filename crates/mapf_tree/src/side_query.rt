@@ -1,9 +1,10 @@
 //! What the child on a side of a node's conflict asks of the low level.
 
-ghost use Rattle.std.specs.Prelude.{◌≡◌, ◌<◌, ◌≤◌, length, option_map, IfOk, IfSome, IsTrue};
+ghost use Rattle.std.specs.Prelude.{◌≡◌, ◌<◌, ◌≤◌, length, slice_set, option_map, Some, IfOk, IfSome, IsTrue};
 ghost use Rattle.std.specs.Arc.{arc_value};
 ghost use Rattle.mapf_plan.specs.Path.{cost};
 ghost use Rattle.mapf_plan.specs.Plan.{path_of, plan_cost, most_bound};
+ghost use Rattle.mapf_tree.specs.Nodes.{IsConflictOf};
 ghost use Rattle.mapf_tree.specs.Family.{IsBranching, IsChildOf, Leaves};
 
 use crate::change::Change;
@@ -12,7 +13,7 @@ use crate::sides::{agent_of, constraint_of};
 use crate::{FromStart, Node, Problem, Side};
 use mapf_grid::NoMemory;
 use mapf_low::{Constraint, Constraints, cheapest_backwards};
-use mapf_plan::Path;
+use mapf_plan::{Conflict, Path};
 use std::alloc::Global;
 use std::marker::Model;
 use std::sync::Arc;
@@ -210,21 +211,43 @@ impl<'p> SideQuery<'p> {
         requires path { IsFoundBy self (option_map arc_value path) }
         ensures { IfOk result (IsChildOf self.entry.problem node.now self.entry.side) }
     {
+        let Some(path) = path else {
+            return Ok(None);
+        };
+        let conflict = node.conflict_with(alloc, self.agent, &path)?;
+        Ok(Some(self.turned(alloc, node, path, 0, conflict)?))
+    }
+
+    /// The child of the node whose side it is, from the own path that it asks for and the first conflict of the child's plan.
+    /// The number is the one that the path may have among known paths; nothing rests on it.
+    pub(crate) fn turned(
+        self,
+        alloc: Global,
+        node: &Node,
+        path: Arc<Path>,
+        number: usize,
+        conflict: Option<Conflict>,
+    ) -> Result<Node, NoMemory>
+        requires node { IsBranching self.problem node.now }
+        requires query { IsQueryOf node.now self }
+        requires path { IsFoundBy self (Some (arc_value path)) }
+        requires conflict { IsConflictOf node.now.rule (slice_set node.now.plan self.agent (arc_value path)) conflict }
+        ensures { IfOk result (λ child. IsChildOf self.entry.problem node.now self.entry.side (Some child)) }
+    {
         let SideQuery {
             side,
             agent,
             constraint,
             ..
         } = self;
-        let Some(path) = path else {
-            return Ok(None);
-        };
         let change = Change {
             agent,
             constraint,
             path,
+            number,
         };
-        Ok(Some(node.changed(alloc, side, change)?))
+        let child = node.turned(alloc, side, change, conflict)?;
+        Ok(child)
     }
 }
 

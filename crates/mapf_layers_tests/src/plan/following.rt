@@ -1,3 +1,4 @@
+use super::known::expect_known;
 use mapf_grid::Cell;
 use mapf_plan::{Conflict, Path, Plan, Rule};
 use std::alloc::Global;
@@ -28,7 +29,8 @@ fn expect(
     assert_eq!(rt; plan.first_conflict_by(Rule::NoFollowing), wanted);
     assert_eq!(rt; plan.first_conflict_by(Rule::Classical), classical);
     assert_eq!(rt; plan.first_conflict(), classical);
-    Ok(())
+    expect_known(rt, alloc, paths, Rule::NoFollowing, &wanted)?;
+    expect_known(rt, alloc, paths, Rule::Classical, &classical)
 }
 
 /// The first conflict of a plan, by both rules.
@@ -41,7 +43,8 @@ fn expect_by_both(
     let plan = plan_of(rt, alloc, paths)?;
     assert_eq!(rt; plan.first_conflict_by(Rule::NoFollowing), wanted);
     assert_eq!(rt; plan.first_conflict(), wanted);
-    Ok(())
+    expect_known(rt, alloc, paths, Rule::NoFollowing, &wanted)?;
+    expect_known(rt, alloc, paths, Rule::Classical, &wanted)
 }
 
 fn following(follower: usize, leader: usize, cell: u32, time: u32) -> Option<Conflict> {

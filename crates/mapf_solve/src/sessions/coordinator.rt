@@ -1,6 +1,6 @@
 //! The coordinator of a session, who posts jobs on a live board and takes back what becomes of them.
 
-ghost use Rattle.std.specs.Prelude.{◌≡◌, ◌≤◌, All, IfOk, Ok, None};
+ghost use Rattle.std.specs.Prelude.{◌≡◌, ◌≤◌, All, IfOk, IfSome, Ok, None};
 ghost use Rattle.mapf_board.specs.Owners.{currents};
 ghost use Rattle.mapf_board.specs.declared.limits.TheConstants.{MOST_WORKERS};
 ghost use Rattle.mapf_tree.specs.Nodes.{AllStand};
@@ -154,8 +154,11 @@ impl<'p> Coordinator<'p> {
         if self.ahead.are_known(place) {
             return true;
         }
-        self.post_side(desk, node, Side::Left, place)
-            && self.post_side(desk, node, Side::Right, place)
+        let Ok((left, right)) = self.ready.known_children(node) else {
+            return true;
+        };
+        self.post_side(desk, node, Side::Left, place, left)
+            && self.post_side(desk, node, Side::Right, place, right)
     }
 
     /// Makes a child of which nothing is known yet, where its path is known, and else posts the job for it. False where no slot
@@ -166,8 +169,10 @@ impl<'p> Coordinator<'p> {
         node: &Node,
         side: Side,
         place: usize,
+        known: Option<Option<Node>>,
     ) -> bool
         requires node { IsBranching self.old.ahead node.now }
+        requires known { IfSome known (IsChildOf self.old.ahead node.now side) }
         requires jobs { AreSidesOf self.old.ahead (currents desk.old.owner) }
         ensures problem { self.new.ahead ≡ self.old.ahead }
         ensures live { desk.new.live ≡ desk.old.live }
@@ -176,13 +181,12 @@ impl<'p> Coordinator<'p> {
         if !self.ahead.is_unknown(place, side) {
             return true;
         }
-        match self.ready.known_child(node, side) {
-            Ok(None) => self.post_unknown(desk, node, side, place),
-            Ok(Some(child)) => {
+        match known {
+            None => self.post_unknown(desk, node, side, place),
+            Some(child) => {
                 self.keep_made(node, side, place, child);
                 true
             }
-            Err(_) => true,
         }
     }
 

@@ -8,7 +8,7 @@ ghost use Rattle.mapf_solve.specs.Ahead.{IsKnownOf};
 use crate::sessions::ahead::Known;
 use crate::sessions::side_job::Worked;
 use mapf_grid::NoMemory;
-use mapf_tree::{Children, FromStart, Node, OpenList, OwnPaths, Problem, Side};
+use mapf_tree::{Children, FromStart, KnownChildren, Node, OpenList, OwnPaths, Problem, Side};
 use std::alloc::Global;
 use std::marker::Model;
 use std::mem::replace;
@@ -47,16 +47,15 @@ impl<'p> Ready<'p> {
         })
     }
 
-    /// The child of a node on one side, where its path is known, or that there is no such child. None where nothing is known.
-    pub(crate) fn known_child(
-        &self,
-        node: &Node,
-        side: Side,
-    ) -> Result<Option<Option<Node>>, NoMemory>
-        requires { IsBranching self.now node.now }
-        ensures { IfOk result (λ found. IfSome found (IsChildOf self.now node.now side)) }
+    /// The children of a node on both sides, left first, each where its path is known, or that there is no such child. None
+    /// where nothing is known.
+    pub(crate) fn known_children(&mut self, node: &Node) -> Result<KnownChildren, NoMemory>
+        requires { IsBranching self.old node.now }
+        ensures problem { self.new ≡ self.old }
+        ensures left { IfOk result (λ sides. IfSome sides.0 (IsChildOf self.old node.now Side.Left)) }
+        ensures right { IfOk result (λ sides. IfSome sides.1 (IsChildOf self.old node.now Side.Right)) }
     {
-        self.own_paths.known_child(node, side)
+        self.own_paths.known_children(node)
     }
 
     /// The distances from the start of the agent on a side of a node's conflict; without a table where none is to be had.
@@ -102,18 +101,6 @@ impl<'p> Ready<'p> {
             Known::Nothing | Known::Posted(_) | Known::Undone => None,
         }
     }
-
-    /// A child of a node: as it was worked out, or worked out now.
-    fn side(&mut self, node: &Node, side: Side) -> Result<Option<Node>, NoMemory>
-        requires { IsBranching self.old node.now }
-        ensures problem { self.new ≡ self.old }
-        ensures child { IfOk result (IsChildOf self.old node.now side) }
-    {
-        match self.take(node, side) {
-            Some(found) => Ok(found),
-            None => self.own_paths.child(node, side),
-        }
-    }
 }
 
 impl<'p> Children for Ready<'p> {
@@ -126,9 +113,9 @@ impl<'p> Children for Ready<'p> {
         _problem: &Problem,
         node: &Node,
     ) -> Result<(Option<Node>, Option<Node>), NoMemory> {
-        let left = self.side(node, Side::Left)?;
-        let right = self.side(node, Side::Right)?;
-        Ok((left, right))
+        let left = self.take(node, Side::Left);
+        let right = self.take(node, Side::Right);
+        self.own_paths.children_from(node, left, right)
     }
 
     fn ahead(&mut self, _problem: &Problem, _waiting: &OpenList) {}

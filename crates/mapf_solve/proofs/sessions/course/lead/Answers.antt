@@ -1,4 +1,4 @@
-use Rattle.std.proofs.Common.{subst, ◌∙◌}
+use Rattle.std.proofs.Common.{sym, subst, ◌∙◌}
 use Rattle.mapf_board.specs.Owners.{currents}
 use Rattle.mapf_tree.specs.Search.{TakesBetween}
 use Rattle.mapf_solve.specs.Ahead.{AreSidesOf, one, more}
@@ -25,3 +25,9 @@ loop-turn-preserved g c = record {
       (r.0, more before.1 (subst (λ p. TakesBetween p c.loop-turn.course.search.last c.turn-quiet-in-Working.new.self.search.last 1) c.loop-turn.invariant.problem r.1))
       );
 }
+
+pub turn-quiet-requires-in-Working-clause-jobs : goal.turn-quiet-requires-in-Working-clause-jobs
+turn-quiet-requires-in-Working-clause-jobs g c _ _ = subst (λ p. AreSidesOf p (currents c.loop-turn.desk.owner)) (sym c.loop-turn.invariant.ahead) c.loop-turn.invariant.jobs
+
+pub returns-clause-jobs : goal.returns-clause-jobs
+returns-clause-jobs g c = subst (AreSidesOf c.args.course.coordinator.ahead) (sym c.shut.ensures.jobs) c.loop-turn.invariant.jobs

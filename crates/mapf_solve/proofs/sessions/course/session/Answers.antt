@@ -1,5 +1,6 @@
-use Rattle.std.proofs.Common.{None, sym, ap, ◌∙◌, slice_index_or}
-use Rattle.mapf_board.specs.Owners.{known_to, current_in}
+use Rattle.std.proofs.Common.{None, sym, subst, ap, ◌∙◌, slice_index_or}
+use Rattle.mapf_board.specs.Owners.{currents, known_to, current_in}
+use Rattle.mapf_solve.specs.Ahead.{AreSidesOf}
 use Rattle.mapf_solve.proofs.Boards.{none_there}
 use Rattle.mapf_solve.proofs.sessions.course.session.Goals as goal
 
@@ -7,6 +8,9 @@ pub begin-requires-clause-jobs : goal.begin-requires-clause-jobs
 begin-requires-clause-jobs g c slot job at =
     let fresh = ap known_to c.new-desk.ensures.owner ∙ c.in-Ok.ensures.no_job in
     none_there 64 slot job (sym (ap (λ v. slice_index_or v.current slot None) fresh) ∙ at)
+
+pub with_workers_if_needed-course-requires-clause-jobs : goal.with_workers_if_needed-course-requires-clause-jobs
+with_workers_if_needed-course-requires-clause-jobs g c _ _ = subst (λ p. AreSidesOf p (currents c.begin.new.desk.owner)) (sym c.begin.ensures.problem) c.begin.ensures.jobs
 
 pub keep_all-requires : goal.keep_all-requires
 keep_all-requires g c k d low =

@@ -3,6 +3,4 @@ use Rattle.mapf_tree.specs.Family.{IsChildOf}
 use Rattle.mapf_solve.proofs.sessions.coordinator.Coordinator.post_side.Goals as goal
 
 pub keep_made-requires-clause-child : goal.keep_made-requires-clause-child
-keep_made-requires-clause-child c =
-    subst (λ p. IsChildOf p c.args.node.now c.args.side c.in-Ok-Some.child) c.args.self.now.one_problem
-    (subst (λ o. IfSome o (IsChildOf c.args.self.now.ready c.args.node.now c.args.side)) c.in-Ok-Some.field-0-is c.in-Ok-Some.ensures)
+keep_made-requires-clause-child c = subst (λ o. IfSome o (IsChildOf c.args.self.now.ahead c.args.node.now c.args.side)) c.in-Some.is c.requires.known

@@ -1,11 +1,14 @@
-use Rattle.std.proofs.Common.{◌∙◌, subst}
+use Rattle.std.proofs.Common.{IfOk, subst, ◌∙◌}
 use Rattle.mapf_tree.specs.declared.side.Side.TheVariants.{Left, Right}
 use Rattle.mapf_tree.specs.Family.{IsChildOf}
 use Rattle.mapf_solve.proofs.sessions.ready.ReadyChildren.both.Goals as goal
 
 pub returns-clause-left : goal.returns-clause-left
-returns-clause-left c = subst (λ p. IsChildOf p c.args.node.now Left c.in_ok-left.left) c.requires.serves c.in_ok-left.ensures.child
+returns-clause-left c =
+    subst (λ p. IfOk c.children_from.result (λ sides. IsChildOf p c.args.node.now Left sides.0))
+    (c.self.view_is ∙ c.take-right.ensures.problem ∙ c.take-left.ensures.problem ∙ c.requires.serves) c.children_from.ensures.left
 
 pub returns-clause-right : goal.returns-clause-right
 returns-clause-right c =
-    subst (λ p. IsChildOf p c.args.node.now Right c.in_ok-right.right) (c.in_ok-left.ensures.problem ∙ c.requires.serves) c.in_ok-right.ensures.child
+    subst (λ p. IfOk c.children_from.result (λ sides. IsChildOf p c.args.node.now Right sides.1))
+    (c.self.view_is ∙ c.take-right.ensures.problem ∙ c.take-left.ensures.problem ∙ c.requires.serves) c.children_from.ensures.right

@@ -1,0 +1,64 @@
+-- Plans whose paths have numbers.
+use Rattle.std.proofs.Common.{◌≡◌, ℕ, ◌+◌, ◌<◌, List, [], ◌∷◌, ◌++◌, length, get_or, Some, refl, subst, sym, ap, ◌∙◌, arith}
+use Rattle.std.specs.Prelude.{slice_get, slice_index}
+use Rattle.std.proofs.lemmas.List.{ext_get_or, length-map, get_or-map, get_or_append_left, get_or_push}
+use Rattle.std.proofs.lemmas.List.Elements.{All-from_get_or, All-get_or}
+use Rattle.std.proofs.lemmas.Option.{get_or_from_slice_get, slice_get_within, slice_get-get_or}
+use borrow.Author.Count.{below_more}
+use Rattle.mapf_plan.specs.Plan.{path_of, IsConflict}
+use Rattle.mapf_plan.specs.declared.meetings.Meeting.{Meeting}
+use Rattle.mapf_plan.specs.Meetings.{HaveMeetings}
+use Rattle.mapf_plan.specs.KnownPaths.{KnownPaths, AreNumbers, plan_of, IsKnownPlan}
+
+-- the paths of the first agents have these numbers
+abbrev pub HaveNumbers : List (List ℕ) → List ℕ → List (List ℕ) → ℕ → Type 0
+HaveNumbers paths numbers plan n = (k : ℕ) → k < n → slice_get paths (slice_index numbers k) ≡ Some (path_of plan k)
+
+-- one agent more, whose path has the number that was added
+pub numbers_more : (old paths : List (List ℕ)) (numbers more : List ℕ) (number : ℕ) (plan : List (List ℕ)) (n : ℕ) → length numbers ≡ n →
+    ((m : ℕ) (p : List ℕ) → slice_get old m ≡ Some p → slice_get paths m ≡ Some p) → HaveNumbers old numbers plan n → slice_get paths number ≡ Some (path_of plan n) →
+    more ≡ numbers ++ number ∷ [] → HaveNumbers paths more plan (n + 1)
+numbers_more old paths numbers more number plan n count keeps have has is = below_more (λ k. slice_get paths (slice_index more k) ≡ Some (path_of plan k)) n earlier here
+  where
+    earlier : (k : ℕ) → k < n → slice_get paths (slice_index more k) ≡ Some (path_of plan k)
+    earlier k l =
+        subst (λ m. slice_get paths m ≡ Some (path_of plan k)) (sym (ap (λ ns. get_or ns k 0) is ∙ get_or_append_left numbers (number ∷ []) 0 k (omega (arith, l, count))))
+        (keeps (slice_index numbers k) (path_of plan k) (have k l))
+
+    here : slice_get paths (slice_index more n) ≡ Some (path_of plan n)
+    here = subst (λ m. slice_get paths m ≡ Some (path_of plan n)) (sym (ap (λ ns. get_or ns n 0) is ∙ get_or_push numbers number 0 n count)) has
+
+-- the plan of these numbers is the agents' plan
+pub plan_of_numbers : (paths : List (List ℕ)) (numbers : List ℕ) (plan : List (List ℕ)) → length numbers ≡ length plan → HaveNumbers paths numbers plan (length plan) → plan_of paths numbers ≡ plan
+plan_of_numbers paths numbers plan count have =
+    ext_get_or [] (plan_of paths numbers) plan (length-map numbers (λ n. path_of paths n) ∙ count) same
+  where
+    same : (i : ℕ) → i < length (plan_of paths numbers) → get_or (plan_of paths numbers) i [] ≡ get_or plan i []
+    same i l =
+        let inside : i < length numbers = subst (λ n. i < n) (length-map numbers (λ n. path_of paths n)) l in
+        get_or-map (λ n. path_of paths n) numbers i 0 [] inside ∙ get_or_from_slice_get paths (slice_index numbers i) (path_of plan i) [] (have i (subst (λ n. i < n) count inside))
+
+-- each of them is the number of a path
+pub numbers_inside : (paths : List (List ℕ)) (numbers : List ℕ) (plan : List (List ℕ)) (n : ℕ) → length numbers ≡ n → HaveNumbers paths numbers plan n → AreNumbers paths numbers
+numbers_inside paths numbers plan n count have =
+    All-from_get_or (λ m. m < length paths) numbers 0 (λ i l. slice_get_within paths (slice_index numbers i) (path_of plan i) (have i (subst (λ m. i < m) count l)))
+
+-- what is known of a plan stays so where each known path keeps its number
+pub plan_kept : (old new : KnownPaths) (plan : List (List ℕ)) (numbers : List ℕ) (meetings : List Meeting) → new.rule ≡ old.rule →
+    ((m : ℕ) (p : List ℕ) → slice_get old.paths m ≡ Some p → slice_get new.paths m ≡ Some p) → IsKnownPlan old plan numbers meetings → IsKnownPlan new plan numbers meetings
+plan_kept old new plan numbers meetings rule keeps known = record {
+  few = known.few;
+  inside = numbers_inside new.paths numbers plan (length numbers) refl (subst (HaveNumbers new.paths numbers plan) (sym count) have);
+  same = plan_of_numbers new.paths numbers plan count have;
+  meet = subst (λ r. HaveMeetings (IsConflict r plan) meetings) (sym rule) known.meet;
+}
+  where
+    count : length numbers ≡ length plan
+    count = sym (length-map numbers (λ n. path_of old.paths n)) ∙ ap length known.same
+
+    have : HaveNumbers new.paths numbers plan (length plan)
+    have k l =
+        let inside : k < length numbers = subst (λ n. k < n) (sym count) l in
+        let below : slice_index numbers k < length old.paths = All-get_or (λ n. n < length old.paths) numbers k 0 inside known.inside in
+        keeps (slice_index numbers k) (path_of plan k)
+        (slice_get-get_or old.paths (slice_index numbers k) [] below ∙ ap Some (sym (get_or-map (λ n. path_of old.paths n) numbers k 0 [] inside) ∙ ap (λ ps. path_of ps k) known.same))

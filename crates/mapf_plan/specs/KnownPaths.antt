@@ -1,0 +1,66 @@
+-- Paths by number, as a search remembers them: the plan of agents whose paths have certain numbers.
+use Rattle.std.specs.Prelude.{◌≡◌, ◌⊎◌, ℕ, ◌<◌, ◌≤◌, List, [], length, map, slice_index_or, Option, Some, None, All, Contains, ⊤}
+use Rattle.mapf_grid.specs.Instance.{most_agents}
+use Rattle.mapf_plan.specs.declared.first_times.FirstTime.{FirstTime}
+use Rattle.mapf_plan.specs.declared.first_times.FirstTime.TheVariants.{Unknown, Never, At}
+use Rattle.mapf_plan.specs.declared.meetings.Meeting.{Meeting}
+use Rattle.mapf_plan.specs.declared.rule.Rule.{Rule}
+use Rattle.mapf_plan.specs.Plan.{path_of, IsConflict}
+use Rattle.mapf_plan.specs.FirstConflict.{IsConflictOfPair}
+use Rattle.mapf_plan.specs.Meetings.{HaveNoneBefore, HaveMeetings}
+
+-- paths, each by its place, and the rule by which agents on them have conflicts
+pub record KnownPaths : Type 0 where
+  pub rule : Rule
+  pub paths : List (List ℕ)
+
+-- each of these is the number of a path
+abbrev pub AreNumbers : List (List ℕ) → List ℕ → Type 0
+AreNumbers paths numbers = All (λ n. n < length paths) numbers
+
+-- the plan of agents whose paths have these numbers, agent 0's first
+abbrev pub plan_of : List (List ℕ) → List ℕ → List (List ℕ)
+plan_of paths numbers = map (λ n. path_of paths n) numbers
+
+-- what is known of a plan: the numbers of its paths, and meetings of its conflicts
+pub record IsKnownPlan (known : KnownPaths) (plan : List (List ℕ)) (numbers : List ℕ) (meetings : List Meeting) : Type 0 where
+  pub few : length numbers ≤ most_agents
+  pub inside : AreNumbers known.paths numbers
+  pub same : plan_of known.paths numbers ≡ plan
+  pub meet : HaveMeetings (IsConflict known.rule plan) meetings
+
+-- a row of a table of times by two numbers, and an entry of a row; nothing is known where there is none
+abbrev pub row_in : List (List FirstTime) → ℕ → List FirstTime
+row_in rows one = slice_index_or rows one []
+
+abbrev pub time_in : List FirstTime → ℕ → FirstTime
+time_in row other = slice_index_or row other Unknown
+
+-- what is known of two paths once the time was looked for
+abbrev pub known_time : Option ℕ → FirstTime
+known_time None = Never
+known_time (Some t) = At t
+
+-- what is known of two paths is right
+abbrev pub IsRight : Rule → List (List ℕ) → ℕ → ℕ → FirstTime → Type 0
+IsRight rule paths one other Unknown = ⊤
+IsRight rule paths one other Never = (one < length paths) × (other < length paths) × HaveNoneBefore rule (path_of paths one) (path_of paths other) None
+IsRight rule paths one other (At t) = (one < length paths) × (other < length paths) × HaveNoneBefore rule (path_of paths one) (path_of paths other) (Some t)
+
+-- all that a table knows is right
+abbrev pub AreRight : Rule → List (List ℕ) → List (List FirstTime) → Type 0
+AreRight rule paths rows = (one other : ℕ) → IsRight rule paths one other (time_in (row_in rows one) other)
+
+-- a row after one entry of it was set, if it was
+abbrev pub IsSetTime : List FirstTime → List FirstTime → ℕ → FirstTime → Type 0
+IsSetTime row next other time = (j : ℕ) → (time_in next j ≡ time_in row j) ⊎ ((j ≡ other) × (time_in next j ≡ time))
+
+-- the meeting of two agents of whose paths this is known was added, if there is one
+abbrev pub IsAdded : ℕ → ℕ → FirstTime → List Meeting → Type 0
+IsAdded i j Unknown ms = ⊥
+IsAdded i j Never ms = ⊤
+IsAdded i j (At t) ms = Contains ms (record { first = i; second = j; time = t })
+
+-- each conflict that two agents on these paths have has a meeting, whatever the other agents' paths are
+abbrev pub AreMet : Rule → ℕ → ℕ → List ℕ → List ℕ → List Meeting → Type 0
+AreMet rule i j p q ms = (plan : List (List ℕ)) → p ≡ path_of plan i → q ≡ path_of plan j → HaveMeetings (IsConflictOfPair rule plan i j) ms
