@@ -112,12 +112,11 @@ impl Node {
         ensures rule { known.new.rule ≡ known.old.rule }
         ensures plan { IfOk result (λ found. IfSome found (λ plan. IsKnownPlan known.new self.now.plan plan.numbers.items plan.meetings.items)) }
     {
-        let paths = self.paths(alloc)?;
-        let agents = paths.agents();
-        if !has_few_pairs(agents, self.key.cost) {
+        if !has_few_pairs(self.root.agents(), self.key.cost) {
             return Ok(None);
         }
-        let numbers = self.changes.numbers(alloc, agents)?;
+        let paths = self.paths(alloc)?;
+        let numbers = self.changes.numbers(alloc, paths.agents())?;
         Ok(Some(known.plan(alloc, &paths, &numbers)?))
     }
 
