@@ -1,5 +1,5 @@
--- Meetings: a pair of agents and a time step before which they have no conflict. A node of the search keeps a short list of them
--- that covers all conflicts of its plan, and finds its first conflict from the list.
+-- Meetings: a pair of agents and a time step before which they have no conflict. A plan's first conflict is found from a short
+-- list of them that covers all its conflicts.
 use Rattle.std.specs.Prelude.{◌≡◌, ℕ, ◌≤◌, List, [], ◌∷◌, Option, Some, None, Contains}
 use Rattle.mapf_plan.specs.declared.conflict.Conflict.{Conflict}
 use Rattle.mapf_plan.specs.declared.meetings.Meeting.{Meeting}

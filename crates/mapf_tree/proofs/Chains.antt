@@ -98,11 +98,29 @@ module _ (name : List Side) (root : List (List ℕ)) (xs : List Changed) (rule :
   pub at_root : (agent : ℕ) (plan : List (List ℕ)) → plan ≡ root → agent < length node.plan → agent < length plan
   at_root agent plan e inside = omega (arith, subst (λ (n : Node). agent < length n.plan) (sym is) inside, length-changed_plan root xs, ap length e)
 
+  -- and it has as many
+  pub agents_of_root : (plan : List (List ℕ)) → plan ≡ root → length plan ≡ length node.plan
+  agents_of_root plan e = ap length e ∙ sym (length-changed_plan root xs) ∙ ap (λ (n : Node). length n.plan) is
+
   -- and so are those of its changes
   pub all_at_root : (plan : List (List ℕ)) (changes : List Changed) → plan ≡ root → changes ≡ xs → All (λ x. x.agent < length (changed_plan root xs)) xs → All (λ x. x.agent < length plan) changes
   all_at_root plan changes e f all =
       subst (λ l. All (λ x. x.agent < length plan) l) (sym f)
       (subst (λ n. All (λ x. x.agent < n) xs) (length-changed_plan root xs ∙ sym (ap length e)) all)
+
+  -- a node's constraints are those of its changes
+  pub sets_of_changes : node.constraints ≡ changed_sets (replicate (length node.plan) []) node.changes
+  sets_of_changes =
+      sym (ap (λ (n : Node). n.constraints) is) ∙ ap (λ n. changed_sets (replicate n []) xs) (sym (length-changed_plan root xs))
+      ∙ ap (λ (n : Node). changed_sets (replicate (length n.plan) []) n.changes) is
+
+  -- without a turn no agent has a constraint
+  pub none_at_root : length xs ≡ 0 → node.constraints ≡ replicate (length node.plan) []
+  none_at_root none = sets_of_changes ∙ ap (λ l. changed_sets (replicate (length node.plan) []) l) (ap (λ (n : Node). n.changes) (sym is) ∙ no_change xs none)
+    where
+      no_change : (l : List Changed) → length l ≡ 0 → l ≡ []
+      no_change [] e = refl
+      no_change (x ∷ l) e = absurd (omega (arith, e))
 
   -- a path that one of a node's changes gave an agent is the agent's
   pub turned_at : {X : Type 0} (value : X → List ℕ) (agent : ℕ) (found : Option X) (changes : List Changed) → changes ≡ xs → agent < length node.plan →

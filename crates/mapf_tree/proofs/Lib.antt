@@ -25,6 +25,7 @@ pub mod LeastCosts
 pub mod SideNodes
 pub mod Queries
 pub mod SameSets
+pub mod Books
 pub mod Rising
 pub mod OpenNodes
 pub mod TurnLemmas

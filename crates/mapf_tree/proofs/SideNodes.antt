@@ -37,7 +37,7 @@ IsOwn-set p limit i xs ys None same none = none_set _ _ _ _ xs ys same none
 IsOwn-set p limit i xs ys (Some path) same own = own_set _ _ _ _ xs ys path same own
 
 -- the own path by a bound is that by every lower limit that it keeps
-own_by_limit : (g : Grid) (cs : List Constraint) (limit bound start goal : ℕ) (q : List ℕ) → limit ≤ bound → cost q ≤ limit → IsOwnPath g start goal bound cs q → IsOwnPath g start goal limit cs q
+pub own_by_limit : (g : Grid) (cs : List Constraint) (limit bound start goal : ℕ) (q : List ℕ) → limit ≤ bound → cost q ≤ limit → IsOwnPath g start goal bound cs q → IsOwnPath g start goal limit cs q
 own_by_limit g cs limit bound start goal q l within own = record {
   member = record { path = own.member.path; within = within; obeys = own.member.obeys };
   least = λ y a. own.least y (record { path = a.path; within = omega (arith, l, a.within); obeys = a.obeys });
@@ -60,7 +60,7 @@ module _ (p : Problem) (node : Node) (m : PlannedNode) (c : Conflict) (s : Side)
       subst (λ plan. IsFirstConflict p.rule plan c) shows.plan own
 
   -- the side's agent is one of the agents
-  agent_inside : agent_on c s < length p.inst.starts
+  pub agent_inside : agent_on c s < length p.inst.starts
   agent_inside = subst (λ n. agent_on c s < n) shows.member.plan.agents (agent_below p.rule m.1 c s first.member)
 
   -- the node on this side

@@ -6,6 +6,7 @@ pub mod Answered
 pub mod Nodes
 pub mod Family
 pub mod SideQuery
+pub mod Book
 pub mod Laws
 pub mod OpenList
 pub mod Search

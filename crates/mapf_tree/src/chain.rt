@@ -65,6 +65,13 @@ impl Chain {
         }
     }
 
+    /// The older changes, and the rest.
+    pub(crate) fn parts(&self) -> (&[Arc<Change>], &[Arc<Change>])
+        ensures { map arc_value result.0.now ++ map arc_value result.1.now ≡ self.now }
+    {
+        (&self.older, &self.own)
+    }
+
     /// The chain with one change more.
     pub(crate) fn with(&self, alloc: Global, change: Change) -> Result<Chain, NoMemory>
         ensures { IfOk result (λ chain. chain ≡ self.now ++ change ∷ []) }
@@ -133,17 +140,6 @@ impl Chain {
         Ok(paths)
     }
 
-    /// The numbers that so many agents' paths may have among known paths.
-    pub(crate) fn numbers(&self, alloc: Global, agents: usize) -> Result<Vec<usize>, NoMemory> {
-        let mut numbers = Vec::with_capacity(alloc, agents)?;
-        for agent in 0..agents {
-            numbers.push(agent)?;
-        }
-        note_numbers(&mut numbers, &self.older);
-        note_numbers(&mut numbers, &self.own);
-        Ok(numbers)
-    }
-
     /// What an agent is forbidden.
     pub(crate) fn constraints(&self, alloc: Global, agent: usize) -> Result<Constraints, NoMemory>
         ensures { IfOk result (λ set. (agents : ℕ) → agent < agents → IsSameSet set (slice_index_or (changed_sets (replicate agents []) self.now) agent [])) }
@@ -202,15 +198,6 @@ fn change_all<'a>(paths: &mut CurrentPaths<'a>, changes: &'a [Arc<Change>])
 {
     for change in changes {
         paths.change(change);
-    }
-}
-
-/// Notes the numbers that the changes' paths may have, each for its agent.
-fn note_numbers(numbers: &mut Vec<usize>, changes: &[Arc<Change>]) {
-    for change in changes {
-        if change.agent < numbers.len() {
-            numbers[change.agent] = change.number;
-        }
     }
 }
 

@@ -9,8 +9,8 @@ pub(crate) struct Change {
     pub(crate) agent: usize,
     pub(crate) constraint: Constraint,
     pub(crate) path: Arc<Path>,
-    /// The number that the path may have among known paths; nothing rests on it.
-    pub(crate) number: usize,
+    /// The number that the extension of the agent's set may have among those that are known; nothing rests on it.
+    pub(crate) extension: usize,
 }
 
 impl Model for Change {

@@ -2,6 +2,7 @@
 #![tactic(auto)]
 
 mod alone;
+mod book;
 mod by_key;
 mod chain;
 mod change;
@@ -11,6 +12,7 @@ mod family;
 mod first;
 mod from_start;
 mod key;
+mod known_sets;
 pub mod laws;
 mod limit;
 mod name;

@@ -1,9 +1,9 @@
-ghost use Rattle.std.specs.Prelude.{◌≡◌, ◌↔◌, ◌+◌, ◌<◌, ◌≤◌, [], ◌∷◌, ◌++◌, length, replicate, slice_get, slice_set, slice_index_or, map, Some, IfOk, IfSome, IsSome, MatchOption, Contains};
+ghost use Rattle.std.specs.Prelude.{◌≡◌, ◌↔◌, ◌+◌, ◌<◌, ◌≤◌, [], ◌∷◌, ◌++◌, length, replicate, slice_get, slice_set, slice_index_or, map, Some, IfOk, IfSome, IsSome, IsTrue, MatchOption, Contains};
 ghost use Rattle.std.specs.Arc.{arc_value};
+ghost use Rattle.mapf_grid.specs.Instance.{most_agents};
 ghost use Rattle.mapf_plan.specs.Path.{cost};
 ghost use Rattle.mapf_plan.specs.Plan.{path_of, plan_cost, most_bound};
-ghost use Rattle.mapf_plan.specs.KnownPaths.{IsKnownPlan};
-ghost use Rattle.mapf_tree.specs.Nodes.{Changed};
+ghost use Rattle.mapf_tree.specs.Nodes.{Changed, changed_sets};
 
 use crate::chain::Chain;
 use crate::change::Change;
@@ -11,18 +11,10 @@ use crate::current_paths::CurrentPaths;
 use crate::{Key, Name, Side};
 use mapf_grid::NoMemory;
 use mapf_low::{Constraint, Constraints};
-use mapf_plan::{
-    AgentPaths, Conflict, KnownPaths, KnownPlan, Path, Plan, Rule, first_conflict_of_changed,
-};
+use mapf_plan::{AgentPaths, Conflict, Path, Plan, Rule, first_conflict_of_changed};
 use std::alloc::Global;
 use std::marker::Model;
 use std::sync::Arc;
-
-/// Of more agents nothing is kept of when two of them collide, as there are too many pairs of them.
-const MOST_PAIRED: usize = 64;
-
-/// How many steps of a plan cost as much to look at as what is kept of one pair of its agents.
-const STEPS_OF_A_PAIR: u64 = 3;
 
 /// A node of the constraint tree: a name, constraints for each agent, the plan of the agents' own paths, and the rule by which
 /// plans of the tree have conflicts.
@@ -100,24 +92,6 @@ impl Node {
     {
         let paths = self.paths(alloc)?;
         Ok(self.first_conflict_with(paths, agent, path))
-    }
-
-    /// What is known of the node's plan, whose paths are added to those that are known. None where the agents are too many for
-    /// their paths, so that looking at each pair of them costs more than looking at each step.
-    pub(crate) fn known_plan(
-        &self,
-        alloc: Global,
-        known: &mut KnownPaths,
-    ) -> Result<Option<KnownPlan>, NoMemory>
-        ensures rule { known.new.rule ≡ known.old.rule }
-        ensures plan { IfOk result (λ found. IfSome found (λ plan. IsKnownPlan known.new self.now.plan plan.numbers.items plan.meetings.items)) }
-    {
-        if !has_few_pairs(self.root.agents(), self.key.cost) {
-            return Ok(None);
-        }
-        let paths = self.paths(alloc)?;
-        let numbers = self.changes.numbers(alloc, paths.agents())?;
-        Ok(Some(known.plan(alloc, &paths, &numbers)?))
     }
 
     /// The node one turn further, whose plan has this first conflict.
@@ -236,6 +210,30 @@ impl Node {
         Some((change.agent, change.constraint, &change.path))
     }
 
+    /// What the turns of its name changed: first what it shares with the nodes below it, then the rest.
+    pub(crate) fn changes(&self) -> (&[Arc<Change>], &[Arc<Change>])
+        ensures changes { map arc_value result.0.now ++ map arc_value result.1.now ≡ self.now.changes }
+        ensures constraints { self.now.constraints ≡ changed_sets (replicate (length self.now.plan) []) self.now.changes }
+    {
+        self.changes.parts()
+    }
+
+    /// Whether it is the node of no turn.
+    pub(crate) fn is_root(&self) -> bool
+        ensures { IsTrue result → self.now.constraints ≡ replicate (length self.now.plan) [] }
+    {
+        self.key.depth == 0
+    }
+
+    /// How many agents there are.
+    pub(crate) fn agents(&self) -> usize
+        ensures agents { result ≡ length self.now.plan }
+        ensures some { 0 < result }
+        ensures few { result ≤ most_agents }
+    {
+        self.root.agents()
+    }
+
     /// An agent's path: that of its last change, or the root's.
     pub(crate) fn path(&self, agent: usize) -> &Path
         requires { agent < length self.now.plan }
@@ -296,9 +294,4 @@ impl Node {
             conflict: self.conflict,
         })
     }
-}
-
-/// Whether looking at each pair of so many agents costs less than looking at each step of their plan, which has this cost.
-fn has_few_pairs(agents: usize, cost: u64) -> bool {
-    agents <= MOST_PAIRED && STEPS_OF_A_PAIR * (agents as u64 * agents as u64 / 2) <= cost
 }

@@ -78,21 +78,6 @@ impl<'p> SideQuery<'p> {
         })
     }
 
-    /// An equal query.
-    pub(crate) fn copy(&self) -> Result<SideQuery<'p>, NoMemory>
-        ensures { IfOk result (λ other. other ≡ self.now) }
-    {
-        Ok(SideQuery {
-            problem: self.problem,
-            side: self.side,
-            agent: self.agent,
-            constraint: self.constraint,
-            constraints: self.constraints.copy()?,
-            limit: self.limit,
-            least: self.least,
-        })
-    }
-
     /// The agent.
     pub(crate) fn agent(&self) -> usize
         ensures agent { result ≡ self.now.agent }
@@ -115,12 +100,18 @@ impl<'p> SideQuery<'p> {
         self.constraints.as_slice()
     }
 
-    /// Whether another query is for the same agent with the same constraints.
-    pub(crate) fn is_alike(&self, other: &SideQuery<'_>) -> bool
-        ensures agent { IsTrue result → self.now.agent ≡ other.now.agent }
-        ensures constraints { IsTrue result → self.now.constraints ≡ other.now.constraints }
+    /// A copy of what the agent is forbidden.
+    pub(crate) fn copy_constraints(&self) -> Result<Constraints, NoMemory>
+        ensures { IfOk result (λ other. other ≡ self.now.constraints) }
     {
-        self.agent == other.agent && self.constraints.as_slice() == other.constraints.as_slice()
+        self.constraints.copy()
+    }
+
+    /// What the agent is forbidden more than at the node.
+    pub(crate) fn constraint(&self) -> Constraint
+        ensures { result ≡ self.now.constraint }
+    {
+        self.constraint
     }
 
     /// The own path that it asks for; none where there is none.
@@ -211,29 +202,27 @@ impl<'p> SideQuery<'p> {
         requires path { IsFoundBy self (option_map arc_value path) }
         ensures { IfOk result (IsChildOf self.entry.problem node.now self.entry.side) }
     {
+        self.child_by(alloc, node, path, 0)
+    }
+
+    /// The same. The number is the one that the extension of the agent's set may have among those that are known; nothing rests
+    /// on it.
+    pub(crate) fn child_by(
+        self,
+        alloc: Global,
+        node: &Node,
+        path: Option<Arc<Path>>,
+        extension: usize,
+    ) -> Result<Option<Node>, NoMemory>
+        requires node { IsBranching self.problem node.now }
+        requires query { IsQueryOf node.now self }
+        requires path { IsFoundBy self (option_map arc_value path) }
+        ensures { IfOk result (IsChildOf self.entry.problem node.now self.entry.side) }
+    {
         let Some(path) = path else {
             return Ok(None);
         };
         let conflict = node.conflict_with(alloc, self.agent, &path)?;
-        Ok(Some(self.turned(alloc, node, path, 0, conflict)?))
-    }
-
-    /// The child of the node whose side it is, from the own path that it asks for and the first conflict of the child's plan.
-    /// The number is the one that the path may have among known paths; nothing rests on it.
-    pub(crate) fn turned(
-        self,
-        alloc: Global,
-        node: &Node,
-        path: Arc<Path>,
-        number: usize,
-        conflict: Option<Conflict>,
-    ) -> Result<Node, NoMemory>
-        requires node { IsBranching self.problem node.now }
-        requires query { IsQueryOf node.now self }
-        requires path { IsFoundBy self (Some (arc_value path)) }
-        requires conflict { IsConflictOf node.now.rule (slice_set node.now.plan self.agent (arc_value path)) conflict }
-        ensures { IfOk result (λ child. IsChildOf self.entry.problem node.now self.entry.side (Some child)) }
-    {
         let SideQuery {
             side,
             agent,
@@ -244,16 +233,15 @@ impl<'p> SideQuery<'p> {
             agent,
             constraint,
             path,
-            number,
+            extension,
         };
-        let child = node.turned(alloc, side, change, conflict)?;
-        Ok(child)
+        Ok(Some(node.turned(alloc, side, change, conflict)?))
     }
 }
 
 /// What the other agents' paths leave of the bound, where this agent's own path costs so much: with a dearer path of this agent
 /// than what they leave no plan is in the tree.
-fn left_for(problem: &Problem, node: &Node, agent: usize, own: u32) -> u32
+pub(crate) fn left_for(problem: &Problem, node: &Node, agent: usize, own: u32) -> u32
     requires agent { agent < length node.now.plan }
     requires own { own ≡ cost (path_of node.now.plan agent) }
     requires within { plan_cost node.now.plan ≤ problem.now.bound }

@@ -14,7 +14,4 @@ returns-clause-answer g c =
     right_out c.args.problem.now c.into_search.result c.into_answer.result c.ok_or.result _ c.into_answer.ensures.search same c.into_answer.ensures.answer c.ok_or.ensures.value
 
 pub returns-clause-best : goal.returns-clause-best
-returns-clause-best g c =
-    let same = ap (λ s. s.problem) c.into_search.ensures ∙ c.in_ok-course.ensures.problem ∙ c.loop-course.invariant.problem in
-    best_out c.args.problem.now c.ok_or.result
-    (right_out c.args.problem.now c.into_search.result c.into_answer.result c.ok_or.result _ c.into_answer.ensures.search same c.into_answer.ensures.answer c.ok_or.ensures.value)
+returns-clause-best g c = best_out c.args.problem.now c.ok_or.result (returns-clause-answer g c)

@@ -1,0 +1,323 @@
+-- What is remembered of sets of constraints and of own paths, by their numbers.
+use Rattle.std.proofs.Common.{◌≡◌, ◌⊎◌, ℕ, zero, suc, ◌+◌, ◌<◌, ◌≤◌, List, [], ◌∷◌, ◌++◌, length, get_or, set, replicate, Option, Some, None, IsSome, subst, subst₂, sym, refl, ap, ◌∙◌, inl, inr, ⊎_elim, arith, get_or-set_same, get_or-set_other}
+use Rattle.std.specs.Prelude.{slice_get, slice_index}
+use Rattle.std.proofs.lemmas.List.{length-set, length_push, length-append, length-replicate, get_or-replicate, get_or_append_left, get_or_push}
+use Rattle.std.proofs.lemmas.List.Sums.{get_or-le-sum_by}
+use Rattle.std.proofs.lemmas.Option.{get_or_from_slice_get, slice_get_within, slice_get-get_or}
+use borrow.Author.Count.{below_more}
+use Rattle.mapf_grid.proofs.Lists.{set_cases}
+use Rattle.mapf_grid.specs.Instance.{most_agents}
+use Rattle.mapf_plan.specs.Path.{cost}
+use Rattle.mapf_plan.specs.Plan.{path_of, plan_cost}
+use Rattle.mapf_plan.specs.declared.conflict.Conflict.{Conflict}
+use Rattle.mapf_plan.proofs.PlanNumbers.{HaveNumbers, plan_of_numbers, numbers_inside}
+use Rattle.mapf_low.specs.declared.constraint.Constraint.{Constraint}
+use Rattle.mapf_low.proofs.Limits.{own_by_bound}
+use Rattle.mapf_low.proofs.OwnPaths.{own_path_costs, same_own}
+use Rattle.mapf_low.proofs.Sets.{own_set}
+use Rattle.mapf_tree.specs.declared.side.Side.{Side}
+use Rattle.mapf_tree.specs.declared.known_sets.Extension.{Extension}
+use Rattle.mapf_tree.specs.declared.known_sets.KnownOwn.{KnownOwn}
+use Rattle.mapf_tree.specs.declared.known_sets.KnownOwn.TheVariants.{Path, NoneWithin}
+use Rattle.mapf_tree.specs.declared.known_sets.KnownSet.{KnownSet}
+use Rattle.mapf_tree.specs.Problem.{Problem}
+use Rattle.mapf_tree.specs.Nodes.{Node, IsSameSet, IsConflictOf}
+use Rattle.mapf_tree.specs.Family.{IsBranching, IsChildOf, IsOwnWithin, Leaves}
+use Rattle.mapf_tree.specs.SideQuery.{SideQuery, IsQueryOf, IsFoundBy}
+use Rattle.mapf_tree.specs.Tree.{IsAllowedFor, IsOwnPathOf, agent_on, constraint_on, constraints_of}
+use Rattle.mapf_tree.specs.Book.{Book, HasSet, IsExtension, AreExtensions, IsExtended, HasOwnPath, AreKnown, IsKnownOwn, IsOwnIn, IsFoundAt, AreFirst, AreSetsOf, ArePathsOf}
+use Rattle.mapf_tree.proofs.ConstraintSets.{with_same, IsWith, IsWith-cons}
+use Rattle.mapf_tree.proofs.SideNodes.{own_by_limit, within_bound, agent_inside}
+use Rattle.mapf_tree.proofs.Queries.{is_child, no_child}
+
+-- two values that are there are one
+one_value : {A : Type 0} (x y : A) → ◌≡◌ {A = Option A} (Some x) (Some y) → x ≡ y
+one_value x y e = cc
+
+-- an element keeps its place where more are added
+slice_get_left : {X : Type 0} (xs ys : List X) (k : ℕ) (x : X) → slice_get xs k ≡ Some x → slice_get (xs ++ ys) k ≡ Some x
+slice_get_left xs ys k x e =
+    let inside : k < length xs = slice_get_within xs k x e in
+    slice_get-get_or (xs ++ ys) k x (omega (arith, inside, length-append xs ys)) ∙ ap Some (get_or_append_left xs ys x k inside ∙ get_or_from_slice_get xs k x x e)
+
+-- and the next place is that of the one that is added
+slice_get_push : {X : Type 0} (xs : List X) (y : X) → slice_get (xs ++ y ∷ []) (length xs) ≡ Some y
+slice_get_push xs y =
+    slice_get-get_or (xs ++ y ∷ []) (length xs) y (omega (arith, length_push xs y)) ∙ ap Some (get_or_push xs y y (length xs) refl)
+
+-- an element of such a list is an old one or the one that is added
+of_push : {X : Type 0} (xs : List X) (y : X) (k : ℕ) (x : X) → slice_get (xs ++ y ∷ []) k ≡ Some x → (slice_get xs k ≡ Some x) ⊎ (x ≡ y)
+of_push [] y zero x e = inr (one_value x y (sym e))
+of_push [] y (suc k) x e = absurd (let m : ◌≡◌ {A = ℕ} 0 1 = cc in omega (arith, m))
+of_push (z ∷ xs) y zero x e = inl e
+of_push (z ∷ xs) y (suc k) x e = of_push xs y k x e
+
+-- a number is that of one set
+pub same_known : (sets : List KnownSet) (number : ℕ) (s t : KnownSet) → slice_get sets number ≡ Some s → slice_get sets number ≡ Some t → s ≡ t
+same_known sets number s t e f = one_value s t (sym e ∙ f)
+
+-- so the agent and the constraints of a number are those of its set
+pub same_set : (sets : List KnownSet) (number agent : ℕ) (cs : List Constraint) (s : KnownSet) → slice_get sets number ≡ Some s → HasSet sets number agent cs → (s.agent ≡ agent) × (s.constraints ≡ cs)
+same_set sets number agent cs s at has =
+    let one = same_known sets number s has.0 at has.1 in
+    (ap (λ (t : KnownSet). t.agent) one ∙ has.2, ap (λ (t : KnownSet). t.constraints) one ∙ has.3)
+
+-- a number is that of one agent's constraints
+same_number : (sets : List KnownSet) (number agent other : ℕ) (cs ds : List Constraint) → HasSet sets number agent cs → HasSet sets number other ds → (agent ≡ other) × (cs ≡ ds)
+same_number sets number agent other cs ds one has =
+    let same = same_set sets number other ds one.0 one.1 has in
+    (sym one.2 ∙ same.0, sym one.3 ∙ same.1)
+
+-- an extension tells the set with its constraint more, whichever agent has the first one
+pub extension_tells : (sets : List KnownSet) (e : Extension) (before : ℕ) (constraint : Constraint) → IsExtension sets e → e.before ≡ before → e.constraint ≡ constraint → IsExtended sets before constraint e.after
+extension_tells sets e before constraint is same forbids agent cs has =
+    let one = same_number sets before is.0 agent is.1 cs (subst (λ n. HasSet sets n is.0 is.1) same is.3) has in
+    (is.2, subst (λ a. HasSet sets e.after a is.2) one.0 is.4, subst₂ (λ k ds. IsWith k ds is.2) forbids one.1 is.5)
+
+-- a set keeps its number where one more is added
+pub set_kept : (sets more : List KnownSet) (added : KnownSet) (number agent : ℕ) (cs : List Constraint) → more ≡ sets ++ added ∷ [] → HasSet sets number agent cs → HasSet more number agent cs
+set_kept sets more added number agent cs is has = (has.0, subst (λ l. slice_get l number ≡ Some has.0) (sym is) (slice_get_left sets (added ∷ []) number has.0 has.1), has.2, has.3)
+
+-- and the added one has the next number
+pub set_added : (sets more : List KnownSet) (added : KnownSet) (number : ℕ) → more ≡ sets ++ added ∷ [] → number ≡ length sets → HasSet more number added.agent added.constraints
+set_added sets more added number is at = (added, subst₂ (λ l n. slice_get l n ≡ Some added) (sym is) (sym at) (slice_get_push sets added), refl, refl)
+
+-- what is remembered of extensions stays so with one more
+pub extensions_more : (sets : List KnownSet) (old new : List Extension) (e : Extension) → new ≡ old ++ e ∷ [] → AreExtensions sets old → IsExtension sets e → AreExtensions sets new
+extensions_more sets old new e is are one number x at =
+    ⊎_elim (λ h. are number x h) (λ h. subst (IsExtension sets) (sym h) one) (of_push old e number x (subst (λ xs. slice_get xs number ≡ Some x) is at))
+
+-- and where a set is added
+pub extensions_kept : (sets more : List KnownSet) (added : KnownSet) (all : List Extension) → more ≡ sets ++ added ∷ [] → AreExtensions sets all → AreExtensions more all
+extensions_kept sets more added all is are number e at =
+    let old = are number e at in
+    (old.0, old.1, old.2, set_kept sets more added e.before old.0 old.1 is old.3, set_kept sets more added e.after old.0 old.2 is old.4, old.5)
+
+-- each agent's set after one of them has one constraint more
+pub sets_turned_on : (sets : List KnownSet) (numbers : List ℕ) (cs : List (List Constraint)) (agent more : ℕ) (constraint : Constraint) → agent < length numbers → AreSetsOf sets numbers cs →
+    IsExtended sets (slice_index numbers agent) constraint more → AreSetsOf sets (set numbers agent more) (set cs agent (constraint ∷ get_or cs agent []))
+sets_turned_on sets numbers cs agent more constraint inside are has = record {
+  each = length-set numbers agent more ∙ are.each ∙ sym (length-set cs agent _);
+  same = λ j l. same j (subst (λ n. j < n) (length-set cs agent _) l);
+}
+  where
+    Own : ℕ → ℕ → List Constraint → Type 0
+    Own j number xs = (ds : List Constraint) × HasSet sets number j ds × IsSameSet ds xs
+
+    here : Own agent more (constraint ∷ get_or cs agent [])
+    here =
+        let old = are.same agent (subst (λ n. agent < n) are.each inside) in
+        let new = has agent old.0 old.1 in
+        (new.0, new.1, IsWith-cons constraint (get_or cs agent []) old.0 new.0 old.2 new.2)
+
+    same : (j : ℕ) → j < length cs → Own j (slice_index (set numbers agent more) j) (get_or (set cs agent (constraint ∷ get_or cs agent [])) j [])
+    same j l =
+        set_cases (λ xs. Own j (slice_index (set numbers agent more) j) xs) cs agent j (constraint ∷ get_or cs agent []) [] l
+        (λ e. subst (λ k. Own k (slice_index (set numbers agent more) k) (constraint ∷ get_or cs agent [])) e
+        (subst (λ n. Own agent n (constraint ∷ get_or cs agent [])) (sym (get_or-set_same numbers agent more 0 inside)) here))
+        (λ n. subst (λ k. Own j k (get_or cs j [])) (sym (get_or-set_other numbers agent j more 0 (λ e. n (sym e)))) (are.same j l))
+
+-- one number more of a list each of whose numbers has what its place asks for
+pub each_more : (P : ℕ → ℕ → Type 0) (xs more : List ℕ) (y n : ℕ) → more ≡ xs ++ y ∷ [] → (length xs ≡ n) × ((k : ℕ) → k < n → P k (slice_index xs k)) → P n y →
+    (length more ≡ n + 1) × ((k : ℕ) → k < n + 1 → P k (slice_index more k))
+each_more P xs more y n is all one =
+    (ap length is ∙ length_push xs y ∙ ap (λ k. k + 1) all.0, below_more (λ k. P k (slice_index more k)) n earlier here)
+  where
+    earlier : (k : ℕ) → k < n → P k (slice_index more k)
+    earlier k l = subst (P k) (sym (ap (λ ns. get_or ns k 0) is ∙ get_or_append_left xs (y ∷ []) 0 k (omega (arith, l, all.0)))) (all.1 k l)
+
+    here : P n (slice_index more n)
+    here = subst (P n) (sym (ap (λ ns. get_or ns n 0) is ∙ get_or_push xs y 0 n all.0)) one
+
+-- at first each agent has the empty set
+pub sets_begun : (sets : List KnownSet) (numbers : List ℕ) (agents : ℕ) → (length numbers ≡ agents) × ((k : ℕ) → k < agents → HasSet sets (slice_index numbers k) k []) →
+    AreSetsOf sets numbers (replicate agents [])
+sets_begun sets numbers agents are = record {
+  each = are.0 ∙ sym (length-replicate agents []);
+  same = λ agent l.
+      let inside : agent < agents = subst (λ n. agent < n) (length-replicate agents []) l in
+      ([], are.1 agent inside, subst (IsSameSet []) (sym (get_or-replicate agents agent [] [] inside)) (λ x. ((λ h. h), (λ h. h))));
+}
+
+-- the numbers of each agent's set stay so where a set is added
+pub sets_kept : (old new : List KnownSet) (numbers : List ℕ) (cs : List (List Constraint)) → ((n a : ℕ) (ds : List Constraint) → HasSet old n a ds → HasSet new n a ds) → AreSetsOf old numbers cs → AreSetsOf new numbers cs
+sets_kept old new numbers cs keeps are = record {
+  each = are.each;
+  same = λ agent l. let set = are.same agent l in (set.0, keeps (slice_index numbers agent) agent set.0 set.1, set.2);
+}
+
+-- and so do those of the empty sets
+pub firsts_kept : (problem : Problem) (old new : List KnownSet) (numbers : List ℕ) → ((n a : ℕ) (ds : List Constraint) → HasSet old n a ds → HasSet new n a ds) → AreFirst problem old numbers → AreFirst problem new numbers
+firsts_kept problem old new numbers keeps are = ⊎_elim inl (λ h. inr (sets_kept old new numbers _ keeps h)) are
+
+-- what is remembered of sets stays so where each path keeps its number
+pub known_kept : (problem : Problem) (old new : List (List ℕ)) (sets : List KnownSet) → ((n : ℕ) (p : List ℕ) → slice_get old n ≡ Some p → slice_get new n ≡ Some p) → AreKnown problem old sets → AreKnown problem new sets
+known_kept problem old new sets keeps are number s at = kept s.own (are number s at)
+  where
+    kept : (own : KnownOwn) → IsKnownOwn problem old s.agent s.constraints own → IsKnownOwn problem new s.agent s.constraints own
+    kept (Path n) known = (known.0, keeps n known.0 known.1, known.2)
+    kept (NoneWithin limit) none = none
+
+-- and with one set more
+pub known_more : (problem : Problem) (paths : List (List ℕ)) (old new : List KnownSet) (s : KnownSet) → new ≡ old ++ s ∷ [] → AreKnown problem paths old → IsKnownOwn problem paths s.agent s.constraints s.own →
+    AreKnown problem paths new
+known_more problem paths old new s is are one number x at =
+    ⊎_elim (λ h. are number x h) (λ h. subst (λ (t : KnownSet). IsKnownOwn problem paths t.agent t.constraints t.own) (sym h) one) (of_push old s number x (subst (λ xs. slice_get xs number ≡ Some x) is at))
+
+-- the own path under a known set
+pub own_path_of : (book : Book) (set number : ℕ) (s : KnownSet) → AreKnown book.problem book.paths book.sets → slice_get book.sets set ≡ Some s → s.own ≡ Path number → HasOwnPath book set number
+own_path_of book set number s is at own agent cs has =
+    let known = subst (IsKnownOwn book.problem book.paths s.agent s.constraints) own (is set s at) in
+    let same = same_set book.sets set agent cs s at has in
+    (known.0, known.1, subst₂ (λ i xs. IsOwnPathOf book.problem i xs known.0) same.0 same.1 known.2)
+
+-- how many agents a node of the tree has
+pub agents_at_node : (problem : Problem) (node : Node) → IsBranching problem node → length node.plan ≡ length problem.inst.starts
+agents_at_node problem node branching = ap length branching.stands.plan ∙ branching.stands.member.plan.agents
+
+-- the own paths under each agent's set are those of the node's plan, as an agent has one own path under a set
+pub paths_at_node : (book : Book) (node : Node) (sets paths : List ℕ) → IsBranching book.problem node → AreSetsOf book.sets sets node.constraints →
+    (length paths ≡ length sets) × ((k : ℕ) → k < length sets → HasOwnPath book (slice_index sets k) (slice_index paths k)) → 0 < length node.plan → length node.plan ≤ most_agents →
+    ArePathsOf book.paths paths node.plan
+paths_at_node book node sets paths branching are own some few = record {
+  few = (omega (arith, each, some), omega (arith, each, few));
+  inside = numbers_inside book.paths paths node.plan (length node.plan) each have;
+  same = plan_of_numbers book.paths paths node.plan each have;
+}
+  where
+    agents : length node.plan ≡ length book.problem.inst.starts
+    agents = agents_at_node book.problem node branching
+
+    count : length sets ≡ length book.problem.inst.starts
+    count = are.each ∙ branching.stands.agents
+
+    each : length paths ≡ length node.plan
+    each = own.0 ∙ count ∙ sym agents
+
+    have : HaveNumbers book.paths paths node.plan (length node.plan)
+    have agent l =
+        let inside : agent < length book.problem.inst.starts = omega (arith, l, agents) in
+        let set = are.same agent (omega (arith, inside, branching.stands.agents)) in
+        let known = own.1 agent (omega (arith, inside, count)) agent set.0 set.1 in
+        let all : IsSameSet set.0 (constraints_of branching.of.0 agent) =
+        λ x. let one = set.2 x in let two = branching.stands.sets agent inside x in ((λ h. two.0 (one.0 h)), (λ h. one.1 (two.1 h))) in
+        let one : known.0 ≡ path_of branching.of.1 agent = same_own _ _ _ _ _ _ _ (own_set _ _ _ _ set.0 (constraints_of branching.of.0 agent) known.0 all known.2) (branching.stands.member.plan.own agent inside) in
+        known.1 ∙ ap Some (one ∙ ap (λ plan. path_of plan agent) (sym branching.stands.plan))
+
+-- the agent of a query of a node's side is one of the agents
+pub query_inside : (node : Node) (q : SideQuery) → IsBranching q.problem node → IsQueryOf node q → q.agent < length node.plan
+query_inside node q branching is = told node.conflict refl branching.conflict
+  where
+    told : (x : Option Conflict) → node.conflict ≡ x → IsSome x → q.agent < length node.plan
+    told None e some = absurd (let m : ◌≡◌ {A = ℕ} 0 1 = cc in omega (arith, m))
+    told (Some c) e some = omega (arith, is.agent c e, agent_inside q.problem node branching.of c q.side branching.stands e, agents_at_node q.problem node branching)
+
+-- where no agent has a constraint, an agent's path is its own one under the empty set
+pub root_own : (problem : Problem) (node : Node) (agent : ℕ) → IsBranching problem node → node.constraints ≡ replicate (length node.plan) [] → agent < length node.plan → IsOwnPathOf problem agent [] (path_of node.plan agent)
+root_own problem node agent branching none inside =
+    let below : agent < length problem.inst.starts = omega (arith, inside, agents_at_node problem node branching) in
+    let empty : get_or node.constraints agent [] ≡ [] = ap (λ l. get_or l agent []) none ∙ get_or-replicate (length node.plan) agent [] [] inside in
+    let same : IsSameSet (constraints_of branching.of.0 agent) [] =
+    λ x. let one = subst (λ l. IsSameSet l (constraints_of branching.of.0 agent)) empty (branching.stands.sets agent below) x in (one.1, one.0) in
+    subst (λ plan. IsOwnPathOf problem agent [] (path_of plan agent)) (sym branching.stands.plan)
+    (own_set _ _ _ _ (constraints_of branching.of.0 agent) [] (path_of branching.of.1 agent) same (branching.stands.member.plan.own agent below))
+
+-- once the empty sets have numbers, each agent's set is one of them
+pub sets_at_first : (problem : Problem) (sets : List KnownSet) (numbers : List ℕ) → AreFirst problem sets numbers → 0 < length numbers → AreSetsOf sets numbers (replicate (length problem.inst.starts) [])
+sets_at_first problem sets numbers are some = ⊎_elim (λ e. absurd (omega (arith, some, ap length e))) (λ h. h) are
+
+-- what the others leave of the bound is at most the bound
+pub limit_within : (problem : Problem) (node : Node) (agent limit : ℕ) → agent < length node.plan → Leaves problem node.plan agent limit → limit ≤ problem.bound
+limit_within problem node agent limit inside leaves = omega (arith, leaves, get_or-le-sum_by cost node.plan agent [] inside)
+
+-- the own path at a cost of at most a limit is the own path
+pub own_found : (node : Node) (q : SideQuery) (path : List ℕ) → q.agent < length node.plan → IsQueryOf node q → IsFoundBy q (Some path) → IsOwnPathOf q.problem q.agent q.constraints path
+own_found node q path inside is found = own_by_bound _ _ q.limit q.problem.bound _ _ path (limit_within q.problem node q.agent q.limit inside is.leaves) found
+
+-- a path that is dearer than a limit tells that there is none within it
+none_dearer : (problem : Problem) (limit agent : ℕ) (cs : List Constraint) (path : List ℕ) → limit ≤ problem.bound → limit < cost path → IsOwnPathOf problem agent cs path → IsOwnWithin problem limit agent cs None
+none_dearer problem limit agent cs path small dear own q allowed =
+    let more : IsAllowedFor problem agent cs q = record { path = allowed.path; within = omega (arith, allowed.within, small); obeys = allowed.obeys } in
+    absurd (omega (arith, own_path_costs _ _ _ _ cs path q own more, allowed.within, dear))
+
+-- where there is no path within a limit there is none within a lower one
+none_lower : (problem : Problem) (limit least agent : ℕ) (cs : List Constraint) → limit ≤ least → IsOwnWithin problem least agent cs None → IsOwnWithin problem limit agent cs None
+none_lower problem limit least agent cs small none q allowed = none q (record { path = allowed.path; within = omega (arith, allowed.within, small); obeys = allowed.obeys })
+
+-- the own path of a known set serves a lower limit that it keeps, and above it there is none
+pub own_in_path : (book : Book) (set number limit : ℕ) (path : List ℕ) (s : KnownSet) → AreKnown book.problem book.paths book.sets → slice_get book.sets set ≡ Some s → s.own ≡ Path number → slice_get book.paths number ≡ Some path →
+    limit ≤ book.problem.bound → cost path ≤ limit → IsOwnIn book set limit (Some number)
+own_in_path book set number limit path s is at own there small within agent cs has =
+    let known = own_path_of book set number s is at own agent cs has in
+    let one : known.0 ≡ path = one_value known.0 path (sym known.1 ∙ there) in (
+      slice_get_within book.paths number path there,
+      subst (IsOwnWithin book.problem limit agent cs) (ap Some (one ∙ sym (get_or_from_slice_get book.paths number path [] there)))
+          (own_by_limit _ cs limit book.problem.bound _ _ known.0 small (subst (λ p. cost p ≤ limit) (sym one) within) known.2),
+    )
+
+pub own_in_dearer : (book : Book) (set number limit : ℕ) (path : List ℕ) (s : KnownSet) → AreKnown book.problem book.paths book.sets → slice_get book.sets set ≡ Some s → s.own ≡ Path number → slice_get book.paths number ≡ Some path →
+    limit ≤ book.problem.bound → limit < cost path → IsOwnIn book set limit None
+own_in_dearer book set number limit path s is at own there small dear agent cs has =
+    let known = own_path_of book set number s is at own agent cs has in
+    let one : known.0 ≡ path = one_value known.0 path (sym known.1 ∙ there) in
+    (tt, λ q allowed. none_dearer book.problem limit agent cs known.0 small (subst (λ p. limit < cost p) (sym one) dear) known.2 q allowed)
+
+-- where there was none within a limit there is none within a lower one
+pub own_in_none : (book : Book) (set limit least : ℕ) (s : KnownSet) → AreKnown book.problem book.paths book.sets → slice_get book.sets set ≡ Some s → s.own ≡ NoneWithin least → limit ≤ least → IsOwnIn book set limit None
+own_in_none book set limit least s is at own small agent cs has =
+    let known = subst (IsKnownOwn book.problem book.paths s.agent s.constraints) own (is set s at) in
+    let same = same_set book.sets set agent cs s at has in
+    (tt, none_lower book.problem limit least agent cs small (subst₂ (λ i xs. IsOwnWithin book.problem least i xs None) same.0 same.1 known))
+
+-- what is known of the agent's set at a node and its constraint is what the side's query asks for
+pub found_at : (book : Book) (node : Node) (side : Side) (sets : List ℕ) (c : Conflict) (agent limit extended : ℕ) (constraint : Constraint) (found : Option ℕ) → IsBranching book.problem node → AreSetsOf book.sets sets node.constraints →
+    node.conflict ≡ Some c → agent ≡ agent_on c side → constraint ≡ constraint_on c side → agent < length node.constraints → IsExtended book.sets (slice_index sets agent) constraint extended →
+    Leaves book.problem node.plan agent limit → IsOwnIn book extended limit found → IsFoundAt book node side found
+found_at book node side sets c agent limit extended constraint found branching are is on forbids inside has leaves own =
+    let set = are.same agent inside in
+    let more = has agent set.0 set.1 in
+    let path = own agent more.0 more.1 in (
+      record { problem = book.problem; side = side; agent = agent; constraint = constraint; constraints = more.0; limit = limit },
+      refl,
+      refl,
+      record {
+        agent = λ d e. on ∙ ap (λ x. agent_on x side) (one_value c d (sym is ∙ e));
+        constraint = λ d e. forbids ∙ ap (λ x. constraint_on x side) (one_value c d (sym is ∙ e));
+        constraints = with_same constraint set.0 (get_or node.constraints agent []) more.0 set.2 more.2;
+        leaves = leaves;
+      },
+      path.0,
+      path.1,
+    )
+
+-- where the query of a side has no own path there is no child
+pub none_at : (book : Book) (node : Node) (side : Side) → IsFoundAt book node side None → IsChildOf book.problem node side None
+none_at book node side found = subst₂ (λ p s. IsChildOf p node s None) found.1 found.2 (no_child node found.0 found.3 found.5)
+
+-- with one the child is within the bound
+pub small_at : (book : Book) (node : Node) (side : Side) (c : Conflict) (agent number : ℕ) (path : List ℕ) → IsBranching book.problem node → IsFoundAt book node side (Some number) → slice_get book.paths number ≡ Some path →
+    node.conflict ≡ Some c → agent ≡ agent_on c side → (agent < length node.plan) × (plan_cost (set node.plan agent path) ≤ book.problem.bound)
+small_at book node side c agent number path branching found at is on =
+    let q = found.0 in
+    let same : agent ≡ q.agent = on ∙ ap (λ s. agent_on c s) (sym found.2) ∙ sym (found.3.agent c is) in
+    let inside : q.agent < length node.plan = query_inside node q (subst (λ p. IsBranching p node) (sym found.1) branching) found.3 in
+    let own : IsFoundBy q (Some path) = subst (λ p. IsFoundBy q (Some p)) (get_or_from_slice_get book.paths number path [] at) found.5 in (
+      subst (λ a. a < length node.plan) (sym same) inside,
+      subst₂ (λ a n. plan_cost (set node.plan a path) ≤ n) (sym same) (ap (λ (p : Problem). p.bound) found.1) (within_bound q.problem node.plan q.agent q.limit q.constraints path inside found.3.leaves own),
+    )
+
+-- and the node that has it is the child
+pub child_at : (book : Book) (node new : Node) (side : Side) (c : Conflict) (agent number : ℕ) (constraint : Constraint) (path : List ℕ) → IsFoundAt book node side (Some number) → slice_get book.paths number ≡ Some path →
+    node.conflict ≡ Some c → agent ≡ agent_on c side → constraint ≡ constraint_on c side → new.name ≡ node.name ++ side ∷ [] →
+    new.changes ≡ node.changes ++ record { agent = agent; constraint = constraint; path = path } ∷ [] → new.constraints ≡ set node.constraints agent (constraint ∷ get_or node.constraints agent []) →
+    new.plan ≡ set node.plan agent path → new.rule ≡ node.rule → IsConflictOf node.rule (set node.plan agent path) new.conflict → IsChildOf book.problem node side (Some new)
+child_at book node new side c agent number constraint path found at is on forbids name changes constraints plan rule conflict =
+    let q = found.0 in
+    let a : agent ≡ q.agent = on ∙ ap (λ s. agent_on c s) (sym found.2) ∙ sym (found.3.agent c is) in
+    let k : constraint ≡ q.constraint = forbids ∙ ap (λ s. constraint_on c s) (sym found.2) ∙ sym (found.3.constraint c is) in
+    let own : IsFoundBy q (Some path) = subst (λ p. IsFoundBy q (Some p)) (get_or_from_slice_get book.paths number path [] at) found.5 in
+    subst₂ (λ p s. IsChildOf p node s (Some new)) found.1 found.2
+    (is_child node new q path found.3 own (subst (λ s. new.name ≡ node.name ++ s ∷ []) (sym found.2) name)
+    (subst₂ (λ i x. new.changes ≡ node.changes ++ record { agent = i; constraint = x; path = path } ∷ []) a k changes)
+    (subst₂ (λ i x. new.constraints ≡ set node.constraints i (x ∷ get_or node.constraints i [])) a k constraints) (subst (λ i. new.plan ≡ set node.plan i path) a plan) rule
+    (subst (λ i. IsConflictOf node.rule (set node.plan i path) new.conflict) a conflict))

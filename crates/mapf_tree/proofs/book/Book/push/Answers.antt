@@ -1,0 +1,22 @@
+use Rattle.std.proofs.Common.{subst, sym}
+use Rattle.mapf_tree.specs.declared.known_sets.KnownSet.{KnownSet}
+use Rattle.mapf_tree.specs.Book.{Book, HasSet, IsKnownOwn}
+use Rattle.mapf_tree.proofs.Books.{known_more, firsts_kept, set_kept, set_added}
+use Rattle.mapf_tree.proofs.book.Book.push.Goals as goal
+
+pub invariant_of-self-2 : goal.invariant_of-self-2
+invariant_of-self-2 c =
+    let s : KnownSet = record { agent = c.args.agent; constraints = c.args.constraints; own = c.args.own } in
+    let problem = c.self.inside.problem.now in let old = c.self.inside.sets in let new = c.push.new.self in (
+      known_more problem c.self.inside.paths.paths old new s c.in_ok-set.ensures.added.0 c.self.invariant.0
+          (subst (λ (b : Book). IsKnownOwn b.problem b.paths c.args.agent c.args.constraints c.args.own) (sym c.self.view_is) c.requires),
+      firsts_kept problem old new c.self.inside.firsts.items (λ n a cs h. set_kept old new s n a cs c.in_ok-set.ensures.added.0 h) c.self.invariant.1,
+      c.self.invariant.2,
+    )
+
+pub returns-clause-kept : goal.returns-clause-kept
+returns-clause-kept c n a cs has =
+    set_kept _ _ (record { agent = c.args.agent; constraints = c.args.constraints; own = c.args.own }) n a cs c.in_ok-set.ensures.added.0 (subst (λ (b : Book). HasSet b.sets n a cs) (sym c.self.view_is) has)
+
+pub returns-clause-set : goal.returns-clause-set
+returns-clause-set c = set_added _ _ (record { agent = c.args.agent; constraints = c.args.constraints; own = c.args.own }) c.in_ok-set.set c.in_ok-set.ensures.added.0 c.in_ok-set.ensures.added.1

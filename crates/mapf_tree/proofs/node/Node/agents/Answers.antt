@@ -1,0 +1,6 @@
+use Rattle.std.proofs.Common.{◌∙◌}
+use Rattle.mapf_tree.proofs.Chains.{agents_of_root}
+use Rattle.mapf_tree.proofs.node.Node.agents.Goals as goal
+
+pub returns-clause-agents : goal.returns-clause-agents
+returns-clause-agents c = c.agents.ensures.agents ∙ agents_of_root _ _ _ _ _ c.args.self.now c.self.view_is c.deref.result.now c.deref.ensures

@@ -1,0 +1,480 @@
+//! Own paths by the sets of constraints under which they were searched.
+
+ghost use Rattle.std.specs.Prelude.{◌≡◌, ◌<◌, ◌≤◌, ℕ, List, [], ◌∷◌, length, map, slice_get, slice_set, replicate, option_map, Some, None, IfSome, IfOk, IsTrue};
+ghost use Rattle.std.specs.Arc.{arc_value};
+ghost use Rattle.mapf_plan.specs.Plan.{IsConflict};
+ghost use Rattle.mapf_plan.specs.Meetings.{HaveMeetings};
+ghost use Rattle.mapf_low.specs.declared.constraint.Constraint.{Constraint};
+ghost use Rattle.mapf_tree.specs.Nodes.{IsConflictOf, changed_sets};
+ghost use Rattle.mapf_tree.specs.Family.{IsBranching, IsChildOf};
+ghost use Rattle.mapf_tree.specs.SideQuery.{IsQueryOf, IsFoundBy};
+ghost use Rattle.mapf_tree.specs.Book.{Book, HasSet, HasOwnPath, AreSetsOf, ArePathsOf, IsKnownAt, IsKnownOwn, IsOwnIn, IsFoundAt};
+
+use crate::change::Change;
+use crate::known_sets::{Extension, KnownOwn, KnownSet, KnownSets};
+use crate::side_query::left_for;
+use crate::sides::{agent_of, constraint_of};
+use crate::{Node, Problem, Side, SideQuery};
+use mapf_grid::NoMemory;
+use mapf_low::{Constraint, Constraints};
+use mapf_plan::{Conflict, KnownPaths, MOST_BOUND, Meeting, Path};
+use std::alloc::Global;
+use std::marker::Model;
+use std::sync::Arc;
+
+/// Of more agents meetings are not looked for, as there are too many pairs of them.
+const MOST_PAIRED: usize = 64;
+
+/// What is known at a node, by numbers.
+#[derive(Drop)]
+pub(crate) struct AtNode {
+    /// Each agent's set of constraints.
+    sets: Vec<usize>,
+    /// Each agent's path.
+    paths: Vec<usize>,
+    /// Meetings of all conflicts of the node's plan, where they are known.
+    meetings: Option<Vec<Meeting>>,
+}
+
+/// What is known of the own path that a side of a node asks for.
+#[derive(Clone, Copy, Debug, PartialEq, Eq)]
+struct Found {
+    /// The number that the extension of its agent's set may have; nothing rests on it.
+    extension: usize,
+    /// The path's number; none where there is no path.
+    path: Option<usize>,
+}
+
+/// Own paths that were searched before, by the sets of constraints of their agents.
+#[derive(Drop)]
+pub(crate) struct Book<'p> {
+    alloc: Global,
+    problem: &'p Problem,
+    sets: KnownSets,
+    paths: KnownPaths,
+    /// The number of each agent's empty set, once the root was met.
+    firsts: Vec<usize>,
+}
+
+impl<'p> Model for Book<'p> {
+    ghost use Rattle.std.specs.Prelude.{◌≡◌};
+    ghost use Rattle.mapf_tree.specs.Book.{Book, AreKnown, AreFirst};
+
+    ghost Value = { Book };
+
+    ghost view = { λ b. record { problem = b.problem.now; sets = b.sets; paths = b.paths.paths } };
+
+    ghost invariant = { λ b. AreKnown b.problem.now b.paths.paths b.sets × AreFirst b.problem.now b.sets b.firsts.items × (b.paths.rule ≡ b.problem.now.rule) };
+}
+
+impl<'p> Book<'p> {
+    /// Nothing was searched yet.
+    pub(crate) fn new(alloc: Global, problem: &'p Problem) -> Book<'p>
+        ensures { result ≡ record { problem = problem.now; sets = []; paths = [] } }
+    {
+        Book {
+            alloc,
+            problem,
+            sets: KnownSets::new(alloc),
+            paths: KnownPaths::new(alloc, problem.rule()),
+            firsts: Vec::new(alloc),
+        }
+    }
+
+    /// What is known at a node. None where a set or a path isn't known.
+    pub(crate) fn at_node(&mut self, node: &Node) -> Result<Option<AtNode>, NoMemory>
+        requires { IsBranching self.old.problem node.now }
+        ensures problem { self.new.problem ≡ self.old.problem }
+        ensures known { IfOk result (λ found. IfSome found (λ at. IsKnownAt self.new node.now at.sets.items at.paths.items (option_map (λ ms. ms.items) at.meetings))) }
+    {
+        self.begin(node)?;
+        let Some(sets) = self.sets_at(node)? else {
+            return Ok(None);
+        };
+        let Some(paths) = self.paths_at(node, &sets)? else {
+            return Ok(None);
+        };
+        let meetings = self.meetings_at(node, &paths);
+        Ok(Some(AtNode {
+            sets,
+            paths,
+            meetings,
+        }))
+    }
+
+    /// Each agent's empty set gets a number, once the root is met.
+    fn begin(&mut self, node: &Node) -> Result<(), NoMemory>
+        requires { IsBranching self.old.problem node.now }
+        ensures { self.new.problem ≡ self.old.problem }
+    {
+        if !self.firsts.is_empty() || !node.is_root() {
+            return Ok(());
+        }
+        let mut firsts = Vec::with_capacity(self.alloc, node.agents())?;
+        for agent in 0..node.agents() {
+            let set = self.first_set(node, agent)?;
+            firsts.push(set)?;
+        }
+        self.firsts = firsts;
+        Ok(())
+    }
+
+    /// Remembers an agent's path at the root, under the empty set. Answers the set's number.
+    fn first_set(&mut self, root: &Node, agent: usize) -> Result<usize, NoMemory>
+        requires root { IsBranching self.old.problem root.now }
+        requires none { root.now.constraints ≡ replicate (length root.now.plan) [] }
+        requires agent { agent < length root.now.plan }
+        ensures problem { self.new.problem ≡ self.old.problem }
+        ensures kept { (n a : ℕ) (cs : List Constraint) → HasSet self.old.sets n a cs → HasSet self.new.sets n a cs }
+        ensures set { IfOk result (λ set. HasSet self.new.sets set agent []) }
+    {
+        let path = Arc::new(self.alloc, root.path(agent).copy(self.alloc)?)?;
+        let number = self.numbered(path)?;
+        self.push(agent, Constraints::new(self.alloc), KnownOwn::Path(number))
+    }
+
+    /// The number of a path.
+    fn numbered(&mut self, path: Arc<Path>) -> Result<usize, NoMemory>
+        ensures problem { self.new.problem ≡ self.old.problem }
+        ensures sets { self.new.sets ≡ self.old.sets }
+        ensures number { IfOk result (λ n. slice_get self.new.paths n ≡ Some (arc_value path)) }
+    {
+        let number = self.paths.number(path)?;
+        Ok(number)
+    }
+
+    /// Remembers an agent's set, and what is known of its own path under it. Answers the set's number.
+    fn push(
+        &mut self,
+        agent: usize,
+        constraints: Constraints,
+        own: KnownOwn,
+    ) -> Result<usize, NoMemory>
+        requires { IsKnownOwn self.old.problem self.old.paths agent constraints own }
+        ensures problem { self.new.problem ≡ self.old.problem }
+        ensures kept { (n a : ℕ) (cs : List Constraint) → HasSet self.old.sets n a cs → HasSet self.new.sets n a cs }
+        ensures set { IfOk result (λ set. HasSet self.new.sets set agent constraints) }
+    {
+        let set = self.sets.push(KnownSet {
+            agent,
+            constraints,
+            own,
+        })?;
+        Ok(set)
+    }
+
+    /// The number of each agent's set at a node. None where one isn't known.
+    fn sets_at(&self, node: &Node) -> Result<Option<Vec<usize>>, NoMemory>
+        requires { IsBranching self.now.problem node.now }
+        ensures { IfOk result (λ found. IfSome found (λ sets. AreSetsOf self.now.sets sets.items node.now.constraints)) }
+    {
+        if self.firsts.is_empty() {
+            return Ok(None);
+        }
+        let mut sets = Vec::from_slice(self.alloc, self.firsts.as_slice())?;
+        let (older, own) = node.changes();
+        if !turn_all(&self.sets, &mut sets, older) {
+            return Ok(None);
+        }
+        if !turn_all(&self.sets, &mut sets, own) {
+            return Ok(None);
+        }
+        Ok(Some(sets))
+    }
+
+    /// The number of each agent's path at a node, from those of its sets. None where one isn't known.
+    fn paths_at(&self, node: &Node, sets: &[usize]) -> Result<Option<Vec<usize>>, NoMemory>
+        requires node { IsBranching self.now.problem node.now }
+        requires sets { AreSetsOf self.now.sets sets.now node.now.constraints }
+        ensures { IfOk result (λ found. IfSome found (λ paths. ArePathsOf self.now.paths paths.items node.now.plan)) }
+    {
+        let mut paths = Vec::with_capacity(self.alloc, node.agents())?;
+        for set in sets {
+            let Some(path) = self.path_of(*set) else {
+                return Ok(None);
+            };
+            paths.push(path)?;
+        }
+        Ok(Some(paths))
+    }
+
+    /// The number of the own path under a set, where there is a path.
+    fn path_of(&self, set: usize) -> Option<usize>
+        ensures { IfSome result (HasOwnPath self.now set) }
+    {
+        match self.sets.get(set)?.own {
+            KnownOwn::Path(number) => Some(number),
+            KnownOwn::NoneWithin(_) => None,
+        }
+    }
+
+    /// Meetings of all conflicts of a node's plan, whose paths have these numbers. None where looking at each pair of agents
+    /// costs more than looking at each step of their plan, or where memory runs out.
+    fn meetings_at(&mut self, node: &Node, paths: &[usize]) -> Option<Vec<Meeting>>
+        requires node { IsBranching self.old.problem node.now }
+        requires paths { ArePathsOf self.old.paths paths.now node.now.plan }
+        ensures same { self.new ≡ self.old }
+        ensures meetings { IfSome result (λ ms. HaveMeetings (IsConflict self.old.problem.rule node.now.plan) ms.items) }
+    {
+        if !has_few_pairs(node.agents(), node.key().cost) {
+            return None;
+        }
+        self.paths.meetings(paths).ok()
+    }
+
+    /// The child of a node on one side of its conflict, where its path is known: none exactly where it isn't in the tree. None
+    /// where nothing is known.
+    pub(crate) fn child(
+        &mut self,
+        node: &Node,
+        at: &Option<AtNode>,
+        side: Side,
+    ) -> Result<Option<Option<Node>>, NoMemory>
+        requires node { IsBranching self.old.problem node.now }
+        requires at { IfSome at.now (λ at. IsKnownAt self.old node.now at.sets.items at.paths.items (option_map (λ ms. ms.items) at.meetings)) }
+        ensures same { self.new ≡ self.old }
+        ensures child { IfOk result (λ found. IfSome found (IsChildOf self.old.problem node.now side)) }
+    {
+        let Some(found) = self.found(node, at, side)? else {
+            return Ok(None);
+        };
+        let Some(number) = found.path else {
+            return Ok(Some(None));
+        };
+        let Some(path) = self.paths.path(number) else {
+            return Ok(None);
+        };
+        let path = Arc::try_clone(path)?;
+        let conflict = node.conflict().unwrap();
+        let change = Change {
+            agent: agent_of(&conflict, side),
+            constraint: constraint_of(&conflict, side),
+            path,
+            extension: found.extension,
+        };
+        let conflict = self.conflict_with(node, at, &change, number)?;
+        let bound = self.problem.bound();
+        prove!(u64::from(bound) <= MOST_BOUND);
+        Ok(Some(Some(node.turned(self.alloc, side, change, conflict)?)))
+    }
+
+    /// The first conflict of a node's plan where a change's agent has that change's path, which is the one of this number.
+    fn conflict_with(
+        &mut self,
+        node: &Node,
+        at: &Option<AtNode>,
+        change: &Change,
+        number: usize,
+    ) -> Result<Option<Conflict>, NoMemory>
+        requires node { IsBranching self.old.problem node.now }
+        requires at { IfSome at.now (λ at. IsKnownAt self.old node.now at.sets.items at.paths.items (option_map (λ ms. ms.items) at.meetings)) }
+        requires agent { change.now.agent < length node.now.plan }
+        requires path { slice_get self.old.paths number ≡ Some change.now.path }
+        ensures same { self.new ≡ self.old }
+        ensures conflict { IfOk result (IsConflictOf node.now.rule (slice_set node.now.plan change.now.agent change.now.path)) }
+    {
+        if let Some(at) = at {
+            if let Some(meetings) = &at.meetings {
+                return self
+                    .paths
+                    .first_conflict_of_changed(&at.paths, meetings, change.agent, number);
+            }
+        }
+        node.conflict_with(self.alloc, change.agent, &change.path)
+    }
+
+    /// What is known of the own path that a side of a node asks for. None where nothing is known.
+    fn found(
+        &mut self,
+        node: &Node,
+        at: &Option<AtNode>,
+        side: Side,
+    ) -> Result<Option<Found>, NoMemory>
+        requires node { IsBranching self.old.problem node.now }
+        requires at { IfSome at.now (λ at. IsKnownAt self.old node.now at.sets.items at.paths.items (option_map (λ ms. ms.items) at.meetings)) }
+        ensures same { self.new ≡ self.old }
+        ensures found { IfOk result (λ found. IfSome found (λ f. IsFoundAt self.old node.now side f.path)) }
+    {
+        if let Some(at) = at {
+            if let Some(found) = self.found_by_number(node, &at.sets, side) {
+                return Ok(Some(found));
+            }
+            return self.found_by_query(node, Some(&at.sets), side);
+        }
+        self.found_by_query(node, None, side)
+    }
+
+    /// The same by the number of the agent's set at the node.
+    fn found_by_number(&self, node: &Node, sets: &[usize], side: Side) -> Option<Found>
+        requires node { IsBranching self.now.problem node.now }
+        requires sets { AreSetsOf self.now.sets sets.now node.now.constraints }
+        ensures { IfSome result (λ f. IsFoundAt self.now node.now side f.path) }
+    {
+        let conflict = node.conflict().unwrap();
+        let agent = agent_of(&conflict, side);
+        let constraint = constraint_of(&conflict, side);
+        let set = sets[agent];
+        let extension = self.sets.guess(set, &constraint);
+        let extended = self.sets.extended_by(extension, set, &constraint)?;
+        let limit = left_for(self.problem, node, agent, node.path(agent).cost());
+        let path = self.own_within(extended, limit)?;
+        Some(Found { extension, path })
+    }
+
+    /// The same by the constraints that the agent has there. Where the numbers of the sets at the node are given, the extension
+    /// of the agent's set is remembered.
+    fn found_by_query(
+        &mut self,
+        node: &Node,
+        sets: Option<&[usize]>,
+        side: Side,
+    ) -> Result<Option<Found>, NoMemory>
+        requires node { IsBranching self.old.problem node.now }
+        requires sets { IfSome sets (λ sets. AreSetsOf self.old.sets sets.now node.now.constraints) }
+        ensures same { self.new ≡ self.old }
+        ensures found { IfOk result (λ found. IfSome found (λ f. IsFoundAt self.old node.now side f.path)) }
+    {
+        let query = SideQuery::of(self.alloc, self.problem, node, side)?;
+        let Some(set) = self.sets.find(query.agent(), query.constraints()) else {
+            return Ok(None);
+        };
+        let Some(path) = self.own_within(set, query.limit()) else {
+            return Ok(None);
+        };
+        let extension = match sets {
+            Some(sets) => self.extend(node, sets, &query, set),
+            None => 0,
+        };
+        Ok(Some(Found { extension, path }))
+    }
+
+    /// The number of the own path under a set, at a cost of at most the limit; none where there is no such path. None where
+    /// that isn't known.
+    fn own_within(&self, set: usize, limit: u32) -> Option<Option<usize>>
+        requires { limit ≤ self.now.problem.bound }
+        ensures { IfSome result (IsOwnIn self.now set limit) }
+    {
+        match self.sets.get(set)?.own {
+            KnownOwn::Path(number) => {
+                if self.paths.path(number)?.cost() <= limit {
+                    Some(Some(number))
+                } else {
+                    Some(None)
+                }
+            }
+            KnownOwn::NoneWithin(least) if limit <= least => Some(None),
+            KnownOwn::NoneWithin(_) => None,
+        }
+    }
+
+    /// Remembers that the agent's set at a node and one constraint more are the set of this number. Answers the extension's
+    /// number.
+    fn extend(&mut self, node: &Node, sets: &[usize], query: &SideQuery<'_>, set: usize) -> usize
+        requires node { IsBranching self.old.problem node.now }
+        requires sets { AreSetsOf self.old.sets sets.now node.now.constraints }
+        requires problem { query.now.problem ≡ self.old.problem }
+        requires query { IsQueryOf node.now query.now }
+        requires set { HasSet self.old.sets set query.now.agent query.now.constraints }
+        ensures { self.new ≡ self.old }
+    {
+        self.sets.extend(Extension {
+            before: sets[query.agent()],
+            constraint: query.constraint(),
+            after: set,
+        })
+    }
+
+    /// Remembers what the query of a side of a node was answered, unless memory runs out. Answers the number that the extension
+    /// of its agent's set has, if it has one.
+    pub(crate) fn learn(
+        &mut self,
+        node: &Node,
+        query: &SideQuery<'p>,
+        path: Option<&Arc<Path>>,
+    ) -> usize
+        requires node { IsBranching self.old.problem node.now }
+        requires problem { query.now.problem ≡ self.old.problem }
+        requires query { IsQueryOf node.now query.now }
+        requires path { IsFoundBy query.now (option_map (λ p. arc_value p.now) path) }
+        ensures { self.new.problem ≡ self.old.problem }
+    {
+        let Ok(set) = self.add(node, query, path) else {
+            return 0;
+        };
+        match self.sets_at(node) {
+            Ok(Some(sets)) => self.extend(node, &sets, query, set),
+            _ => 0,
+        }
+    }
+
+    /// Remembers the set of a query, and what it was answered. Answers the set's number.
+    fn add(
+        &mut self,
+        node: &Node,
+        query: &SideQuery<'p>,
+        path: Option<&Arc<Path>>,
+    ) -> Result<usize, NoMemory>
+        requires node { IsBranching self.old.problem node.now }
+        requires problem { query.now.problem ≡ self.old.problem }
+        requires query { IsQueryOf node.now query.now }
+        requires path { IsFoundBy query.now (option_map (λ p. arc_value p.now) path) }
+        ensures problem { self.new.problem ≡ self.old.problem }
+        ensures set { IfOk result (λ set. HasSet self.new.sets set query.now.agent query.now.constraints) }
+    {
+        let own = self.own_of(node, query, path)?;
+        self.push(query.agent(), query.copy_constraints()?, own)
+    }
+
+    /// What a query was answered, where the path has a number.
+    fn own_of(
+        &mut self,
+        node: &Node,
+        query: &SideQuery<'p>,
+        path: Option<&Arc<Path>>,
+    ) -> Result<KnownOwn, NoMemory>
+        requires node { IsBranching self.old.problem node.now }
+        requires problem { query.now.problem ≡ self.old.problem }
+        requires query { IsQueryOf node.now query.now }
+        requires path { IsFoundBy query.now (option_map (λ p. arc_value p.now) path) }
+        ensures problem { self.new.problem ≡ self.old.problem }
+        ensures own { IfOk result (IsKnownOwn self.new.problem self.new.paths query.now.agent query.now.constraints) }
+    {
+        match path {
+            Some(path) => Ok(KnownOwn::Path(self.numbered(Arc::try_clone(path)?)?)),
+            None => Ok(KnownOwn::NoneWithin(query.limit())),
+        }
+    }
+}
+
+/// Each agent's set after some changes more; false where one isn't known.
+fn turn_all(known: &KnownSets, sets: &mut Vec<usize>, changes: &[Arc<Change>]) -> bool
+    ensures { IsTrue result → (cs : List (List Constraint)) → AreSetsOf known.now sets.old.items cs → AreSetsOf known.now sets.new.items (changed_sets cs (map arc_value changes.now)) }
+{
+    for change in changes {
+        if !turn(known, sets, change) {
+            return false;
+        }
+    }
+    true
+}
+
+/// Each agent's set after one change more; false where it isn't known.
+fn turn(known: &KnownSets, sets: &mut Vec<usize>, change: &Change) -> bool
+    ensures { IsTrue result → (cs : List (List Constraint)) → AreSetsOf known.now sets.old.items cs → AreSetsOf known.now sets.new.items (changed_sets cs (change.now ∷ [])) }
+{
+    if change.agent >= sets.len() {
+        return false;
+    }
+    match known.extended(change.extension, sets[change.agent], &change.constraint) {
+        Some(set) => {
+            sets[change.agent] = set;
+            true
+        }
+        None => false,
+    }
+}
+
+/// Whether looking at each pair of so many agents costs less than looking at each step of their plan, which has this cost.
+fn has_few_pairs(agents: usize, cost: u64) -> bool {
+    agents <= MOST_PAIRED && agents as u64 * agents as u64 / 2 <= cost
+}
