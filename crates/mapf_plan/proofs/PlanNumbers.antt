@@ -1,14 +1,14 @@
 -- Plans whose paths have numbers.
-use Rattle.std.proofs.Common.{◌≡◌, ℕ, ◌+◌, ◌<◌, List, [], ◌∷◌, ◌++◌, length, get_or, Some, refl, subst, sym, ap, ◌∙◌, arith}
+use Rattle.std.proofs.Common.{◌≡◌, ℕ, ◌+◌, ◌<◌, List, [], ◌∷◌, ◌++◌, length, get_or, set, Some, subst, sym, ap, ◌∙◌, arith}
 use Rattle.std.specs.Prelude.{slice_get, slice_index}
-use Rattle.std.proofs.lemmas.List.{ext_get_or, length-map, get_or-map, get_or_append_left, get_or_push}
-use Rattle.std.proofs.lemmas.List.Elements.{All-from_get_or, All-get_or}
-use Rattle.std.proofs.lemmas.Option.{get_or_from_slice_get, slice_get_within, slice_get-get_or}
+use Rattle.std.proofs.lemmas.List.{ext_get_or, length-map, length-set, map-set, get_or-map, get_or_append_left, get_or_push}
+use Rattle.std.proofs.lemmas.List.Elements.{All-from_get_or, All-set}
+use Rattle.std.proofs.lemmas.Option.{get_or_from_slice_get, slice_get_within}
 use borrow.Author.Count.{below_more}
 use Rattle.mapf_plan.specs.Plan.{path_of, IsConflict}
 use Rattle.mapf_plan.specs.declared.meetings.Meeting.{Meeting}
 use Rattle.mapf_plan.specs.Meetings.{HaveMeetings}
-use Rattle.mapf_plan.specs.KnownPaths.{KnownPaths, AreNumbers, plan_of, IsKnownPlan}
+use Rattle.mapf_plan.specs.KnownPaths.{KnownPaths, AreNumbers, IsKnownPlan, plan_of}
 
 -- the paths of the first agents have these numbers
 abbrev pub HaveNumbers : List (List ℕ) → List ℕ → List (List ℕ) → ℕ → Type 0
@@ -43,22 +43,11 @@ pub numbers_inside : (paths : List (List ℕ)) (numbers : List ℕ) (plan : List
 numbers_inside paths numbers plan n count have =
     All-from_get_or (λ m. m < length paths) numbers 0 (λ i l. slice_get_within paths (slice_index numbers i) (path_of plan i) (have i (subst (λ m. i < m) count l)))
 
--- what is known of a plan stays so where each known path keeps its number
-pub plan_kept : (old new : KnownPaths) (plan : List (List ℕ)) (numbers : List ℕ) (meetings : List Meeting) → new.rule ≡ old.rule →
-    ((m : ℕ) (p : List ℕ) → slice_get old.paths m ≡ Some p → slice_get new.paths m ≡ Some p) → IsKnownPlan old plan numbers meetings → IsKnownPlan new plan numbers meetings
-plan_kept old new plan numbers meetings rule keeps known = record {
-  few = known.few;
-  inside = numbers_inside new.paths numbers plan (length numbers) refl (subst (HaveNumbers new.paths numbers plan) (sym count) have);
-  same = plan_of_numbers new.paths numbers plan count have;
-  meet = subst (λ r. HaveMeetings (IsConflict r plan) meetings) (sym rule) known.meet;
+-- a known plan, where one agent's path has another number
+pub plan_turned : (known : KnownPaths) (numbers : List ℕ) (old new : List Meeting) (agent number : ℕ) → IsKnownPlan known numbers old → number < length known.paths →
+    HaveMeetings (IsConflict known.rule (set (plan_of known.paths numbers) agent (path_of known.paths number))) new → IsKnownPlan known (set numbers agent number) new
+plan_turned known numbers old new agent number is inside meet = record {
+  few = omega (arith, length-set numbers agent number, is.few);
+  inside = All-set (λ n. n < length known.paths) numbers agent number inside is.inside;
+  meet = subst (λ plan. HaveMeetings (IsConflict known.rule plan) new) (sym (map-set (λ n. path_of known.paths n) numbers agent number)) meet;
 }
-  where
-    count : length numbers ≡ length plan
-    count = sym (length-map numbers (λ n. path_of old.paths n)) ∙ ap length known.same
-
-    have : HaveNumbers new.paths numbers plan (length plan)
-    have k l =
-        let inside : k < length numbers = subst (λ n. k < n) (sym count) l in
-        let below : slice_index numbers k < length old.paths = All-get_or (λ n. n < length old.paths) numbers k 0 inside known.inside in
-        keeps (slice_index numbers k) (path_of plan k)
-        (slice_get-get_or old.paths (slice_index numbers k) [] below ∙ ap Some (sym (get_or-map (λ n. path_of old.paths n) numbers k 0 [] inside) ∙ ap (λ ps. path_of ps k) known.same))

@@ -22,12 +22,11 @@ AreNumbers paths numbers = All (λ n. n < length paths) numbers
 abbrev pub plan_of : List (List ℕ) → List ℕ → List (List ℕ)
 plan_of paths numbers = map (λ n. path_of paths n) numbers
 
--- what is known of a plan: the numbers of its paths, and meetings of its conflicts
-pub record IsKnownPlan (known : KnownPaths) (plan : List (List ℕ)) (numbers : List ℕ) (meetings : List Meeting) : Type 0 where
+-- these are the numbers of a plan's paths, and meetings of its conflicts
+pub record IsKnownPlan (known : KnownPaths) (numbers : List ℕ) (meetings : List Meeting) : Type 0 where
   pub few : length numbers ≤ most_agents
   pub inside : AreNumbers known.paths numbers
-  pub same : plan_of known.paths numbers ≡ plan
-  pub meet : HaveMeetings (IsConflict known.rule plan) meetings
+  pub meet : HaveMeetings (IsConflict known.rule (plan_of known.paths numbers)) meetings
 
 -- a row of a table of times by two numbers, and an entry of a row; nothing is known where there is none
 abbrev pub row_in : List (List FirstTime) → ℕ → List FirstTime

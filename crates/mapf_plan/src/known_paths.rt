@@ -6,7 +6,7 @@ ghost use Rattle.mapf_grid.specs.Instance.{most_agents};
 ghost use Rattle.mapf_plan.specs.declared.meetings.Meeting.{Meeting};
 ghost use Rattle.mapf_plan.specs.Plan.{path_of, IsConflict, IsFirstConflict, HasNoConflict};
 ghost use Rattle.mapf_plan.specs.Meetings.{HaveNoneBefore, HaveMeetings};
-ghost use Rattle.mapf_plan.specs.KnownPaths.{KnownPaths, AreNumbers, AreMet, plan_of};
+ghost use Rattle.mapf_plan.specs.KnownPaths.{KnownPaths, AreNumbers, AreMet, IsKnownPlan, plan_of};
 
 use crate::first_times::{FirstTime, add_known, keep_time, row_of, time_of};
 use crate::meetings::{
@@ -18,10 +18,18 @@ use mapf_grid::{Cell, NoMemory};
 use std::alloc::Global;
 use std::collections::HashMap;
 use std::marker::Model;
+use std::mem::replace;
 use std::sync::Arc;
 
 /// 2^64 by the golden ratio.
 const MIXER: u64 = 11_400_714_819_323_198_485;
+
+/// A plan by the numbers of its paths, agent 0's first, and meetings of all its conflicts.
+#[derive(Drop)]
+struct KnownPlan {
+    numbers: Vec<usize>,
+    meetings: Vec<Meeting>,
+}
 
 /// Paths by number, and for each two of them when agents on them have their first conflict, which is looked for once.
 #[derive(Drop)]
@@ -33,18 +41,21 @@ pub struct KnownPaths {
     places: HashMap<u64, usize>,
     /// What is known of two paths: a row for the path of the agent with the smaller number.
     times: Vec<Vec<FirstTime>>,
+    /// The plan whose meetings were asked for last: the next one has the same paths but for a few.
+    latest: Option<KnownPlan>,
 }
 
 impl Model for KnownPaths {
-    ghost use Rattle.std.specs.Prelude.{map};
+    ghost use Rattle.std.specs.Prelude.{map, IfSome};
     ghost use Rattle.std.specs.Arc.{arc_value};
-    ghost use Rattle.mapf_plan.specs.KnownPaths.{KnownPaths, AreRight};
+    ghost use Rattle.mapf_plan.specs.KnownPaths.{KnownPaths, AreRight, IsKnownPlan};
 
     ghost Value = { KnownPaths };
 
     ghost view = { λ k. record { rule = k.rule; paths = map arc_value k.paths.items } };
 
-    ghost invariant = { λ k. AreRight k.rule (map arc_value k.paths.items) (map (λ row. row.items) k.times.items) };
+    ghost invariant = { λ k. AreRight k.rule (map arc_value k.paths.items) (map (λ row. row.items) k.times.items)
+        × IfSome k.latest (λ plan. IsKnownPlan (record { rule = k.rule; paths = map arc_value k.paths.items }) plan.numbers.items plan.meetings.items) };
 }
 
 impl KnownPaths {
@@ -58,6 +69,7 @@ impl KnownPaths {
             paths: Vec::new(alloc),
             places: HashMap::new(alloc),
             times: Vec::new(alloc),
+            latest: None,
         }
     }
 
@@ -72,6 +84,7 @@ impl KnownPaths {
         }
         let key = key_of(path.cells());
         let number = self.paths.len();
+        self.latest = None;
         self.paths.push(path)?;
         let _ = self.places.insert(key, number);
         Ok(number)
@@ -95,18 +108,91 @@ impl KnownPaths {
         self.paths.get(number)
     }
 
-    /// Meetings of all conflicts of agents whose paths have these numbers, agent 0's first.
+    /// Meetings of all conflicts of agents whose paths have these numbers, agent 0's first. They are found from those that were
+    /// asked for last, agent by agent that has another path.
     pub fn meetings(&mut self, numbers: &[usize]) -> Result<Vec<Meeting>, NoMemory>
         requires numbers { AreNumbers self.old.paths numbers.now }
         requires agents { (0 < length numbers.now) × (length numbers.now ≤ most_agents) }
         ensures known { self.new ≡ self.old }
         ensures meetings { IfOk result (λ ms. HaveMeetings (IsConflict self.old.rule (plan_of self.old.paths numbers.now)) ms.items) }
     {
+        let plan = self.plan(numbers)?;
+        let meetings = Vec::from_slice(self.alloc, plan.meetings.as_slice())?;
+        self.latest = Some(plan);
+        Ok(meetings)
+    }
+
+    /// The plan of these numbers.
+    fn plan(&mut self, numbers: &[usize]) -> Result<KnownPlan, NoMemory>
+        requires numbers { AreNumbers self.old.paths numbers.now }
+        requires agents { (0 < length numbers.now) × (length numbers.now ≤ most_agents) }
+        ensures known { self.new ≡ self.old }
+        ensures plan { IfOk result (λ plan. IsKnownPlan self.old plan.numbers.items plan.meetings.items) }
+        ensures numbers { IfOk result (λ plan. plan.numbers.items ≡ numbers.now) }
+    {
+        if let Some(latest) = replace(&mut self.latest, None) {
+            if latest.numbers.len() == numbers.len() {
+                return self.turned(latest, numbers);
+            }
+        }
+        self.looked_up(numbers)
+    }
+
+    /// The plan of these numbers, where all pairs of agents are looked up.
+    fn looked_up(&mut self, numbers: &[usize]) -> Result<KnownPlan, NoMemory>
+        requires numbers { AreNumbers self.old.paths numbers.now }
+        requires agents { (0 < length numbers.now) × (length numbers.now ≤ most_agents) }
+        ensures known { self.new ≡ self.old }
+        ensures plan { IfOk result (λ plan. IsKnownPlan self.old plan.numbers.items plan.meetings.items) }
+        ensures numbers { IfOk result (λ plan. plan.numbers.items ≡ numbers.now) }
+    {
         let mut meetings = Vec::with_capacity(self.alloc, ROOM)?;
         for first in 0..numbers.len() {
             self.meet_later(numbers, first, numbers[first], &mut meetings)?;
         }
-        Ok(meetings)
+        Ok(KnownPlan {
+            numbers: Vec::from_slice(self.alloc, numbers)?,
+            meetings,
+        })
+    }
+
+    /// The plan of these numbers, from another one.
+    fn turned(&mut self, other: KnownPlan, numbers: &[usize]) -> Result<KnownPlan, NoMemory>
+        requires other { IsKnownPlan self.old other.numbers.items other.meetings.items }
+        requires numbers { AreNumbers self.old.paths numbers.now }
+        requires agents { length other.numbers.items ≡ length numbers.now }
+        ensures known { self.new ≡ self.old }
+        ensures plan { IfOk result (λ plan. IsKnownPlan self.old plan.numbers.items plan.meetings.items) }
+        ensures numbers { IfOk result (λ plan. plan.numbers.items ≡ numbers.now) }
+    {
+        let mut plan = other;
+        for agent in 0..numbers.len() {
+            plan = self.turned_once(plan, agent, numbers[agent])?;
+        }
+        Ok(plan)
+    }
+
+    /// The plan where an agent has the path of this number.
+    fn turned_once(
+        &mut self,
+        plan: KnownPlan,
+        agent: usize,
+        number: usize,
+    ) -> Result<KnownPlan, NoMemory>
+        requires plan { IsKnownPlan self.old plan.numbers.items plan.meetings.items }
+        requires agent { agent < length plan.numbers.items }
+        requires number { number < length self.old.paths }
+        ensures known { self.new ≡ self.old }
+        ensures plan { IfOk result (λ p. IsKnownPlan self.old p.numbers.items p.meetings.items) }
+        ensures numbers { IfOk result (λ p. p.numbers.items ≡ slice_set plan.numbers.items agent number) }
+    {
+        if plan.numbers[agent] == number {
+            return Ok(plan);
+        }
+        let meetings = self.meetings_of_changed(&plan.numbers, &plan.meetings, agent, number)?;
+        let KnownPlan { mut numbers, .. } = plan;
+        numbers[agent] = number;
+        Ok(KnownPlan { numbers, meetings })
     }
 
     /// The first conflict of agents whose paths had these numbers and these meetings, where one agent has another path: the one

@@ -1,7 +1,12 @@
-use mapf_grid::Cell;
-use mapf_plan::{Conflict, KnownPaths, Path, Plan, Rule};
+ghost use Rattle.std.specs.Prelude.{◌≡◌, ◌<◌, ◌≤◌, ℕ, List, length, slice_get, Some, IfOk};
+ghost use Rattle.mapf_grid.specs.Instance.{most_agents};
+ghost use Rattle.mapf_plan.specs.KnownPaths.{AreNumbers};
+
+use mapf_grid::{Cell, NoMemory};
+use mapf_plan::{AgentPaths, Conflict, KnownPaths, Path, Plan, Rule};
 use std::alloc::Global;
 use std::process::Abort;
+use std::sync::Arc;
 use std::test::Fail;
 
 /// A cell at which no agent of the tests is.
@@ -61,11 +66,28 @@ fn expect_changed(
     wanted: &Option<Conflict>,
 ) -> Result<(), Fail> {
     let mut known = KnownPaths::new(alloc, rule);
-    let known_plan = known.plan(alloc, plan, &[])?;
-    assert!(rt; agent < known_plan.numbers.len());
-    let found = known.first_conflict_with(alloc, &known_plan, agent, path, 0)?;
+    let number = known.number(Arc::new(alloc, path.copy(alloc)?)?)?;
+    let numbers = numbers_of(alloc, &mut known, plan)?;
+    let meetings = known.meetings(&numbers)?;
+    assert!(rt; agent < numbers.len());
+    let found = known.first_conflict_of_changed(&numbers, &meetings, agent, number)?;
     assert_eq!(rt; found, *wanted);
-    let found = known.first_conflict_with(alloc, &known_plan, agent, path, 0)?;
+    let found = known.first_conflict_of_changed(&numbers, &meetings, agent, number)?;
     assert_eq!(rt; found, *wanted);
     Ok(())
+}
+
+/// The numbers of a plan's paths.
+fn numbers_of(alloc: Global, known: &mut KnownPaths, plan: &Plan) -> Result<Vec<usize>, NoMemory>
+    ensures keeps { (n : ℕ) (path : List ℕ) → slice_get known.old.paths n ≡ Some path → slice_get known.new.paths n ≡ Some path }
+    ensures agents { IfOk result (λ numbers. (0 < length numbers.items) × (length numbers.items ≤ most_agents)) }
+    ensures numbers { IfOk result (λ numbers. AreNumbers known.new.paths numbers.items) }
+{
+    let mut numbers = Vec::with_capacity(alloc, plan.agents())?;
+    for agent in 0..plan.agents() {
+        let path = Arc::new(alloc, plan.path(agent).copy(alloc)?)?;
+        let number = known.number(path)?;
+        numbers.push(number)?;
+    }
+    Ok(numbers)
 }

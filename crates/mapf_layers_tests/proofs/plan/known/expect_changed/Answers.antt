@@ -1,8 +1,13 @@
-use Rattle.std.proofs.Common.{sym, subst}
-use Rattle.mapf_plan.specs.KnownPaths.{IsKnownPlan}
+use Rattle.std.proofs.Common.{◌≡◌, Some, subst, sym, ◌∙◌}
+use Rattle.std.specs.Prelude.{slice_get}
+use Rattle.std.proofs.lemmas.Option.{slice_get_within}
+use Rattle.mapf_plan.specs.KnownPaths.{KnownPaths}
 use Rattle.mapf_layers_tests.proofs.plan.known.expect_changed.Goals as goal
 
-pub first_conflict_with-requires-2-clause-known : goal.first_conflict_with-requires-2-clause-known
-first_conflict_with-requires-2-clause-known g c =
-    let kept = c.first_conflict_with.ensures.keeps _ _ _ c.in_ok-known_plan.ensures.plan in
-    subst (λ plan. IsKnownPlan c.first_conflict_with.new.self plan c.in_ok-known_plan.known_plan.numbers.items c.in_ok-known_plan.known_plan.meetings.items) (sym kept.same) kept
+pub first_conflict_of_changed-requires-2-clause-number : goal.first_conflict_of_changed-requires-2-clause-number
+first_conflict_of_changed-requires-2-clause-number g c =
+    let path = c.args.path.now in
+    slice_get_within c.first_conflict_of_changed.new.self.paths c.in_ok-number.number path
+    (subst (λ (k : KnownPaths). slice_get k.paths c.in_ok-number.number ≡ Some path) (sym (c.first_conflict_of_changed.ensures.known ∙ c.in_ok-meetings.ensures.known))
+    (c.numbers_of.ensures.keeps c.in_ok-number.number path
+    (subst (λ p. slice_get c.number.new.self.paths c.in_ok-number.number ≡ Some p) (c.in_ok-new.ensures.ok ∙ c.in_ok-copy.ensures) c.in_ok-number.ensures.number)))

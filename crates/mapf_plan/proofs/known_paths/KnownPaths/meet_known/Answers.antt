@@ -16,5 +16,5 @@ returns-clause-pairs c =
     (λ end added k l h.
     subst (λ (s : KnownPaths). AreMet s.rule agent k (path_of s.paths number) (path_of s.paths (slice_index numbers k)) ms) c.self.view_is
     (met_known _ _ agent k number (slice_index numbers k) (time_in row (slice_index numbers k)) ms
-    (right_at c.self.inside.rule (map arc_value c.self.inside.paths.items) (map (λ row. row.items) c.self.inside.times.items) row number (slice_index numbers k) _ c.self.invariant is refl) (added k l h)))
+    (right_at c.self.inside.rule (map arc_value c.self.inside.paths.items) (map (λ row. row.items) c.self.inside.times.items) row number (slice_index numbers k) _ c.self.invariant.0 is refl) (added k l h)))
     c.add_known.ensures.added
