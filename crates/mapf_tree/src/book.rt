@@ -398,13 +398,36 @@ impl<'p> Book<'p> {
         requires path { IsFoundBy query.now (option_map (λ p. arc_value p.now) path) }
         ensures { self.new.problem ≡ self.old.problem }
     {
-        let Ok(set) = self.add(node, query, path) else {
+        let Ok(set) = self.set_of(node, query, path) else {
             return 0;
         };
         match self.sets_at(node) {
             Ok(Some(sets)) => self.extend(node, &sets, query, set),
             _ => 0,
         }
+    }
+
+    /// The number of a query's set. It is remembered now where it isn't known, or not what its own path is within the limit: a
+    /// set under which there is a path has one number, so that each change of a node leads to the set that it led to before.
+    fn set_of(
+        &mut self,
+        node: &Node,
+        query: &SideQuery<'p>,
+        path: Option<&Arc<Path>>,
+    ) -> Result<usize, NoMemory>
+        requires node { IsBranching self.old.problem node.now }
+        requires problem { query.now.problem ≡ self.old.problem }
+        requires query { IsQueryOf node.now query.now }
+        requires path { IsFoundBy query.now (option_map (λ p. arc_value p.now) path) }
+        ensures problem { self.new.problem ≡ self.old.problem }
+        ensures set { IfOk result (λ set. HasSet self.new.sets set query.now.agent query.now.constraints) }
+    {
+        if let Some(set) = self.sets.find(query.agent(), query.constraints()) {
+            if self.own_within(set, query.limit()).is_some() {
+                return Ok(set);
+            }
+        }
+        self.add(node, query, path)
     }
 
     /// Remembers the set of a query, and what it was answered. Answers the set's number.
