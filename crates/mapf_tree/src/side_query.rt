@@ -1,10 +1,9 @@
 //! What the child on a side of a node's conflict asks of the low level.
 
-ghost use Rattle.std.specs.Prelude.{◌≡◌, ◌<◌, ◌≤◌, length, slice_set, option_map, Some, IfOk, IfSome, IsTrue};
+ghost use Rattle.std.specs.Prelude.{◌≡◌, ◌<◌, ◌≤◌, length, option_map, Some, IfOk, IfSome};
 ghost use Rattle.std.specs.Arc.{arc_value};
 ghost use Rattle.mapf_plan.specs.Path.{cost};
 ghost use Rattle.mapf_plan.specs.Plan.{path_of, plan_cost, most_bound};
-ghost use Rattle.mapf_tree.specs.Nodes.{IsConflictOf};
 ghost use Rattle.mapf_tree.specs.Family.{IsBranching, IsChildOf, Leaves};
 
 use crate::change::Change;
@@ -13,7 +12,7 @@ use crate::sides::{agent_of, constraint_of};
 use crate::{FromStart, Node, Problem, Side};
 use mapf_grid::NoMemory;
 use mapf_low::{Constraint, Constraints, cheapest_backwards};
-use mapf_plan::{Conflict, Path};
+use mapf_plan::Path;
 use std::alloc::Global;
 use std::marker::Model;
 use std::sync::Arc;
