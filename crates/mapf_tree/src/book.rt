@@ -2,8 +2,6 @@
 
 ghost use Rattle.std.specs.Prelude.{◌≡◌, ◌<◌, ◌≤◌, List, [], ◌∷◌, length, map, slice_get, slice_set, option_map, Some, None, IfSome, IfOk, IsTrue};
 ghost use Rattle.std.specs.Arc.{arc_value};
-ghost use Rattle.mapf_plan.specs.Plan.{IsConflict};
-ghost use Rattle.mapf_plan.specs.Meetings.{HaveMeetings};
 ghost use Rattle.mapf_low.specs.declared.constraint.Constraint.{Constraint};
 ghost use Rattle.mapf_tree.specs.Nodes.{IsConflictOf, changed_sets};
 ghost use Rattle.mapf_tree.specs.Family.{IsBranching, IsChildOf};
@@ -22,7 +20,7 @@ use std::alloc::Global;
 use std::marker::Model;
 use std::sync::Arc;
 
-/// Of more agents meetings are not looked for, as there are too many pairs of them.
+/// Of more agents nothing is kept by node, as there are too many pairs of them.
 const MOST_PAIRED: usize = 64;
 
 /// What is known at a node, by numbers.
@@ -81,12 +79,15 @@ impl<'p> Book<'p> {
         }
     }
 
-    /// What is known at a node. None where a set or a path isn't known.
+    /// What is known at a node. None where a set or a path isn't known, and of more than 64 agents.
     pub(crate) fn at_node(&mut self, node: &Node) -> Result<Option<AtNode>, NoMemory>
         requires { IsBranching self.old.problem node.now }
         ensures problem { self.new.problem ≡ self.old.problem }
         ensures known { IfOk result (λ found. IfSome found (λ at. IsKnownAt self.new node.now at.sets.items at.paths.items (option_map (λ ms. ms.items) at.meetings))) }
     {
+        if node.agents() > MOST_PAIRED {
+            return Ok(None);
+        }
         self.begin(node)?;
         let Some(sets) = self.sets_at(node)? else {
             return Ok(None);
@@ -94,7 +95,7 @@ impl<'p> Book<'p> {
         let Some(paths) = self.paths_at(node, &sets)? else {
             return Ok(None);
         };
-        let meetings = self.meetings_at(node, &paths);
+        let meetings = self.paths.meetings(&paths).ok();
         Ok(Some(AtNode {
             sets,
             paths,
@@ -145,20 +146,6 @@ impl<'p> Book<'p> {
             KnownOwn::Path(number) => Some(number),
             KnownOwn::NoneWithin(_) => None,
         }
-    }
-
-    /// Meetings of all conflicts of a node's plan, whose paths have these numbers. None where looking at each pair of agents
-    /// costs more than looking at each step of their plan, or where memory runs out.
-    fn meetings_at(&mut self, node: &Node, paths: &[usize]) -> Option<Vec<Meeting>>
-        requires node { IsBranching self.old.problem node.now }
-        requires paths { ArePathsOf self.old.paths paths.now node.now.plan }
-        ensures same { self.new ≡ self.old }
-        ensures meetings { IfSome result (λ ms. HaveMeetings (IsConflict self.old.problem.rule node.now.plan) ms.items) }
-    {
-        if !has_few_pairs(node.agents(), node.key().cost) {
-            return None;
-        }
-        self.paths.meetings(paths).ok()
     }
 
     /// The child of a node on one side of its conflict, where its path is known: none exactly where it isn't in the tree. None
@@ -333,9 +320,4 @@ fn turn(known: &KnownSets, sets: &mut Vec<usize>, change: &Change) -> bool
         }
         None => false,
     }
-}
-
-/// Whether looking at each pair of so many agents costs less than looking at each step of their plan, which has this cost.
-fn has_few_pairs(agents: usize, cost: u64) -> bool {
-    agents <= MOST_PAIRED && agents as u64 * agents as u64 / 2 <= cost
 }
