@@ -1,6 +1,6 @@
 -- What is known of when agents on two paths have their first conflict.
 use Rattle.std.proofs.Common.{◌≡◌, ◌≢◌, ◌⊎◌, ℕ, zero, suc, ◌<◌, List, [], ◌∷◌, ◌++◌, length, min, max, set, inl, inr, refl, subst, subst₂, sym, ap, ◌∙◌, ⊎_elim, arith, Contains, get_or-set_same, get_or-set_other}
-use Rattle.std.specs.Prelude.{slice_index, slice_get, Some}
+use Rattle.std.specs.Prelude.{slice_index, slice_get, Option, Some, None}
 use Rattle.std.proofs.lemmas.Bool.{cases_lt}
 use Rattle.std.proofs.lemmas.List.{length-set, length-map, get_or-map}
 use native.Mathlib.Decide.{ℕ_discrete}
@@ -10,8 +10,8 @@ use Rattle.mapf_plan.specs.declared.meetings.Meeting.{Meeting}
 use Rattle.mapf_plan.specs.declared.rule.Rule.{Rule}
 use Rattle.mapf_plan.specs.Plan.{path_of, IsConflict, first_agent, second_agent}
 use Rattle.mapf_plan.specs.FirstConflict.{IsConflictOfPair, IsConflictWithout}
-use Rattle.mapf_plan.specs.Meetings.{HaveMeetings}
-use Rattle.mapf_plan.specs.KnownPaths.{plan_of, row_in, time_in, IsRight, AreRight, IsSetTime, IsAdded, AreMet}
+use Rattle.mapf_plan.specs.Meetings.{HaveNoneBefore, HaveMeetings}
+use Rattle.mapf_plan.specs.KnownPaths.{plan_of, row_in, time_in, known_time, IsRight, AreRight, AreRightByLater, IsSetTime, IsAdded, AreMet}
 use Rattle.mapf_plan.proofs.Conflicts.{agents_of}
 use Rattle.mapf_plan.proofs.OfMeetings.{all_meet, meetings_without, meet_added, meet_never, meet_in_more}
 
@@ -39,6 +39,30 @@ number_added (p ∷ paths) path = number_added paths path
 pub right_at : (rule : Rule) (paths : List (List ℕ)) (rows : List (List FirstTime)) (row : List FirstTime) (one other : ℕ) (time : FirstTime) → AreRight rule paths rows → row ≡ row_in rows one → time ≡ time_in row other
     → IsRight rule paths one other time
 right_at rule paths rows row one other time are is at = subst (IsRight rule paths one other) (sym (at ∙ ap (λ r. time_in r other) is)) (are one other)
+
+-- and so is what one says whose rows are by the later agent's path
+pub right_by_later : (rule : Rule) (paths : List (List ℕ)) (rows : List (List FirstTime)) (row : List FirstTime) (one other : ℕ) (time : FirstTime) → AreRightByLater rule paths rows → row ≡ row_in rows other → time ≡ time_in row one
+    → IsRight rule paths one other time
+right_by_later rule paths rows row one other time are is at = subst (IsRight rule paths one other) (sym (at ∙ ap (λ r. time_in r one) is)) (are one other)
+
+-- what is found of two paths is right once it is known
+pub right_found : (rule : Rule) (paths : List (List ℕ)) (one other : ℕ) (found : Option ℕ) → one < length paths → other < length paths → HaveNoneBefore rule (path_of paths one) (path_of paths other) found
+    → IsRight rule paths one other (known_time found)
+right_found rule paths one other None l h none = (l, h, none)
+right_found rule paths one other (Some t) l h none = (l, h, none)
+
+-- what holds of each entry of a table holds after one was set of which it holds, too
+pub still_holds : (Holds : ℕ → ℕ → FirstTime → Type 0) (rows next : List (List FirstTime)) (one other : ℕ) (time : FirstTime) → ((i j : ℕ) → Holds i j (time_in (row_in rows i) j)) → Holds one other time
+    → ((i : ℕ) → (row_in next i ≡ row_in rows i) ⊎ ((i ≡ one) × IsSetTime (row_in rows i) (row_in next i) other time)) → (i j : ℕ) → Holds i j (time_in (row_in next i) j)
+still_holds Holds rows next one other time each here others i j = go (others i)
+  where
+    set_at : i ≡ one → (time_in (row_in next i) j ≡ time_in (row_in rows i) j) ⊎ ((j ≡ other) × (time_in (row_in next i) j ≡ time)) → Holds i j (time_in (row_in next i) j)
+    set_at e (inl same) = subst (Holds i j) (sym same) (each i j)
+    set_at e (inr (f, is)) = subst (Holds i j) (sym is) (subst₂ (λ a b. Holds a b time) (sym e) (sym f) here)
+
+    go : (row_in next i ≡ row_in rows i) ⊎ ((i ≡ one) × IsSetTime (row_in rows i) (row_in next i) other time) → Holds i j (time_in (row_in next i) j)
+    go (inl same) = subst (λ r. Holds i j (time_in r j)) (sym same) (each i j)
+    go (inr (e, sets)) = set_at e (sets j)
 
 -- two agents on paths of which that is known have the meetings that were added
 pub met_known : (rule : Rule) (paths : List (List ℕ)) (i j one other : ℕ) (time : FirstTime) (ms : List Meeting) → IsRight rule paths one other time → IsAdded i j time ms

@@ -46,9 +46,12 @@ IsRight rule paths one other Unknown = ⊤
 IsRight rule paths one other Never = (one < length paths) × (other < length paths) × HaveNoneBefore rule (path_of paths one) (path_of paths other) None
 IsRight rule paths one other (At t) = (one < length paths) × (other < length paths) × HaveNoneBefore rule (path_of paths one) (path_of paths other) (Some t)
 
--- all that a table knows is right
+-- all that a table knows is right, whose rows are by the earlier agent's path; or by the later one's
 abbrev pub AreRight : Rule → List (List ℕ) → List (List FirstTime) → Type 0
 AreRight rule paths rows = (one other : ℕ) → IsRight rule paths one other (time_in (row_in rows one) other)
+
+abbrev pub AreRightByLater : Rule → List (List ℕ) → List (List FirstTime) → Type 0
+AreRightByLater rule paths rows = (one other : ℕ) → IsRight rule paths one other (time_in (row_in rows other) one)
 
 -- a row after one entry of it was set, if it was
 abbrev pub IsSetTime : List FirstTime → List FirstTime → ℕ → FirstTime → Type 0

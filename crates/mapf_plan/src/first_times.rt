@@ -109,9 +109,30 @@ fn reach_time(row: &mut Vec<FirstTime>, other: usize) -> Result<(), NoMemory>
     Ok(())
 }
 
-/// Adds the meetings of an agent with each later one, as far as they are known of its path's row: up to the agent that is
+/// Adds the meetings of an agent with each earlier one, as far as they are known of its path's row: up to the agent that is
 /// returned.
-pub(crate) fn add_known(
+pub(crate) fn add_known_earlier(
+    row: &[FirstTime],
+    numbers: &[usize],
+    second: usize,
+    meetings: &mut Vec<Meeting>,
+) -> Result<usize, NoMemory>
+    requires agents { length numbers.now ≤ most_agents }
+    requires second { second < length numbers.now }
+    ensures keeps { OnOk result ((m : Meeting) → Contains meetings.old.items m → Contains meetings.new.items m) }
+    ensures end { IfOk result (λ end. end ≤ second) }
+    ensures added { IfOk result (λ end. (k : ℕ) → k < end → IsAdded k second (time_in row.now (slice_index numbers.now k)) meetings.new.items) }
+{
+    for first in 0..second {
+        if !add_time(time_of(row, numbers[first]), first, second, meetings)? {
+            return Ok(first);
+        }
+    }
+    Ok(second)
+}
+
+/// The same with each later one.
+pub(crate) fn add_known_later(
     row: &[FirstTime],
     numbers: &[usize],
     first: usize,

@@ -8,7 +8,9 @@ ghost use Rattle.mapf_plan.specs.Plan.{path_of, IsConflict, IsFirstConflict, Has
 ghost use Rattle.mapf_plan.specs.Meetings.{HaveNoneBefore, HaveMeetings};
 ghost use Rattle.mapf_plan.specs.KnownPaths.{KnownPaths, AreNumbers, AreMet, IsKnownPlan, plan_of};
 
-use crate::first_times::{FirstTime, add_known, keep_time, row_of, time_of};
+use crate::first_times::{
+    FirstTime, add_known_earlier, add_known_later, keep_time, row_of, time_of,
+};
 use crate::meetings::{
     ROOM, first_conflict_of_meetings, first_time_of_two, meeting_of, meetings_without,
 };
@@ -39,8 +41,10 @@ pub struct KnownPaths {
     paths: Vec<Arc<Path>>,
     /// Where a path is looked for; nothing rests on it.
     places: HashMap<u64, usize>,
-    /// What is known of two paths: a row for the path of the agent with the smaller number.
+    /// What is known of two paths: a row for the path of the earlier agent.
     times: Vec<Vec<FirstTime>>,
+    /// The same with a row for the path of the later agent.
+    times_by_later: Vec<Vec<FirstTime>>,
     /// The plan whose meetings were asked for last: the next one has the same paths but for a few.
     latest: Option<KnownPlan>,
 }
@@ -48,13 +52,14 @@ pub struct KnownPaths {
 impl Model for KnownPaths {
     ghost use Rattle.std.specs.Prelude.{map, IfSome};
     ghost use Rattle.std.specs.Arc.{arc_value};
-    ghost use Rattle.mapf_plan.specs.KnownPaths.{KnownPaths, AreRight, IsKnownPlan};
+    ghost use Rattle.mapf_plan.specs.KnownPaths.{KnownPaths, AreRight, AreRightByLater, IsKnownPlan};
 
     ghost Value = { KnownPaths };
 
     ghost view = { λ k. record { rule = k.rule; paths = map arc_value k.paths.items } };
 
     ghost invariant = { λ k. AreRight k.rule (map arc_value k.paths.items) (map (λ row. row.items) k.times.items)
+        × AreRightByLater k.rule (map arc_value k.paths.items) (map (λ row. row.items) k.times_by_later.items)
         × IfSome k.latest (λ plan. IsKnownPlan (record { rule = k.rule; paths = map arc_value k.paths.items }) plan.numbers.items plan.meetings.items) };
 }
 
@@ -69,6 +74,7 @@ impl KnownPaths {
             paths: Vec::new(alloc),
             places: HashMap::new(alloc),
             times: Vec::new(alloc),
+            times_by_later: Vec::new(alloc),
             latest: None,
         }
     }
@@ -257,7 +263,8 @@ impl KnownPaths {
         ensures keeps { OnOk result ((m : Meeting) → Contains meetings.old.items m → Contains meetings.new.items m) }
         ensures pairs { OnOk result ((k : ℕ) → k < agent → AreMet self.old.rule k agent (path_of self.old.paths (slice_index numbers.now k)) (path_of self.old.paths number) meetings.new.items) }
     {
-        for other in 0..agent {
+        let known = self.meet_known_earlier(numbers, agent, number, meetings)?;
+        for other in known..agent {
             self.meet(other, agent, numbers[other], number, meetings)?;
         }
         Ok(())
@@ -279,16 +286,33 @@ impl KnownPaths {
         ensures keeps { OnOk result ((m : Meeting) → Contains meetings.old.items m → Contains meetings.new.items m) }
         ensures pairs { OnOk result ((k : ℕ) → agent < k → k < length numbers.now → AreMet self.old.rule agent k (path_of self.old.paths number) (path_of self.old.paths (slice_index numbers.now k)) meetings.new.items) }
     {
-        let known = self.meet_known(numbers, agent, number, meetings)?;
+        let known = self.meet_known_later(numbers, agent, number, meetings)?;
         for other in known..numbers.len() {
             self.meet(agent, other, number, numbers[other], meetings)?;
         }
         Ok(())
     }
 
-    /// Adds the meetings of an agent, whose path is the one of this number, with each later agent as far as they are known: up
+    /// Adds the meetings of an agent, whose path is the one of this number, with each earlier agent as far as they are known: up
     /// to the agent that is returned.
-    fn meet_known(
+    fn meet_known_earlier(
+        &self,
+        numbers: &[usize],
+        agent: usize,
+        number: usize,
+        meetings: &mut Vec<Meeting>,
+    ) -> Result<usize, NoMemory>
+        requires agents { length numbers.now ≤ most_agents }
+        requires agent { agent < length numbers.now }
+        ensures keeps { OnOk result ((m : Meeting) → Contains meetings.old.items m → Contains meetings.new.items m) }
+        ensures end { IfOk result (λ end. end ≤ agent) }
+        ensures pairs { IfOk result (λ end. (k : ℕ) → k < end → AreMet self.now.rule k agent (path_of self.now.paths (slice_index numbers.now k)) (path_of self.now.paths number) meetings.new.items) }
+    {
+        add_known_earlier(row_of(&self.times_by_later, number), numbers, agent, meetings)
+    }
+
+    /// The same with each later agent.
+    fn meet_known_later(
         &self,
         numbers: &[usize],
         agent: usize,
@@ -301,7 +325,7 @@ impl KnownPaths {
         ensures end { IfOk result (λ end. (agent < end) × (end ≤ length numbers.now)) }
         ensures pairs { IfOk result (λ end. (k : ℕ) → agent < k → k < end → AreMet self.now.rule agent k (path_of self.now.paths number) (path_of self.now.paths (slice_index numbers.now k)) meetings.new.items) }
     {
-        add_known(row_of(&self.times, number), numbers, agent, meetings)
+        add_known_later(row_of(&self.times, number), numbers, agent, meetings)
     }
 
     /// Adds the meeting of two agents, whose paths have these numbers, where they have a conflict.
@@ -352,13 +376,9 @@ impl KnownPaths {
         ensures time { HaveNoneBefore self.old.rule (path_of self.old.paths one) (path_of self.old.paths other) result }
     {
         let found = first_time_of_two(self.rule, &self.paths[one], &self.paths[other]);
-        keep_time(
-            self.alloc,
-            &mut self.times,
-            one,
-            other,
-            FirstTime::of(found),
-        );
+        let time = FirstTime::of(found);
+        keep_time(self.alloc, &mut self.times, one, other, time);
+        keep_time(self.alloc, &mut self.times_by_later, other, one, time);
         found
     }
 }

@@ -22,6 +22,13 @@ use std::sync::Arc;
 /// It keeps the root's plan and what each turn of its name changed, and shares both with the nodes beside and above it.
 pub struct Node {
     pub(crate) key: Key,
+    /// Boxed, since nodes are moved often.
+    body: Box<Body>,
+}
+
+/// What a node is beside its key.
+#[derive(Drop)]
+struct Body {
     rule: Rule,
     root: Arc<Plan>,
     changes: Chain,
@@ -31,13 +38,7 @@ pub struct Node {
 // By hand, so that a proof about what holds a node sees a call where it is dropped, and not what a node consists of.
 impl Drop for Node {
     fn drop(self) {
-        let Node {
-            key: _,
-            rule: _,
-            root: _,
-            changes: _,
-            conflict: _,
-        } = self;
+        let Node { key: _, body: _ } = self;
     }
 }
 
@@ -46,14 +47,14 @@ impl Model for Node {
 
     ghost Value = { Node };
 
-    ghost view = { λ n. node_of n.key.name n.root.value n.changes n.rule n.conflict };
+    ghost view = { λ n. node_of n.key.name n.body.value.root.value n.body.value.changes n.body.value.rule n.body.value.conflict };
 
-    ghost invariant = { λ n. AgreesWith n.key.cost n.key.depth (node_of n.key.name n.root.value n.changes n.rule n.conflict) };
+    ghost invariant = { λ n. AgreesWith n.key.cost n.key.depth (node_of n.key.name n.body.value.root.value n.body.value.changes n.body.value.rule n.body.value.conflict) };
 }
 
 impl Node {
     ghost use Rattle.mapf_tree.specs.Tree.{key_rank};
-    ghost use Rattle.mapf_tree.specs.Nodes.{node_key, IsConflictOf};
+    ghost use Rattle.mapf_tree.specs.Nodes.{AgreesWith, node_of, node_key, IsConflictOf};
 
     /// The node of no turn: no agent has a constraint, and this is the plan.
     pub(crate) fn root(alloc: Global, plan: Plan, rule: Rule) -> Result<Node, NoMemory>
@@ -70,13 +71,24 @@ impl Node {
             depth: 0,
             name: Name::root(alloc),
         };
-        Ok(Node {
-            key,
+        let body = Body {
             rule,
             root: Arc::new(alloc, plan)?,
             changes: Chain::new(alloc)?,
             conflict,
-        })
+        };
+        Node::of(alloc, key, body)
+    }
+
+    /// The node of this key and all else.
+    fn of(alloc: Global, key: Key, body: Body) -> Result<Node, NoMemory>
+        requires { AgreesWith key.cost key.depth (node_of key.name body.root.value body.changes body.rule body.conflict) }
+        ensures { IfOk result (λ n. n ≡ node_of key.name body.root.value body.changes body.rule body.conflict) }
+    {
+        match Box::new(alloc, body) {
+            Ok(body) => Ok(Node { key, body }),
+            Err(_refused) => Err(NoMemory),
+        }
     }
 
     /// The first conflict of the node's plan where an agent has another path.
@@ -114,13 +126,13 @@ impl Node {
     {
         let old = self.path(change.agent).cost();
         let key = self.key_with(alloc, side, change.agent, old, &change.path)?;
-        Ok(Node {
-            key,
-            rule: self.rule,
-            root: Arc::try_clone(&self.root)?,
-            changes: self.changes.with(alloc, change)?,
+        let body = Body {
+            rule: self.body.rule,
+            root: Arc::try_clone(&self.body.root)?,
+            changes: self.body.changes.with(alloc, change)?,
             conflict,
-        })
+        };
+        Node::of(alloc, key, body)
     }
 
     /// The key one turn further, where an agent has another path; the old one's cost is given.
@@ -162,10 +174,10 @@ impl Node {
         requires conflict { IsSome self.now.conflict }
         ensures { IsConflictOf self.now.rule (slice_set self.now.plan agent path.now) result }
     {
-        let time = self.conflict.unwrap().time();
+        let time = self.body.conflict.unwrap().time();
         let from = path.shared_steps(paths.path(agent)).min(time);
         paths.set(agent, path);
-        first_conflict_of_changed(&paths, self.rule, agent, from, time)
+        first_conflict_of_changed(&paths, self.body.rule, agent, from, time)
     }
 
     /// Where the node stands in the order of a search.
@@ -181,13 +193,7 @@ impl Node {
         ensures rank { key_rank result ≡ node_key self }
         ensures cost { result.cost ≡ plan_cost self.plan }
     {
-        let Node {
-            key,
-            rule: _,
-            root: _,
-            changes: _,
-            conflict: _,
-        } = self;
+        let Node { key, body: _ } = self;
         key
     }
 
@@ -196,7 +202,7 @@ impl Node {
         ensures conflict { result ≡ self.now.conflict }
         ensures first { IsConflictOf self.now.rule self.now.plan result }
     {
-        self.conflict
+        self.body.conflict
     }
 
     /// What a turn of the name changed, turns from 0: the agent, what it is forbidden since, and its path from then on. None
@@ -206,7 +212,7 @@ impl Node {
             (λ found. slice_get self.now.changes turn ≡ Some (record { agent = found.0; constraint = found.1; path = found.2.now })) }
         ensures turns { length self.now.changes ≡ length self.now.name }
     {
-        let change = self.changes.get(turn)?;
+        let change = self.body.changes.get(turn)?;
         Some((change.agent, change.constraint, &change.path))
     }
 
@@ -215,7 +221,7 @@ impl Node {
         ensures changes { map arc_value result.0.now ++ map arc_value result.1.now ≡ self.now.changes }
         ensures constraints { self.now.constraints ≡ changed_sets (replicate (length self.now.plan) []) self.now.changes }
     {
-        self.changes.parts()
+        self.body.changes.parts()
     }
 
     /// Whether it is the node of no turn.
@@ -231,7 +237,7 @@ impl Node {
         ensures some { 0 < result }
         ensures few { result ≤ most_agents }
     {
-        self.root.agents()
+        self.body.root.agents()
     }
 
     /// An agent's path: that of its last change, or the root's.
@@ -239,7 +245,7 @@ impl Node {
         requires { agent < length self.now.plan }
         ensures { result.now ≡ path_of self.now.plan agent }
     {
-        self.changes.path(&self.root, agent)
+        self.body.changes.path(&self.body.root, agent)
     }
 
     /// An agent's path as a turn of the name gave it; none where it has the root's.
@@ -247,14 +253,14 @@ impl Node {
         requires { agent < length self.now.plan }
         ensures { IfSome result (λ path. arc_value path.now ≡ path_of self.now.plan agent) }
     {
-        self.changes.turned_path(agent)
+        self.body.changes.turned_path(agent)
     }
 
     /// The agents' paths.
     fn paths(&self, alloc: Global) -> Result<CurrentPaths<'_>, NoMemory>
         ensures { IfOk result (λ paths. paths ≡ self.now.plan) }
     {
-        self.changes.paths(alloc, &self.root)
+        self.body.changes.paths(alloc, &self.body.root)
     }
 
     /// What an agent is forbidden.
@@ -262,12 +268,12 @@ impl Node {
         requires { agent < length self.now.plan }
         ensures { IfOk result (λ set. (c : _) → Contains set c ↔ Contains (slice_index_or self.now.constraints agent []) c) }
     {
-        self.changes.constraints(alloc, agent)
+        self.body.changes.constraints(alloc, agent)
     }
 
     /// Where the node's memory is from.
     pub(crate) fn allocator(&self) -> Global {
-        self.changes.allocator()
+        self.body.changes.allocator()
     }
 
     /// A copy of the node's plan.
@@ -286,12 +292,12 @@ impl Node {
             depth: self.key.depth,
             name: self.key.name.copy(alloc)?,
         };
-        Ok(Node {
-            key,
-            rule: self.rule,
-            root: Arc::try_clone(&self.root)?,
-            changes: self.changes.copy(alloc)?,
-            conflict: self.conflict,
-        })
+        let body = Body {
+            rule: self.body.rule,
+            root: Arc::try_clone(&self.body.root)?,
+            changes: self.body.changes.copy(alloc)?,
+            conflict: self.body.conflict,
+        };
+        Node::of(alloc, key, body)
     }
 }
