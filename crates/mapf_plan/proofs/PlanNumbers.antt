@@ -1,9 +1,9 @@
 -- Plans whose paths have numbers.
-use Rattle.std.proofs.Common.{◌≡◌, ℕ, ◌+◌, ◌<◌, List, [], ◌∷◌, ◌++◌, length, get_or, set, Some, subst, sym, ap, ◌∙◌, arith}
+use Rattle.std.proofs.Common.{◌≡◌, ℕ, ◌+◌, ◌<◌, List, [], ◌∷◌, ◌++◌, length, get_or, set, Some, subst, subst₂, sym, ap, ◌∙◌, arith}
 use Rattle.std.specs.Prelude.{slice_get, slice_index}
 use Rattle.std.proofs.lemmas.List.{ext_get_or, length-map, length-set, map-set, get_or-map, get_or_append_left, get_or_push}
-use Rattle.std.proofs.lemmas.List.Elements.{All-from_get_or, All-set}
-use Rattle.std.proofs.lemmas.Option.{get_or_from_slice_get, slice_get_within}
+use Rattle.std.proofs.lemmas.List.Elements.{All-from_get_or, All-get_or, All-set}
+use Rattle.std.proofs.lemmas.Option.{get_or_from_slice_get, slice_get-get_or, slice_get_within}
 use borrow.Author.Count.{below_more}
 use Rattle.mapf_plan.specs.Plan.{path_of, IsConflict}
 use Rattle.mapf_plan.specs.declared.meetings.Meeting.{Meeting}
@@ -51,3 +51,19 @@ plan_turned known numbers old new agent number is inside meet = record {
   inside = All-set (λ n. n < length known.paths) numbers agent number inside is.inside;
   meet = subst (λ plan. HaveMeetings (IsConflict known.rule plan) new) (sym (map-set (λ n. path_of known.paths n) numbers agent number)) meet;
 }
+
+-- and a known plan stays so where each path keeps its number
+pub known_stays : (old new : KnownPaths) (numbers : List ℕ) (ms : List Meeting) → new.rule ≡ old.rule → ((n : ℕ) (p : List ℕ) → slice_get old.paths n ≡ Some p → slice_get new.paths n ≡ Some p) → IsKnownPlan old numbers ms → IsKnownPlan new numbers ms
+known_stays old new numbers ms rule keeps is = record {
+  few = is.few;
+  inside = All-from_get_or (λ n. n < length new.paths) numbers 0 (λ i l. slice_get_within new.paths (slice_index numbers i) (path_of old.paths (slice_index numbers i)) (kept i l));
+  meet = subst₂ (λ r plan. HaveMeetings (IsConflict r plan) ms) (sym rule) (sym same) is.meet;
+}
+  where
+    kept : (i : ℕ) → i < length numbers → slice_get new.paths (slice_index numbers i) ≡ Some (path_of old.paths (slice_index numbers i))
+    kept i l = keeps (slice_index numbers i) _ (slice_get-get_or old.paths (slice_index numbers i) [] (All-get_or (λ n. n < length old.paths) numbers i 0 l is.inside))
+
+    same : plan_of new.paths numbers ≡ plan_of old.paths numbers
+    same = plan_of_numbers new.paths numbers (plan_of old.paths numbers) (sym (length-map numbers (λ n. path_of old.paths n)))
+           (λ k l. let inside : k < length numbers = subst (λ n. k < n) (length-map numbers (λ n. path_of old.paths n)) l in
+           kept k inside ∙ ap Some (sym (get_or-map (λ n. path_of old.paths n) numbers k 0 [] inside)))

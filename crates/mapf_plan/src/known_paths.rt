@@ -12,10 +12,10 @@ use crate::first_times::{
     FirstTime, add_known_earlier, add_known_later, keep_time, row_of, time_of,
 };
 use crate::meetings::{
-    ROOM, first_conflict_of_meetings, first_time_of_two, meeting_of, meetings_without,
+    first_conflict_of_meetings, first_time_of_two, meeting_of, meetings_without,
 };
 use crate::numbered::Numbered;
-use crate::{Conflict, Meeting, Path, Rule};
+use crate::{Conflict, KnownPlan, Meeting, Path, Rule};
 use mapf_grid::{Cell, NoMemory};
 use std::alloc::Global;
 use std::collections::HashMap;
@@ -25,13 +25,6 @@ use std::sync::Arc;
 
 /// 2^64 by the golden ratio.
 const MIXER: u64 = 11_400_714_819_323_198_485;
-
-/// A plan by the numbers of its paths, agent 0's first, and meetings of all its conflicts.
-#[derive(Drop)]
-struct KnownPlan {
-    numbers: Vec<usize>,
-    meetings: Vec<Meeting>,
-}
 
 /// Paths by number, and for each two of them when agents on them have their first conflict, which is looked for once.
 #[derive(Drop)]
@@ -45,22 +38,21 @@ pub struct KnownPaths {
     times: Vec<Vec<FirstTime>>,
     /// The same with a row for the path of the later agent.
     times_by_later: Vec<Vec<FirstTime>>,
-    /// The plan whose meetings were asked for last: the next one has the same paths but for a few.
-    latest: Option<KnownPlan>,
+    /// Room for the next list of meetings.
+    spare: Vec<Meeting>,
 }
 
 impl Model for KnownPaths {
-    ghost use Rattle.std.specs.Prelude.{map, IfSome};
+    ghost use Rattle.std.specs.Prelude.{map};
     ghost use Rattle.std.specs.Arc.{arc_value};
-    ghost use Rattle.mapf_plan.specs.KnownPaths.{KnownPaths, AreRight, AreRightByLater, IsKnownPlan};
+    ghost use Rattle.mapf_plan.specs.KnownPaths.{KnownPaths, AreRight, AreRightByLater};
 
     ghost Value = { KnownPaths };
 
     ghost view = { λ k. record { rule = k.rule; paths = map arc_value k.paths.items } };
 
     ghost invariant = { λ k. AreRight k.rule (map arc_value k.paths.items) (map (λ row. row.items) k.times.items)
-        × AreRightByLater k.rule (map arc_value k.paths.items) (map (λ row. row.items) k.times_by_later.items)
-        × IfSome k.latest (λ plan. IsKnownPlan (record { rule = k.rule; paths = map arc_value k.paths.items }) plan.numbers.items plan.meetings.items) };
+        × AreRightByLater k.rule (map arc_value k.paths.items) (map (λ row. row.items) k.times_by_later.items) };
 }
 
 impl KnownPaths {
@@ -75,7 +67,7 @@ impl KnownPaths {
             places: HashMap::new(alloc),
             times: Vec::new(alloc),
             times_by_later: Vec::new(alloc),
-            latest: None,
+            spare: Vec::new(alloc),
         }
     }
 
@@ -90,7 +82,6 @@ impl KnownPaths {
         }
         let key = key_of(path.cells());
         let number = self.paths.len();
-        self.latest = None;
         self.paths.push(path)?;
         let _ = self.places.insert(key, number);
         Ok(number)
@@ -114,45 +105,15 @@ impl KnownPaths {
         self.paths.get(number)
     }
 
-    /// Meetings of all conflicts of agents whose paths have these numbers, agent 0's first. They are found from those that were
-    /// asked for last, agent by agent that has another path.
-    pub fn meetings(&mut self, numbers: &[usize]) -> Result<Vec<Meeting>, NoMemory>
+    /// The plan of agents whose paths have these numbers, agent 0's first.
+    pub fn plan(&mut self, numbers: &[usize]) -> Result<KnownPlan, NoMemory>
         requires numbers { AreNumbers self.old.paths numbers.now }
-        requires agents { (0 < length numbers.now) × (length numbers.now ≤ most_agents) }
-        ensures known { self.new ≡ self.old }
-        ensures meetings { IfOk result (λ ms. HaveMeetings (IsConflict self.old.rule (plan_of self.old.paths numbers.now)) ms.items) }
-    {
-        let plan = self.plan(numbers)?;
-        let meetings = Vec::from_slice(self.alloc, plan.meetings.as_slice())?;
-        self.latest = Some(plan);
-        Ok(meetings)
-    }
-
-    /// The plan of these numbers.
-    fn plan(&mut self, numbers: &[usize]) -> Result<KnownPlan, NoMemory>
-        requires numbers { AreNumbers self.old.paths numbers.now }
-        requires agents { (0 < length numbers.now) × (length numbers.now ≤ most_agents) }
+        requires agents { length numbers.now ≤ most_agents }
         ensures known { self.new ≡ self.old }
         ensures plan { IfOk result (λ plan. IsKnownPlan self.old plan.numbers.items plan.meetings.items) }
         ensures numbers { IfOk result (λ plan. plan.numbers.items ≡ numbers.now) }
     {
-        if let Some(latest) = replace(&mut self.latest, None) {
-            if latest.numbers.len() == numbers.len() {
-                return self.turned(latest, numbers);
-            }
-        }
-        self.looked_up(numbers)
-    }
-
-    /// The plan of these numbers, where all pairs of agents are looked up.
-    fn looked_up(&mut self, numbers: &[usize]) -> Result<KnownPlan, NoMemory>
-        requires numbers { AreNumbers self.old.paths numbers.now }
-        requires agents { (0 < length numbers.now) × (length numbers.now ≤ most_agents) }
-        ensures known { self.new ≡ self.old }
-        ensures plan { IfOk result (λ plan. IsKnownPlan self.old plan.numbers.items plan.meetings.items) }
-        ensures numbers { IfOk result (λ plan. plan.numbers.items ≡ numbers.now) }
-    {
-        let mut meetings = Vec::with_capacity(self.alloc, ROOM)?;
+        let mut meetings = Vec::new(self.alloc);
         for first in 0..numbers.len() {
             self.meet_later(numbers, first, numbers[first], &mut meetings)?;
         }
@@ -162,89 +123,68 @@ impl KnownPaths {
         })
     }
 
-    /// The plan of these numbers, from another one.
-    fn turned(&mut self, other: KnownPlan, numbers: &[usize]) -> Result<KnownPlan, NoMemory>
-        requires other { IsKnownPlan self.old other.numbers.items other.meetings.items }
-        requires numbers { AreNumbers self.old.paths numbers.now }
-        requires agents { length other.numbers.items ≡ length numbers.now }
-        ensures known { self.new ≡ self.old }
-        ensures plan { IfOk result (λ plan. IsKnownPlan self.old plan.numbers.items plan.meetings.items) }
-        ensures numbers { IfOk result (λ plan. plan.numbers.items ≡ numbers.now) }
-    {
-        let mut plan = other;
-        for agent in 0..numbers.len() {
-            plan = self.turned_once(plan, agent, numbers[agent])?;
-        }
-        Ok(plan)
-    }
-
-    /// The plan where an agent has the path of this number.
-    fn turned_once(
+    /// Gives one agent of a plan another path: the one of this number. Only the pairs of that agent are gone through. Where
+    /// memory runs out the plan is of no more use.
+    pub fn turn(
         &mut self,
-        plan: KnownPlan,
+        plan: &mut KnownPlan,
         agent: usize,
         number: usize,
-    ) -> Result<KnownPlan, NoMemory>
-        requires plan { IsKnownPlan self.old plan.numbers.items plan.meetings.items }
-        requires agent { agent < length plan.numbers.items }
+    ) -> Result<(), NoMemory>
+        requires plan { IsKnownPlan self.old plan.old.numbers.items plan.old.meetings.items }
+        requires agent { agent < length plan.old.numbers.items }
         requires number { number < length self.old.paths }
         ensures known { self.new ≡ self.old }
-        ensures plan { IfOk result (λ p. IsKnownPlan self.old p.numbers.items p.meetings.items) }
-        ensures numbers { IfOk result (λ p. p.numbers.items ≡ slice_set plan.numbers.items agent number) }
+        ensures plan { OnOk result (IsKnownPlan self.old plan.new.numbers.items plan.new.meetings.items) }
+        ensures numbers { OnOk result (plan.new.numbers.items ≡ slice_set plan.old.numbers.items agent number) }
     {
-        if plan.numbers[agent] == number {
-            return Ok(plan);
-        }
-        let meetings = self.meetings_of_changed(&plan.numbers, &plan.meetings, agent, number)?;
-        let KnownPlan { mut numbers, .. } = plan;
-        numbers[agent] = number;
-        Ok(KnownPlan { numbers, meetings })
+        let meetings = self.meetings_of_changed(plan, agent, number)?;
+        self.spare = replace(&mut plan.meetings, meetings);
+        plan.numbers[agent] = number;
+        Ok(())
     }
 
-    /// The first conflict of agents whose paths had these numbers and these meetings, where one agent has another path: the one
-    /// of this number. None if no two agents ever collide.
+    /// The first conflict of a plan where one agent has another path: the one of this number. None if no two agents ever
+    /// collide.
     pub fn first_conflict_of_changed(
         &mut self,
-        numbers: &[usize],
-        meetings: &[Meeting],
+        plan: &KnownPlan,
         changed: usize,
         number: usize,
     ) -> Result<Option<Conflict>, NoMemory>
-        requires numbers { AreNumbers self.old.paths numbers.now }
-        requires agents { (0 < length numbers.now) × (length numbers.now ≤ most_agents) }
-        requires meetings { HaveMeetings (IsConflict self.old.rule (plan_of self.old.paths numbers.now)) meetings.now }
-        requires agent { changed < length numbers.now }
+        requires plan { IsKnownPlan self.old plan.now.numbers.items plan.now.meetings.items }
+        requires agent { changed < length plan.now.numbers.items }
         requires number { number < length self.old.paths }
         ensures known { self.new ≡ self.old }
         ensures conflict { IfOk result (λ found. MatchOption found
-            (HasNoConflict self.old.rule (slice_set (plan_of self.old.paths numbers.now) changed (path_of self.old.paths number)))
-            (IsFirstConflict self.old.rule (slice_set (plan_of self.old.paths numbers.now) changed (path_of self.old.paths number)))) }
+            (HasNoConflict self.old.rule (slice_set (plan_of self.old.paths plan.now.numbers.items) changed (path_of self.old.paths number)))
+            (IsFirstConflict self.old.rule (slice_set (plan_of self.old.paths plan.now.numbers.items) changed (path_of self.old.paths number)))) }
     {
-        let meetings = self.meetings_of_changed(numbers, meetings, changed, number)?;
-        let plan = Numbered::of(&self.paths, numbers, changed, number);
-        Ok(first_conflict_of_meetings(&plan, self.rule, &meetings))
+        let meetings = self.meetings_of_changed(plan, changed, number)?;
+        let changed_plan = Numbered::of(&self.paths, &plan.numbers, changed, number);
+        let found = first_conflict_of_meetings(&changed_plan, self.rule, &meetings);
+        self.spare = meetings;
+        Ok(found)
     }
 
-    /// Meetings of all conflicts, from those of the old plan, where one agent has another path: the one of this number.
+    /// Meetings of all conflicts, from those of a plan, where one agent has another path: the one of this number.
     fn meetings_of_changed(
         &mut self,
-        numbers: &[usize],
-        meetings: &[Meeting],
+        plan: &KnownPlan,
         changed: usize,
         number: usize,
     ) -> Result<Vec<Meeting>, NoMemory>
-        requires numbers { AreNumbers self.old.paths numbers.now }
-        requires agents { length numbers.now ≤ most_agents }
-        requires meetings { HaveMeetings (IsConflict self.old.rule (plan_of self.old.paths numbers.now)) meetings.now }
-        requires agent { changed < length numbers.now }
+        requires plan { IsKnownPlan self.old plan.now.numbers.items plan.now.meetings.items }
+        requires agent { changed < length plan.now.numbers.items }
         requires number { number < length self.old.paths }
         ensures known { self.new ≡ self.old }
-        ensures meetings { IfOk result (λ ms. HaveMeetings (IsConflict self.old.rule (slice_set (plan_of self.old.paths numbers.now) changed (path_of self.old.paths number))) ms.items) }
+        ensures meetings { IfOk result (λ ms. HaveMeetings (IsConflict self.old.rule (slice_set (plan_of self.old.paths plan.now.numbers.items) changed (path_of self.old.paths number))) ms.items) }
     {
-        let mut changed_meetings = meetings_without(self.alloc, meetings, changed)?;
-        self.meet_earlier(numbers, changed, number, &mut changed_meetings)?;
-        self.meet_later(numbers, changed, number, &mut changed_meetings)?;
-        Ok(changed_meetings)
+        let spare = replace(&mut self.spare, Vec::new(self.alloc));
+        let mut meetings = meetings_without(spare, &plan.meetings, changed)?;
+        self.meet_earlier(&plan.numbers, changed, number, &mut meetings)?;
+        self.meet_later(&plan.numbers, changed, number, &mut meetings)?;
+        Ok(meetings)
     }
 
     /// Adds the meetings of an agent, whose path is the one of this number, with each earlier agent.

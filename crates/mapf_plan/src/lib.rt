@@ -8,6 +8,7 @@ mod device;
 mod first_conflict;
 mod first_times;
 mod known_paths;
+mod known_plan;
 pub mod laws;
 mod marks;
 mod meetings;
@@ -28,6 +29,7 @@ pub use device::{
 };
 pub use first_conflict::first_conflict_of_changed;
 pub use known_paths::KnownPaths;
+pub use known_plan::KnownPlan;
 pub use meetings::Meeting;
 pub use path::Path;
 pub use plan::Plan;

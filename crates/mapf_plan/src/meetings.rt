@@ -13,10 +13,6 @@ use crate::first_conflict::first_conflict_from;
 use crate::pair_conflicts::{earlier, first_of_pair, pair_at};
 use crate::{AgentPaths, Conflict, Path, Rule};
 use mapf_grid::NoMemory;
-use std::alloc::Global;
-
-/// For how many meetings more there is room in a new list.
-pub(crate) const ROOM: usize = 16;
 
 /// Two agents, and a time step before which they have no conflict.
 #[derive(Clone, Copy, Debug, PartialEq, Eq)]
@@ -75,15 +71,16 @@ pub(crate) fn meeting_of(first: usize, second: usize, time: u32) -> Meeting
     }
 }
 
-/// Those of these meetings that this agent doesn't have.
+/// Those of these meetings that this agent doesn't have, in the place of what a list had.
 pub(crate) fn meetings_without(
-    alloc: Global,
+    spare: Vec<Meeting>,
     meetings: &[Meeting],
     agent: usize,
 ) -> Result<Vec<Meeting>, NoMemory>
     ensures { IfOk result (λ left. (m : Meeting) → Contains meetings.now m → m.first ≢ agent → m.second ≢ agent → Contains left.items m) }
 {
-    let mut left = Vec::with_capacity(alloc, meetings.len() + ROOM)?;
+    let mut left = spare;
+    left.clear();
     for meeting in meetings {
         if usize::from(meeting.first) != agent && usize::from(meeting.second) != agent {
             left.push(*meeting)?;

@@ -1,5 +1,5 @@
 -- Nodes of the tree that wait, one after the other.
-use Rattle.std.proofs.Common.{◌≡◌, Bool, true, List, ◌∷◌, Option, Some, None, IsSome, Ok, sym, refl, ◌∙◌, subst}
+use Rattle.std.proofs.Common.{◌≡◌, true, List, ◌∷◌, Option, Some, None, IsSome, Ok, sym, refl, subst}
 use Rattle.std.specs.Option.{is_some}
 use Rattle.mapf_plan.specs.declared.conflict.Conflict.{Conflict}
 use Rattle.mapf_tree.specs.Problem.{Problem}
@@ -9,15 +9,9 @@ use Rattle.mapf_tree.proofs.OpenNodes.{tail_stands}
 use Rattle.mapf_tree.proofs.TurnLemmas.{branches}
 use Rattle.mapf_tree.specs.Family.{IsBranching}
 
--- what is there is some
-some_there : (found : Option Conflict) → is_some found ≡ true → IsSome found
-some_there (Some c) e = refl
-some_there None e = cc
-
 -- the first of them branches, if it has a conflict
-pub first_branches : (p : Problem) (old new : List Node) (n : Node) (found : Option Conflict) (there : Bool) →
-    AllStand p old → old ≡ n ∷ new → found ≡ n.conflict → there ≡ is_some found → there ≡ true → IsBranching p n
-first_branches p old new n found there all is same told so = branches p old new n is all (subst (λ (o : Option Conflict). IsSome o) same (some_there found (sym told ∙ so)))
+pub first_branches : (p : Problem) (old new : List Node) (n : Node) → AllStand p old → old ≡ n ∷ new → IsSome n.conflict → IsBranching p n
+first_branches p old new n all is some = branches p old new n is all some
 
 -- and the others wait still
 pub others_wait : (p : Problem) (old new : List Node) (n : Node) → AllStand p old → old ≡ n ∷ new → AllStand p new

@@ -1,6 +1,6 @@
 -- What is remembered of sets of constraints and of own paths, by their numbers.
 use Rattle.std.proofs.Common.{◌≡◌, ◌⊎◌, ℕ, zero, suc, ◌+◌, ◌<◌, ◌≤◌, List, [], ◌∷◌, ◌++◌, length, get_or, set, replicate, Option, Some, None, IsSome, subst, subst₂, sym, refl, ap, ◌∙◌, inl, inr, ⊎_elim, arith, get_or-set_same, get_or-set_other}
-use Rattle.std.specs.Prelude.{slice_get, slice_index}
+use Rattle.std.specs.Prelude.{slice_get, slice_index, IfSome}
 use Rattle.std.proofs.lemmas.List.{length-set, length_push, length-append, length-replicate, get_or-replicate, get_or_append_left, get_or_push}
 use Rattle.std.proofs.lemmas.List.Sums.{get_or-le-sum_by}
 use Rattle.std.proofs.lemmas.Option.{get_or_from_slice_get, slice_get_within, slice_get-get_or}
@@ -33,6 +33,11 @@ use Rattle.mapf_tree.proofs.Queries.{is_child, no_child}
 -- two values that are there are one
 one_value : {A : Type 0} (x y : A) → ◌≡◌ {A = Option A} (Some x) (Some y) → x ≡ y
 one_value x y e = cc
+
+-- what follows of a value that may be there
+pub if_some : {A : Type 0} (o : Option A) (P Q : A → Type 0) → ((x : A) → P x → Q x) → IfSome o P → IfSome o Q
+if_some None P Q f h = tt
+if_some (Some x) P Q f h = f x h
 
 -- an element keeps its place where more are added
 slice_get_left : {X : Type 0} (xs ys : List X) (k : ℕ) (x : X) → slice_get xs k ≡ Some x → slice_get (xs ++ ys) k ≡ Some x
@@ -128,6 +133,12 @@ each_more P xs more y n is all one =
 
     here : P n (slice_index more n)
     here = subst (P n) (sym (ap (λ ns. get_or ns n 0) is ∙ get_or_push xs y 0 n all.0)) one
+
+-- one number more of a list is what its place asks for
+pub each_turned : (P : ℕ → ℕ → Type 0) (xs : List ℕ) (n y : ℕ) → n < length xs → ((k : ℕ) → k < n → P k (slice_index xs k)) → P n y → (k : ℕ) → k < n + 1 → P k (slice_index (set xs n y) k)
+each_turned P xs n y inside all one =
+    below_more (λ k. P k (slice_index (set xs n y) k)) n (λ k l. subst (P k) (sym (get_or-set_other xs n k y 0 (λ e. omega (arith, e, l)))) (all k l))
+    (subst (P n) (sym (get_or-set_same xs n y 0 inside)) one)
 
 -- at first each agent has the empty set
 pub sets_begun : (sets : List KnownSet) (numbers : List ℕ) (agents : ℕ) → (length numbers ≡ agents) × ((k : ℕ) → k < agents → HasSet sets (slice_index numbers k) k []) →

@@ -1,10 +1,9 @@
 -- What is remembered of own paths: the sets of constraints that agents have met, by number, and paths, by number.
 use Rattle.std.specs.Prelude.{◌≡◌, ◌⊎◌, ◌↔◌, ℕ, ◌<◌, ◌≤◌, List, [], length, replicate, slice_get, slice_index, slice_index_or, Option, Some, None, option_map, IfSome, Contains}
 use Rattle.mapf_grid.specs.Instance.{most_agents}
-use Rattle.mapf_plan.specs.Plan.{path_of, IsConflict}
+use Rattle.mapf_plan.specs.Plan.{path_of}
 use Rattle.mapf_plan.specs.declared.meetings.Meeting.{Meeting}
-use Rattle.mapf_plan.specs.Meetings.{HaveMeetings}
-use Rattle.mapf_plan.specs.KnownPaths.{AreNumbers, plan_of}
+use Rattle.mapf_plan.specs.KnownPaths.{AreNumbers, IsKnownPlan, plan_of}
 use Rattle.mapf_low.specs.declared.constraint.Constraint.{Constraint}
 use Rattle.mapf_tree.specs.declared.side.Side.{Side}
 use Rattle.mapf_tree.specs.declared.known_sets.Extension.{Extension}
@@ -69,11 +68,11 @@ pub record ArePathsOf (paths : List (List ℕ)) (numbers : List ℕ) (plan : Lis
   pub inside : AreNumbers paths numbers
   pub same : plan_of paths numbers ≡ plan
 
--- what is known at a node: each agent's set and path by number, and meetings of its plan's conflicts, if they are known
-pub record IsKnownAt (book : Book) (node : Node) (sets paths : List ℕ) (meetings : Option (List Meeting)) : Type 0 where
+-- what is known at a node: each agent's set by number, and its plan by numbers, with meetings of its conflicts
+pub record IsKnownAt (book : Book) (node : Node) (sets numbers : List ℕ) (meetings : List Meeting) : Type 0 where
   pub forbids : AreSetsOf book.sets sets node.constraints
-  pub plans : ArePathsOf book.paths paths node.plan
-  pub meet : IfSome meetings (HaveMeetings (IsConflict book.problem.rule node.plan))
+  pub plans : ArePathsOf book.paths numbers node.plan
+  pub meet : IsKnownPlan (record { rule = book.problem.rule; paths = book.paths }) numbers meetings
 
 -- the path of the second number is the own path under the set of the first one
 abbrev pub HasOwnPath : Book → ℕ → ℕ → Type 0

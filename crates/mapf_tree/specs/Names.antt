@@ -1,5 +1,5 @@
 -- A node's name as it is kept: its first turns as the highest bits of a number, and the turns behind them as a list.
-use Rattle.std.specs.Prelude.{◌≡◌, ℕ, zero, suc, ◌+◌, ◌-◌, ◌*◌, ◌^◌, ◌<◌, ◌≤◌, nat_lt, if◌then◌else◌, List, [], ◌∷◌}
+use Rattle.std.specs.Prelude.{◌≡◌, ℕ, zero, suc, ◌+◌, ◌-◌, ◌*◌, ◌^◌, ◌<◌, ◌≤◌, nat_lt, if◌then◌else◌, List, [], ◌∷◌, Option, Some, None}
 use Rattle.mapf_tree.specs.declared.side.Side.{Side}
 use Rattle.mapf_tree.specs.declared.side.Side.TheVariants.{Left, Right}
 
@@ -26,3 +26,8 @@ pub record IsKept (first few : ℕ) (rest : List Side) : Type 0 where
   pub within : few ≤ 64
   pub filled : few < 64 → rest ≡ []
   pub number : number_of (turns_of few 64 first) 64 ≡ first
+
+-- the turns that lie apart; none where nothing does
+abbrev pub turns_in : Option (List Side) → List Side
+turns_in None = []
+turns_in (Some turns) = turns

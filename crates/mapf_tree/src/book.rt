@@ -1,7 +1,10 @@
 //! Own paths by the sets of constraints under which they were searched.
 
-ghost use Rattle.std.specs.Prelude.{◌≡◌, ◌<◌, ◌≤◌, List, [], ◌∷◌, length, map, slice_get, slice_set, option_map, Some, None, IfSome, IfOk, IsTrue};
+ghost use Rattle.std.specs.Prelude.{◌≡◌, ◌<◌, ◌≤◌, List, [], ◌∷◌, length, map, slice_get, slice_set, option_map, Some, None, IfSome, IfOk, OnOk, IsTrue};
 ghost use Rattle.std.specs.Arc.{arc_value};
+ghost use Rattle.mapf_plan.specs.Path.{cost};
+ghost use Rattle.mapf_plan.specs.Plan.{path_of};
+ghost use Rattle.mapf_plan.specs.KnownPaths.{IsKnownPlan};
 ghost use Rattle.mapf_low.specs.declared.constraint.Constraint.{Constraint};
 ghost use Rattle.mapf_tree.specs.Nodes.{IsConflictOf, changed_sets};
 ghost use Rattle.mapf_tree.specs.Family.{IsBranching, IsChildOf};
@@ -11,13 +14,15 @@ mod learning;
 
 use crate::change::Change;
 use crate::known_sets::{KnownOwn, KnownSets};
+use crate::side_extensions::SideExtensions;
 use crate::side_query::left_for;
 use crate::sides::{agent_of, constraint_of};
 use crate::{Node, Problem, Side, SideQuery};
 use mapf_grid::NoMemory;
-use mapf_plan::{Conflict, KnownPaths, MOST_BOUND, Meeting, Path};
+use mapf_plan::{Conflict, KnownPaths, KnownPlan, MOST_BOUND};
 use std::alloc::Global;
 use std::marker::Model;
+use std::mem::replace;
 use std::sync::Arc;
 
 /// Of more agents nothing is kept by node, as there are too many pairs of them.
@@ -28,10 +33,8 @@ const MOST_PAIRED: usize = 64;
 pub(crate) struct AtNode {
     /// Each agent's set of constraints.
     sets: Vec<usize>,
-    /// Each agent's path.
-    paths: Vec<usize>,
-    /// Meetings of all conflicts of the node's plan, where they are known.
-    meetings: Option<Vec<Meeting>>,
+    /// The node's plan.
+    plan: KnownPlan,
 }
 
 /// What is known of the own path that a side of a node asks for.
@@ -52,17 +55,21 @@ pub(crate) struct Book<'p> {
     paths: KnownPaths,
     /// The number of each agent's empty set, once the root was met.
     firsts: Vec<usize>,
+    /// What was known at the node that was looked at last: the next one has the same paths but for a few.
+    latest: Option<AtNode>,
 }
 
 impl<'p> Model for Book<'p> {
-    ghost use Rattle.std.specs.Prelude.{◌≡◌};
+    ghost use Rattle.std.specs.Prelude.{◌≡◌, IfSome};
+    ghost use Rattle.mapf_plan.specs.KnownPaths.{IsKnownPlan};
     ghost use Rattle.mapf_tree.specs.Book.{Book, AreKnown, AreFirst};
 
     ghost Value = { Book };
 
     ghost view = { λ b. record { problem = b.problem.now; sets = b.sets; paths = b.paths.paths } };
 
-    ghost invariant = { λ b. AreKnown b.problem.now b.paths.paths b.sets × AreFirst b.problem.now b.sets b.firsts.items × (b.paths.rule ≡ b.problem.now.rule) };
+    ghost invariant = { λ b. AreKnown b.problem.now b.paths.paths b.sets × AreFirst b.problem.now b.sets b.firsts.items × (b.paths.rule ≡ b.problem.now.rule)
+        × IfSome b.latest (λ at. IsKnownPlan b.paths at.plan.numbers.items at.plan.meetings.items) };
 }
 
 impl<'p> Book<'p> {
@@ -76,42 +83,107 @@ impl<'p> Book<'p> {
             sets: KnownSets::new(alloc),
             paths: KnownPaths::new(alloc, problem.rule()),
             firsts: Vec::new(alloc),
+            latest: None,
         }
     }
 
-    /// What is known at a node. None where a set or a path isn't known, and of more than 64 agents.
+    /// What is known at a node, from what was known at the one that was looked at last. None where a set or a path isn't known,
+    /// and of more than 64 agents.
     pub(crate) fn at_node(&mut self, node: &Node) -> Result<Option<AtNode>, NoMemory>
         requires { IsBranching self.old.problem node.now }
         ensures problem { self.new.problem ≡ self.old.problem }
-        ensures known { IfOk result (λ found. IfSome found (λ at. IsKnownAt self.new node.now at.sets.items at.paths.items (option_map (λ ms. ms.items) at.meetings))) }
+        ensures known { IfOk result (λ found. IfSome found (λ at. IsKnownAt self.new node.now at.sets.items at.plan.numbers.items at.plan.meetings.items)) }
     {
         if node.agents() > MOST_PAIRED {
             return Ok(None);
         }
         self.begin(node)?;
-        let Some(sets) = self.sets_at(node)? else {
-            return Ok(None);
-        };
-        let Some(paths) = self.paths_at(node, &sets)? else {
-            return Ok(None);
-        };
-        let meetings = self.paths.meetings(&paths).ok();
-        Ok(Some(AtNode {
-            sets,
-            paths,
-            meetings,
-        }))
+        if let Some(latest) = replace(&mut self.latest, None) {
+            if latest.plan.numbers.len() == node.agents() {
+                return self.turned(node, latest);
+            }
+        }
+        self.looked_up(node)
     }
 
-    /// The number of each agent's set at a node. None where one isn't known.
-    fn sets_at(&self, node: &Node) -> Result<Option<Vec<usize>>, NoMemory>
+    /// Keeps what is known at the node that was looked at.
+    pub(crate) fn keep(&mut self, at: Option<AtNode>)
+        requires { IfSome at (λ at. IsKnownPlan (record { rule = self.old.problem.rule; paths = self.old.paths }) at.plan.numbers.items at.plan.meetings.items) }
+        ensures { self.new ≡ self.old }
+    {
+        self.latest = at;
+    }
+
+    /// What is known at a node, from what was known at another one with as many agents.
+    fn turned(&mut self, node: &Node, other: AtNode) -> Result<Option<AtNode>, NoMemory>
+        requires node { IsBranching self.old.problem node.now }
+        requires other { IsKnownPlan (record { rule = self.old.problem.rule; paths = self.old.paths }) other.plan.numbers.items other.plan.meetings.items }
+        requires agents { length other.plan.numbers.items ≡ length node.now.plan }
+        ensures same { self.new ≡ self.old }
+        ensures known { IfOk result (λ found. IfSome found (λ at. IsKnownAt self.old node.now at.sets.items at.plan.numbers.items at.plan.meetings.items)) }
+    {
+        let AtNode { sets, mut plan } = other;
+        let Some(sets) = self.sets_at(node, sets)? else {
+            return Ok(None);
+        };
+        if !self.turn_plan(node, &sets, &mut plan)? {
+            return Ok(None);
+        }
+        Ok(Some(AtNode { sets, plan }))
+    }
+
+    /// Gives each agent of a plan the path that it has at a node, whose agents' sets have these numbers; false where one isn't
+    /// known.
+    fn turn_plan(
+        &mut self,
+        node: &Node,
+        sets: &[usize],
+        plan: &mut KnownPlan,
+    ) -> Result<bool, NoMemory>
+        requires node { IsBranching self.old.problem node.now }
+        requires sets { AreSetsOf self.old.sets sets.now node.now.constraints }
+        requires plan { IsKnownPlan (record { rule = self.old.problem.rule; paths = self.old.paths }) plan.old.numbers.items plan.old.meetings.items }
+        requires agents { length plan.old.numbers.items ≡ length node.now.plan }
+        ensures same { self.new ≡ self.old }
+        ensures plan { IfOk result (λ known. IsTrue known → IsKnownPlan (record { rule = self.old.problem.rule; paths = self.old.paths }) plan.new.numbers.items plan.new.meetings.items) }
+        ensures paths { IfOk result (λ known. IsTrue known → ArePathsOf self.old.paths plan.new.numbers.items node.now.plan) }
+    {
+        for agent in 0..node.agents() {
+            let Some(number) = self.path_of(sets[agent]) else {
+                return Ok(false);
+            };
+            turn_agent(&mut self.paths, plan, agent, number)?;
+        }
+        Ok(true)
+    }
+
+    /// What is known at a node, where all its pairs of agents are looked up.
+    fn looked_up(&mut self, node: &Node) -> Result<Option<AtNode>, NoMemory>
+        requires { IsBranching self.old.problem node.now }
+        ensures same { self.new ≡ self.old }
+        ensures known { IfOk result (λ found. IfSome found (λ at. IsKnownAt self.old node.now at.sets.items at.plan.numbers.items at.plan.meetings.items)) }
+    {
+        let Some(sets) = self.sets_at(node, Vec::new(self.alloc))? else {
+            return Ok(None);
+        };
+        let Some(numbers) = self.paths_at(node, &sets)? else {
+            return Ok(None);
+        };
+        let plan = self.paths.plan(&numbers)?;
+        Ok(Some(AtNode { sets, plan }))
+    }
+
+    /// The number of each agent's set at a node, in the place of what a list had. None where one isn't known.
+    fn sets_at(&self, node: &Node, spare: Vec<usize>) -> Result<Option<Vec<usize>>, NoMemory>
         requires { IsBranching self.now.problem node.now }
         ensures { IfOk result (λ found. IfSome found (λ sets. AreSetsOf self.now.sets sets.items node.now.constraints)) }
     {
         if self.firsts.is_empty() {
             return Ok(None);
         }
-        let mut sets = Vec::from_slice(self.alloc, self.firsts.as_slice())?;
+        let mut sets = spare;
+        sets.clear();
+        sets.extend_from_slice(&self.firsts)?;
         let (older, own) = node.changes();
         if !turn_all(&self.sets, &mut sets, older) {
             return Ok(None);
@@ -140,7 +212,8 @@ impl<'p> Book<'p> {
 
     /// The number of the own path under a set, where there is a path.
     fn path_of(&self, set: usize) -> Option<usize>
-        ensures { IfSome result (HasOwnPath self.now set) }
+        ensures own { IfSome result (HasOwnPath self.now set) }
+        ensures inside { IfSome result (λ n. n < length self.now.paths) }
     {
         match self.sets.get(set)?.own {
             KnownOwn::Path(number) => Some(number),
@@ -157,7 +230,7 @@ impl<'p> Book<'p> {
         side: Side,
     ) -> Result<Option<Option<Node>>, NoMemory>
         requires node { IsBranching self.old.problem node.now }
-        requires at { IfSome at.now (λ at. IsKnownAt self.old node.now at.sets.items at.paths.items (option_map (λ ms. ms.items) at.meetings)) }
+        requires at { IfSome at.now (λ at. IsKnownAt self.old node.now at.sets.items at.plan.numbers.items at.plan.meetings.items) }
         ensures same { self.new ≡ self.old }
         ensures child { IfOk result (λ found. IfSome found (IsChildOf self.old.problem node.now side)) }
     {
@@ -179,9 +252,45 @@ impl<'p> Book<'p> {
             extension: found.extension,
         };
         let conflict = self.conflict_with(node, at, &change, number)?;
+        let old = self.cost_at(node, at, change.agent);
+        let extensions = self.known_after(at, &change, &conflict);
         let bound = self.problem.bound();
         prove!(u64::from(bound) <= MOST_BOUND);
-        Ok(Some(Some(node.turned(self.alloc, side, change, conflict)?)))
+        let child = node.turned(self.alloc, side, change, old, conflict)?;
+        Ok(Some(Some(child.knowing(extensions))))
+    }
+
+    /// The numbers of the extensions for both sides of a conflict after a change at a node, if the own paths there are known;
+    /// nothing rests on them.
+    fn known_after(
+        &self,
+        at: &Option<AtNode>,
+        change: &Change,
+        conflict: &Option<Conflict>,
+    ) -> Option<SideExtensions> {
+        let at = at.as_ref()?;
+        let conflict = conflict.as_ref()?;
+        Some(SideExtensions {
+            left: self.known_on(at, change, conflict, Side::Left)?,
+            right: self.known_on(at, change, conflict, Side::Right)?,
+        })
+    }
+
+    /// That for one side.
+    fn known_on(
+        &self,
+        at: &AtNode,
+        change: &Change,
+        conflict: &Conflict,
+        side: Side,
+    ) -> Option<usize> {
+        let agent = agent_of(conflict, side);
+        let set = if agent == change.agent {
+            self.sets.after(change.extension)?
+        } else {
+            *at.sets.get(agent)?
+        };
+        self.sets.known(set, &constraint_of(conflict, side))
     }
 
     /// The first conflict of a node's plan where a change's agent has that change's path, which is the one of this number.
@@ -193,20 +302,32 @@ impl<'p> Book<'p> {
         number: usize,
     ) -> Result<Option<Conflict>, NoMemory>
         requires node { IsBranching self.old.problem node.now }
-        requires at { IfSome at.now (λ at. IsKnownAt self.old node.now at.sets.items at.paths.items (option_map (λ ms. ms.items) at.meetings)) }
+        requires at { IfSome at.now (λ at. IsKnownAt self.old node.now at.sets.items at.plan.numbers.items at.plan.meetings.items) }
         requires agent { change.now.agent < length node.now.plan }
         requires path { slice_get self.old.paths number ≡ Some change.now.path }
         ensures same { self.new ≡ self.old }
         ensures conflict { IfOk result (IsConflictOf node.now.rule (slice_set node.now.plan change.now.agent change.now.path)) }
     {
         if let Some(at) = at {
-            if let Some(meetings) = &at.meetings {
-                return self
-                    .paths
-                    .first_conflict_of_changed(&at.paths, meetings, change.agent, number);
-            }
+            return self
+                .paths
+                .first_conflict_of_changed(&at.plan, change.agent, number);
         }
         node.conflict_with(self.alloc, change.agent, &change.path)
+    }
+
+    /// What an agent's path costs at a node.
+    fn cost_at(&self, node: &Node, at: &Option<AtNode>, agent: usize) -> u32
+        requires at { IfSome at.now (λ at. ArePathsOf self.now.paths at.plan.numbers.items node.now.plan) }
+        requires agent { agent < length node.now.plan }
+        ensures { result ≡ cost (path_of node.now.plan agent) }
+    {
+        if let Some(at) = at {
+            if let Some(path) = self.paths.path(at.plan.numbers[agent]) {
+                return path.cost();
+            }
+        }
+        node.path(agent).cost()
     }
 
     /// What is known of the own path that a side of a node asks for. None where nothing is known.
@@ -217,22 +338,29 @@ impl<'p> Book<'p> {
         side: Side,
     ) -> Result<Option<Found>, NoMemory>
         requires node { IsBranching self.old.problem node.now }
-        requires at { IfSome at.now (λ at. IsKnownAt self.old node.now at.sets.items at.paths.items (option_map (λ ms. ms.items) at.meetings)) }
+        requires at { IfSome at.now (λ at. IsKnownAt self.old node.now at.sets.items at.plan.numbers.items at.plan.meetings.items) }
         ensures same { self.new ≡ self.old }
         ensures found { IfOk result (λ found. IfSome found (λ f. IsFoundAt self.old node.now side f.path)) }
     {
-        if let Some(at) = at {
-            if let Some(found) = self.found_by_number(node, &at.sets, side) {
-                return Ok(Some(found));
-            }
-            return self.found_by_query(node, Some(&at.sets), side);
+        let Some(known) = at else {
+            return self.found_by_query(node, None, side);
+        };
+        if let Some(found) = self.found_by_number(node, at, &known.sets, side) {
+            return Ok(Some(found));
         }
-        self.found_by_query(node, None, side)
+        self.found_by_query(node, Some(&known.sets), side)
     }
 
     /// The same by the number of the agent's set at the node.
-    fn found_by_number(&self, node: &Node, sets: &[usize], side: Side) -> Option<Found>
+    fn found_by_number(
+        &self,
+        node: &Node,
+        at: &Option<AtNode>,
+        sets: &[usize],
+        side: Side,
+    ) -> Option<Found>
         requires node { IsBranching self.now.problem node.now }
+        requires at { IfSome at.now (λ at. ArePathsOf self.now.paths at.plan.numbers.items node.now.plan) }
         requires sets { AreSetsOf self.now.sets sets.now node.now.constraints }
         ensures { IfSome result (λ f. IsFoundAt self.now node.now side f.path) }
     {
@@ -240,9 +368,12 @@ impl<'p> Book<'p> {
         let agent = agent_of(&conflict, side);
         let constraint = constraint_of(&conflict, side);
         let set = sets[agent];
-        let extension = self.sets.guess(set, &constraint);
+        let extension = match node.extension_on(side) {
+            Some(extension) => extension,
+            None => self.sets.guess(set, &constraint)?,
+        };
         let extended = self.sets.extended_by(extension, set, &constraint)?;
-        let limit = left_for(self.problem, node, agent, node.path(agent).cost());
+        let limit = left_for(self.problem, node, agent, self.cost_at(node, at, agent));
         let path = self.own_within(extended, limit)?;
         Some(Found { extension, path })
     }
@@ -292,6 +423,27 @@ impl<'p> Book<'p> {
             KnownOwn::NoneWithin(_) => None,
         }
     }
+}
+
+/// Gives one agent of a plan the path of this number, where it has another one.
+#[inline(always)]
+fn turn_agent(
+    paths: &mut KnownPaths,
+    plan: &mut KnownPlan,
+    agent: usize,
+    number: usize,
+) -> Result<(), NoMemory>
+    requires plan { IsKnownPlan paths.old plan.old.numbers.items plan.old.meetings.items }
+    requires agent { agent < length plan.old.numbers.items }
+    requires number { number < length paths.old.paths }
+    ensures known { paths.new ≡ paths.old }
+    ensures plan { OnOk result (IsKnownPlan paths.old plan.new.numbers.items plan.new.meetings.items) }
+    ensures numbers { OnOk result (plan.new.numbers.items ≡ slice_set plan.old.numbers.items agent number) }
+{
+    if plan.numbers[agent] != number {
+        paths.turn(plan, agent, number)?;
+    }
+    Ok(())
 }
 
 /// Each agent's set after some changes more; false where one isn't known.

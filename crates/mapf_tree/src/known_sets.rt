@@ -118,15 +118,25 @@ impl KnownSets {
         number
     }
 
-    /// The number that the extension of a set by this constraint may have; nothing rests on it.
-    pub(crate) fn guess(&self, before: usize, constraint: &Constraint) -> usize {
-        match self
-            .extension_places
-            .get(&extension_key(before, constraint))
-        {
-            Some(number) => *number,
-            None => 0,
+    /// The number that the extension of a set by this constraint may have, if there is one; nothing rests on it.
+    pub(crate) fn guess(&self, before: usize, constraint: &Constraint) -> Option<usize> {
+        let key = extension_key(before, constraint);
+        Some(*self.extension_places.get(&key)?)
+    }
+
+    /// The number of the extension of a set by this constraint, if its own path is known, too; nothing rests on it.
+    pub(crate) fn known(&self, before: usize, constraint: &Constraint) -> Option<usize> {
+        let number = self.guess(before, constraint)?;
+        let after = self.extended_by(number, before, constraint)?;
+        match self.get(after)?.own {
+            KnownOwn::Path(_) => Some(number),
+            KnownOwn::NoneWithin(_) => None,
         }
+    }
+
+    /// The set that the extension of this number leads to.
+    pub(crate) fn after(&self, number: usize) -> Option<usize> {
+        Some(self.extensions.get(number)?.after)
     }
 
     /// The set with this constraint more, if the extension of this number tells it.
@@ -156,7 +166,7 @@ impl KnownSets {
     {
         match self.extended_by(guess, before, constraint) {
             Some(after) => Some(after),
-            None => self.extended_by(self.guess(before, constraint), before, constraint),
+            None => self.extended_by(self.guess(before, constraint)?, before, constraint),
         }
     }
 }

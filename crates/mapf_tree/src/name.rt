@@ -9,6 +9,7 @@ ghost use Rattle.std.specs.Cmp.Rules.{comparing};
 ghost use Rattle.mapf_tree.specs.Names.{turn, number_of, turns_of};
 
 use crate::Side;
+use crate::later_turns::LaterTurns;
 use mapf_grid::NoMemory;
 use std::alloc::Global;
 use std::cmp::Ordering;
@@ -28,7 +29,7 @@ pub struct Name {
     /// How many turns these are.
     few: usize,
     /// The turns behind the first 64.
-    rest: Vec<Side>,
+    rest: LaterTurns,
 }
 
 impl Model for Name {
@@ -38,20 +39,20 @@ impl Model for Name {
 
     ghost Value = { List Side };
 
-    ghost view = { λ n. turns_of n.few 64 n.first ++ n.rest.items };
+    ghost view = { λ n. turns_of n.few 64 n.first ++ n.rest };
 
-    ghost invariant = { λ n. IsKept n.first n.few n.rest.items };
+    ghost invariant = { λ n. IsKept n.first n.few n.rest };
 }
 
 impl Name {
     /// The name of the root: no turn.
-    pub fn root(alloc: Global) -> Name
+    pub fn root() -> Name
         ensures { result ≡ [] }
     {
         Name {
             first: 0,
             few: 0,
-            rest: Vec::new(alloc),
+            rest: LaterTurns::none(),
         }
     }
 
@@ -71,15 +72,13 @@ impl Name {
             return Ok(Name {
                 first: number_with(self.first, self.few, side),
                 few: self.few + 1,
-                rest: Vec::new(alloc),
+                rest: LaterTurns::none(),
             });
         }
-        let mut rest = self.rest.as_slice().to_vec(alloc)?;
-        rest.push(side)?;
         Ok(Name {
             first: self.first,
             few: self.few,
-            rest,
+            rest: self.rest.with(alloc, side)?,
         })
     }
 
@@ -90,7 +89,7 @@ impl Name {
         Ok(Name {
             first: self.first,
             few: self.few,
-            rest: self.rest.as_slice().to_vec(alloc)?,
+            rest: self.rest.copy(alloc)?,
         })
     }
 
@@ -99,7 +98,7 @@ impl Name {
         ensures { IfOk result (λ turns. turns.items ≡ self.now) }
     {
         let mut turns = first_turns(alloc, self.first, self.few)?;
-        turns.extend_from_slice(&self.rest)?;
+        turns.extend_from_slice(self.rest.as_slice())?;
         Ok(turns)
     }
 }
@@ -181,7 +180,7 @@ impl Ord for Name {
     fn cmp(&self, other: &Name) -> Ordering {
         match self.first.cmp(&other.first) {
             Ordering::Equal => match self.few.cmp(&other.few) {
-                Ordering::Equal => self.rest.cmp(&other.rest),
+                Ordering::Equal => self.rest.as_slice().cmp(other.rest.as_slice()),
                 decided => decided,
             },
             decided => decided,

@@ -8,6 +8,7 @@ ghost use Rattle.mapf_tree.specs.Nodes.{Changed, changed_sets};
 use crate::chain::Chain;
 use crate::change::Change;
 use crate::current_paths::CurrentPaths;
+use crate::side_extensions::SideExtensions;
 use crate::{Key, Name, Side};
 use mapf_grid::NoMemory;
 use mapf_low::{Constraint, Constraints};
@@ -33,6 +34,8 @@ struct Body {
     root: Arc<Plan>,
     changes: Chain,
     conflict: Option<Conflict>,
+    /// Where the paths of both its children were known when it was made; nothing rests on it.
+    extensions: Option<SideExtensions>,
 }
 
 // By hand, so that a proof about what holds a node sees a call where it is dropped, and not what a node consists of.
@@ -69,13 +72,14 @@ impl Node {
         let key = Key {
             cost: plan.cost(),
             depth: 0,
-            name: Name::root(alloc),
+            name: Name::root(),
         };
         let body = Body {
             rule,
             root: Arc::new(alloc, plan)?,
             changes: Chain::new(alloc)?,
             conflict,
+            extensions: None,
         };
         Node::of(alloc, key, body)
     }
@@ -106,15 +110,17 @@ impl Node {
         Ok(self.first_conflict_with(paths, agent, path))
     }
 
-    /// The node one turn further, whose plan has this first conflict.
+    /// The node one turn further, whose plan has this first conflict. The changed agent's path costs so much at this node.
     pub(crate) fn turned(
         &self,
         alloc: Global,
         side: Side,
         change: Change,
+        old: u32,
         conflict: Option<Conflict>,
     ) -> Result<Node, NoMemory>
         requires agent { change.agent < length self.now.plan }
+        requires old { old ≡ cost (path_of self.now.plan change.agent) }
         requires small { plan_cost (slice_set self.now.plan change.agent change.path) ≤ most_bound }
         requires conflict { IsConflictOf self.now.rule (slice_set self.now.plan change.agent change.path) conflict }
         ensures name { IfOk result (λ n. n.name ≡ self.now.name ++ side ∷ []) }
@@ -124,15 +130,34 @@ impl Node {
         ensures rule { IfOk result (λ n. n.rule ≡ self.now.rule) }
         ensures conflict { IfOk result (λ n. IsConflictOf self.now.rule (slice_set self.now.plan change.agent change.path) n.conflict) }
     {
-        let old = self.path(change.agent).cost();
         let key = self.key_with(alloc, side, change.agent, old, &change.path)?;
         let body = Body {
             rule: self.body.rule,
             root: Arc::try_clone(&self.body.root)?,
             changes: self.body.changes.with(alloc, change)?,
             conflict,
+            extensions: None,
         };
         Node::of(alloc, key, body)
+    }
+
+    /// The same node, of whose two sides this is known; nothing rests on it.
+    pub(crate) fn knowing(self, extensions: Option<SideExtensions>) -> Node
+        ensures { result ≡ self }
+    {
+        let Node { key, mut body } = self;
+        body.extensions = extensions;
+        Node { key, body }
+    }
+
+    /// Whether the paths of both its children were known when it was made. No answer depends on it.
+    pub fn has_known_sides(&self) -> bool {
+        self.body.extensions.is_some()
+    }
+
+    /// The number that the extension for a side of its conflict may have among those that are known; nothing rests on it.
+    pub(crate) fn extension_on(&self, side: Side) -> Option<usize> {
+        Some(self.body.extensions?.of(side))
     }
 
     /// The key one turn further, where an agent has another path; the old one's cost is given.
@@ -297,6 +322,7 @@ impl Node {
             root: Arc::try_clone(&self.body.root)?,
             changes: self.body.changes.copy(alloc)?,
             conflict: self.body.conflict,
+            extensions: self.body.extensions,
         };
         Node::of(alloc, key, body)
     }

@@ -115,6 +115,7 @@ impl<'p> OwnPaths<'p> {
         let at = self.book.at_node(node)?;
         let left = self.book.child(node, &at, Side::Left)?;
         let right = self.book.child(node, &at, Side::Right)?;
+        self.book.keep(at);
         Ok((left, right))
     }
 

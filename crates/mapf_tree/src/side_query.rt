@@ -222,6 +222,7 @@ impl<'p> SideQuery<'p> {
             return Ok(None);
         };
         let conflict = node.conflict_with(alloc, self.agent, &path)?;
+        let old = node.path(self.agent).cost();
         let SideQuery {
             side,
             agent,
@@ -234,7 +235,7 @@ impl<'p> SideQuery<'p> {
             path,
             extension,
         };
-        Ok(Some(node.turned(alloc, side, change, conflict)?))
+        Ok(Some(node.turned(alloc, side, change, old, conflict)?))
     }
 }
 

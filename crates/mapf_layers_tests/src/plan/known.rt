@@ -1,9 +1,9 @@
 ghost use Rattle.std.specs.Prelude.{◌≡◌, ◌<◌, ◌≤◌, ℕ, List, length, slice_get, Some, IfOk};
 ghost use Rattle.mapf_grid.specs.Instance.{most_agents};
-ghost use Rattle.mapf_plan.specs.KnownPaths.{AreNumbers};
+ghost use Rattle.mapf_plan.specs.KnownPaths.{AreNumbers, IsKnownPlan};
 
 use mapf_grid::{Cell, NoMemory};
-use mapf_plan::{AgentPaths, Conflict, KnownPaths, Path, Plan, Rule};
+use mapf_plan::{AgentPaths, Conflict, KnownPaths, KnownPlan, Path, Plan, Rule};
 use std::alloc::Global;
 use std::process::Abort;
 use std::sync::Arc;
@@ -55,7 +55,7 @@ pub(crate) fn expect_known(
     Ok(())
 }
 
-/// The first conflict of a plan where one agent has another path, twice.
+/// The first conflict of a plan where one agent has another path.
 fn expect_changed(
     rt: &impl Abort,
     alloc: Global,
@@ -68,11 +68,32 @@ fn expect_changed(
     let mut known = KnownPaths::new(alloc, rule);
     let number = known.number(Arc::new(alloc, path.copy(alloc)?)?)?;
     let numbers = numbers_of(alloc, &mut known, plan)?;
-    let meetings = known.meetings(&numbers)?;
     assert!(rt; agent < numbers.len());
-    let found = known.first_conflict_of_changed(&numbers, &meetings, agent, number)?;
+    let before = known.plan(&numbers)?;
+    expect_turned(rt, &mut known, before, agent, number, wanted)
+}
+
+/// The first conflict of a known plan where one agent has the path of this number: looked for, looked up, and where the agent
+/// has that path already.
+fn expect_turned(
+    rt: &impl Abort,
+    known: &mut KnownPaths,
+    before: KnownPlan,
+    agent: usize,
+    number: usize,
+    wanted: &Option<Conflict>,
+) -> Result<(), Fail>
+    requires plan { IsKnownPlan known.old before.numbers.items before.meetings.items }
+    requires agent { agent < length before.numbers.items }
+    requires number { number < length known.old.paths }
+{
+    let found = known.first_conflict_of_changed(&before, agent, number)?;
     assert_eq!(rt; found, *wanted);
-    let found = known.first_conflict_of_changed(&numbers, &meetings, agent, number)?;
+    let found = known.first_conflict_of_changed(&before, agent, number)?;
+    assert_eq!(rt; found, *wanted);
+    let mut plan = before;
+    known.turn(&mut plan, agent, number)?;
+    let found = known.first_conflict_of_changed(&plan, agent, number)?;
     assert_eq!(rt; found, *wanted);
     Ok(())
 }

@@ -137,6 +137,11 @@ impl<'p> Ahead<'p> {
         self.problem
     }
 
+    /// Whether nothing is known of any node's children.
+    pub(crate) fn is_empty(&self) -> bool {
+        self.entries.is_empty()
+    }
+
     /// The place of a node's entry, which is made where there is none, below this place: each of the nodes that come
     /// before this one has a place from there on. None where memory runs out.
     pub(crate) fn place_for(&mut self, node: &Node, below: Option<usize>) -> Option<usize>

@@ -1,6 +1,6 @@
 //! The coordinator of a session, who posts jobs on a live board and takes back what becomes of them.
 
-ghost use Rattle.std.specs.Prelude.{◌≡◌, ◌≤◌, All, IfOk, IfSome, Ok, None};
+ghost use Rattle.std.specs.Prelude.{◌≡◌, ◌≤◌, All, IfOk, IfSome, IsSome, IsTrue, Ok, None};
 ghost use Rattle.mapf_board.specs.Owners.{currents};
 ghost use Rattle.mapf_board.specs.declared.limits.TheConstants.{MOST_WORKERS};
 ghost use Rattle.mapf_tree.specs.Nodes.{AllStand};
@@ -60,7 +60,7 @@ impl<'p> Coordinator<'p> {
     }
 
     /// Collects what is done, and posts jobs for the children of the first waiting nodes, where nothing is known of a child,
-    /// as long as there is a free slot.
+    /// as long as there is a free slot. A node whose children's paths were known when it was made has no jobs.
     pub(crate) fn work_ahead(&mut self, desk: &mut Desk<'_, SideWork<'p>>, waiting: &OpenList)
         requires nodes { AllStand self.old.ahead waiting.now }
         requires jobs { AreSidesOf self.old.ahead (currents desk.old.owner) }
@@ -71,7 +71,7 @@ impl<'p> Coordinator<'p> {
         self.collect_all(desk);
         let mut below = None;
         for node in waiting.first(self.nodes) {
-            if node.conflict().is_some() {
+            if may_have_jobs(node) {
                 if let Some(place) = self.ahead.place_for(node, below) {
                     if !self.post_sides(desk, node, place) {
                         return;
@@ -244,6 +244,9 @@ impl<'p> Coordinator<'p> {
         ensures live { desk.new.live ≡ desk.old.live }
         ensures jobs { AreSidesOf self.old.ahead (currents desk.new.owner) }
     {
+        if self.ahead.is_empty() {
+            return;
+        }
         let (left, right) = match waiting.first(1).next() {
             Some(node) => self.ahead.take(node),
             None => (Known::Nothing, Known::Nothing),
@@ -293,4 +296,11 @@ impl<'p> Coordinator<'p> {
             known => known,
         }
     }
+}
+
+/// Whether a node's plan has a conflict, and the path of a child of it was not known when the node was made.
+fn may_have_jobs(node: &Node) -> bool
+    ensures { IsTrue result → IsSome node.now.conflict }
+{
+    node.conflict().is_some() && !node.has_known_sides()
 }

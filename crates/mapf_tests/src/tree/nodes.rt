@@ -163,7 +163,7 @@ const SEVENTY_TURNS: &str =
 
 /// The name that these letters spell.
 fn name_of(alloc: Global, turns: &str) -> Result<Name, NoMemory> {
-    let mut name = Name::root(alloc);
+    let mut name = Name::root();
     for turn in turns.chars() {
         name = name.with(alloc, if turn == 'L' { Side::Left } else { Side::Right })?;
     }

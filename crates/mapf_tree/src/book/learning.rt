@@ -117,7 +117,7 @@ impl<'p> Book<'p> {
         let Ok(set) = self.set_of(node, query, path) else {
             return 0;
         };
-        match self.sets_at(node) {
+        match self.sets_at(node, Vec::new(self.alloc)) {
             Ok(Some(sets)) => self.extend(node, &sets, query, set),
             _ => 0,
         }

@@ -4,10 +4,10 @@ use Rattle.std.proofs.lemmas.Option.{slice_get_within}
 use Rattle.mapf_plan.specs.KnownPaths.{KnownPaths}
 use Rattle.mapf_layers_tests.proofs.plan.known.expect_changed.Goals as goal
 
-pub first_conflict_of_changed-requires-2-clause-number : goal.first_conflict_of_changed-requires-2-clause-number
-first_conflict_of_changed-requires-2-clause-number g c =
+pub expect_turned-requires-clause-number : goal.expect_turned-requires-clause-number
+expect_turned-requires-clause-number g c =
     let path = c.args.path.now in
-    slice_get_within c.first_conflict_of_changed.new.self.paths c.in_ok-number.number path
-    (subst (λ (k : KnownPaths). slice_get k.paths c.in_ok-number.number ≡ Some path) (sym (c.first_conflict_of_changed.ensures.known ∙ c.in_ok-meetings.ensures.known))
+    slice_get_within c.plan.new.self.paths c.in_ok-number.number path
+    (subst (λ (k : KnownPaths). slice_get k.paths c.in_ok-number.number ≡ Some path) (sym c.in_ok-before.ensures.known)
     (c.numbers_of.ensures.keeps c.in_ok-number.number path
     (subst (λ p. slice_get c.number.new.self.paths c.in_ok-number.number ≡ Some p) (c.in_ok-new.ensures.ok ∙ c.in_ok-copy.ensures) c.in_ok-number.ensures.number)))

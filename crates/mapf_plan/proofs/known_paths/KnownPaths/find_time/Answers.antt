@@ -31,7 +31,6 @@ invariant_of-self c =
       λ i j.
           still_holds (λ later earlier. IsRight rule paths earlier later) (map (λ row. row.items) c.self.inside.times_by_later.items) (map (λ row. row.items) c.keep_time-2.new.times.items) other one c.of-time.result (λ k l. c.self.invariant.1 l k) here
           c.keep_time-2.ensures.others j i,
-      c.self.invariant.2,
     )
 
 pub returns-clause-time : goal.returns-clause-time

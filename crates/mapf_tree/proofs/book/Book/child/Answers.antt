@@ -1,6 +1,7 @@
 use Rattle.std.proofs.Common.{◌≡◌, ◌≤◌, Some, subst, subst₂, sym, ap, ◌∙◌, arith}
 use Rattle.std.specs.Prelude.{IfSome, slice_get}
 use Rattle.mapf_plan.specs.Plan.{most_bound}
+use Rattle.mapf_tree.specs.Family.{IsChildOf}
 use Rattle.mapf_tree.specs.Book.{Book, IsFoundAt}
 use Rattle.mapf_tree.proofs.Books.{none_at, small_at, child_at}
 use Rattle.mapf_tree.proofs.book.Book.child.Goals as goal
@@ -31,5 +32,6 @@ returns-clause-child c =
     let at : slice_get book.paths number ≡ Some path =
     subst₂ (λ (b : Book) p. slice_get b.paths number ≡ Some p) (c.self.view_is ∙ c.in_ok-found.ensures.same) (sym c.in_ok-path.ensures) c.in-Some-path-2.ensures in
     let is : node.conflict ≡ Some c.unwrap-conflict.result = cc in
-    let e = c.in_ok-turned.ensures in
-    child_at book node c.in_ok-turned.field-0 side c.unwrap-conflict.result c.agent_of.result number c.constraint_of.result path found at is c.agent_of.ensures c.constraint_of.ensures e.name e.changes e.constraints e.plan e.rule e.conflict
+    let e = c.in_ok-child.ensures in
+    subst (λ n. IsChildOf book.problem node side (Some n)) (sym c.knowing.ensures)
+    (child_at book node c.in_ok-child.child side c.unwrap-conflict.result c.agent_of.result number c.constraint_of.result path found at is c.agent_of.ensures c.constraint_of.ensures e.name e.changes e.constraints e.plan e.rule e.conflict)

@@ -6,7 +6,7 @@ use Rattle.mapf_tree.proofs.book.Book.paths_at.Goals as goal
 
 pub loop-set-preserved : goal.loop-set-preserved
 loop-set-preserved c = each_more (λ k n. HasOwnPath c.args.self.now (slice_index c.args.sets.now k) n) c.loop-set.paths.items c.push.new.self.items c.in-Some.path c.loop-set.set-index c.in_ok-push.ensures.items c.loop-set.invariant
-    c.in-Some.ensures
+    c.in-Some.ensures.own
 
 pub returns : goal.returns
 returns c =

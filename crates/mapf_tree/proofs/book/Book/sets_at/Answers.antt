@@ -1,4 +1,4 @@
-use Rattle.std.proofs.Common.{◌≡◌, ◌<◌, [], map, length, replicate, subst, subst₂, sym, ap, ap₂, ◌∙◌, arith}
+use Rattle.std.proofs.Common.{◌≡◌, ◌<◌, [], ◌++◌, map, length, replicate, subst, subst₂, sym, ap, ap₂, ◌∙◌, arith}
 use Rattle.std.proofs.lemmas.Bool.Decides.{nat_tests}
 use Rattle.std.proofs.lemmas.Grind.{common_steps}
 use Rattle.std.specs.Arc.{arc_value}
@@ -13,8 +13,8 @@ returns c =
     let node = c.args.node.now in let sets = c.self.inside.sets in let agents = length c.self.inside.problem.now.inst.starts in
     let older = map arc_value c.changes.result.0.now in let own = map arc_value c.changes.result.1.now in
     let some : 0 < length c.self.inside.firsts.items = grind (arith, common_steps, nat_tests) in
-    let first : AreSetsOf sets c.in_ok-sets.sets.items (replicate agents []) =
-    subst (λ l. AreSetsOf sets l (replicate agents [])) (sym (c.in_ok-sets.ensures.items ∙ c.as_slice.ensures.value)) (sets_at_first c.self.inside.problem.now sets c.self.inside.firsts.items c.self.invariant.1 some) in
+    let first : AreSetsOf sets c.extend_from_slice.new.self.items (replicate agents []) =
+    subst (λ l. AreSetsOf sets l (replicate agents [])) (sym (c.in_ok-extend_from_slice.ensures.items ∙ ap₂ (λ xs ys. xs ++ ys) c.clear.ensures.items c.deref.ensures.value)) (sets_at_first c.self.inside.problem.now sets c.self.inside.firsts.items c.self.invariant.1 some) in
     let count : length node.plan ≡ agents = agents_at_node c.args.self.now.problem node c.requires ∙ ap (λ (b : Book). length b.problem.inst.starts) (sym c.self.view_is) in
     let all : changed_sets (changed_sets (replicate agents []) older) own ≡ node.constraints =
     sym (changed_sets-append (replicate agents []) older own) ∙ ap₂ (λ n xs. changed_sets (replicate n []) xs) (sym count) c.changes.ensures.changes ∙ sym c.changes.ensures.constraints in

@@ -11,18 +11,15 @@ full first few rest name kept is h = omega (arith, h, length_kept first few rest
 pub invariant_of-result : goal.invariant_of-result
 invariant_of-result c = record {
   within = omega (arith, c.if-self-lt-KEPT.true);
-  filled = λ _. c.new.ensures.items;
+  filled = λ _. c.none.ensures;
   number = number_kept c.self.inside.first c.self.inside.few c.args.side c.if-self-lt-KEPT.true c.self.invariant.number c.number_with.result c.number_with.ensures;
 }
 
 pub returns-then-self-lt-KEPT-clause-name : goal.returns-then-self-lt-KEPT-clause-name
 returns-then-self-lt-KEPT-clause-name c =
-    name_more c.self.inside.first c.self.inside.few c.args.side c.if-self-lt-KEPT.true c.self.invariant.number c.number_with.result c.self.inside.rest.items c.new.result.items c.number_with.ensures
-    (c.self.invariant.filled c.if-self-lt-KEPT.true) c.new.ensures.items
+    name_more c.self.inside.first c.self.inside.few c.args.side c.if-self-lt-KEPT.true c.self.invariant.number c.number_with.result c.self.inside.rest c.none.result c.number_with.ensures
+    (c.self.invariant.filled c.if-self-lt-KEPT.true) c.none.ensures
     ∙ ap (λ l. l ++ c.args.side ∷ []) c.self.view_is
 
-pub returns-in_err-rest-clause-small : goal.returns-in_err-rest-clause-small
-returns-in_err-rest-clause-small c small = absurd (omega (arith, small, full c.self.inside.first c.self.inside.few c.self.inside.rest.items c.args.self.now c.self.invariant c.self.view_is c.if-self-lt-KEPT.false))
-
-pub returns-in_err-push-clause-small : goal.returns-in_err-push-clause-small
-returns-in_err-push-clause-small c small = absurd (omega (arith, small, full c.self.inside.first c.self.inside.few c.self.inside.rest.items c.args.self.now c.self.invariant c.self.view_is c.if-self-lt-KEPT.false))
+pub returns-in_err-with-clause-small : goal.returns-in_err-with-clause-small
+returns-in_err-with-clause-small c small = absurd (omega (arith, small, full c.self.inside.first c.self.inside.few c.self.inside.rest c.args.self.now c.self.invariant c.self.view_is c.if-self-lt-KEPT.false))

@@ -8,7 +8,7 @@ use Rattle.mapf_solve.proofs.sessions.coordinator.Coordinator.work_ahead.Goals a
 pub post_sides-requires-clause-node : goal.post_sides-requires-clause-node
 post_sides-requires-clause-node c =
     subst (λ p. IsBranching p c.in-Some.node.now) (sym (c.place_for.ensures ∙ c.loop-node.invariant.problem))
-    (first_branches c.args.self.now.ahead _ _ _ c.conflict.result c.is_some.result c.loop-node.invariant.waits c.in-Some.ensures.steps c.conflict.ensures.conflict c.is_some.ensures c.if-is_some.true)
+    (first_branches c.args.self.now.ahead _ _ _ c.loop-node.invariant.waits c.in-Some.ensures.steps (c.may_have_jobs.ensures c.if-may_have_jobs.true))
 
 pub loop-node-preserved-in-Some-place_for : goal.loop-node-preserved-in-Some-place_for
 loop-node-preserved-in-Some-place_for c = record {

@@ -4,7 +4,7 @@ use borrow.Author.Count.{below_more}
 use Rattle.mapf_plan.specs.Plan.{path_of}
 use Rattle.mapf_plan.specs.KnownPaths.{KnownPaths, AreMet, IsKnownPlan}
 use Rattle.mapf_plan.proofs.PathTimes.{all_met, met_in_more}
-use Rattle.mapf_plan.proofs.known_paths.KnownPaths.looked_up.Goals as goal
+use Rattle.mapf_plan.proofs.known_paths.KnownPaths.plan.Goals as goal
 
 pub loop-first-preserved : goal.loop-first-preserved
 loop-first-preserved c =
@@ -21,7 +21,7 @@ pub returns-clause-plan : goal.returns-clause-plan
 returns-clause-plan c =
     subst (λ ns. IsKnownPlan c.args.self.now ns c.loop-first.meetings.items) (sym c.in_ok-from_slice.ensures.items)
     (record {
-      few = c.requires.agents.1;
+      few = c.requires.agents;
       inside = c.requires.numbers;
       meet = all_met c.args.self.now.rule c.args.self.now.paths c.args.numbers.now c.loop-first.meetings.items (λ i k l h. c.loop-first.invariant.1 i k (omega (arith, l, h)) l h);
     })

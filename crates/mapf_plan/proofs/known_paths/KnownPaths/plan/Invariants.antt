@@ -2,7 +2,7 @@ use Rattle.std.proofs.Common.{◌≡◌, ℕ, ◌<◌, length}
 use Rattle.std.specs.Prelude.{slice_index}
 use Rattle.mapf_plan.specs.Plan.{path_of}
 use Rattle.mapf_plan.specs.KnownPaths.{AreMet}
-use Rattle.mapf_plan.proofs.known_paths.KnownPaths.looked_up.Given as goal
+use Rattle.mapf_plan.proofs.known_paths.KnownPaths.plan.Given as goal
 
 abbrev pub invariant-loop-first : goal.invariant-loop-first
 invariant-loop-first l =
