@@ -119,6 +119,26 @@ impl<'p> OwnPaths<'p> {
         Ok((left, right))
     }
 
+    /// The child of a node of the tree on one side of its conflict, where its path and all paths of the node are known by
+    /// number: none exactly where it isn't in the tree. None where they aren't.
+    pub fn numbered_child(
+        &mut self,
+        node: &Node,
+        side: Side,
+    ) -> Result<Option<Option<Node>>, NoMemory>
+        requires { IsBranching self.old node.now }
+        ensures problem { self.new ≡ self.old }
+        ensures child { IfOk result (λ found. IfSome found (IsChildOf self.old node.now side)) }
+    {
+        let at = self.book.at_node(node)?;
+        if at.is_none() {
+            return Ok(None);
+        }
+        let child = self.book.child(node, &at, side)?;
+        self.book.keep(at);
+        Ok(child)
+    }
+
     /// The children of a node of the tree on both sides of its conflict, left first, each none exactly where it isn't in the
     /// tree. What is known of them already is given. A path is searched only where it isn't known.
     pub fn children_from(

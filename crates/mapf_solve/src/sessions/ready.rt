@@ -85,7 +85,8 @@ impl<'p> Ready<'p> {
         self.right = right;
     }
 
-    /// The child of this side, if it is this node's; it is no longer here.
+    /// The child of this side, if it is this node's; it is no longer here. One that was worked out is made again where that
+    /// takes no search, since what is known of its path by number is known of all nodes below it then.
     fn take(&mut self, node: &Node, side: Side) -> Option<Option<Node>>
         requires { IsBranching self.old node.now }
         ensures problem { self.new ≡ self.old }
@@ -96,7 +97,10 @@ impl<'p> Ready<'p> {
             Side::Right => replace(&mut self.right, Known::Nothing),
         };
         match known {
-            Known::Worked(worked) => Box::into_inner(worked).child_of(node, side),
+            Known::Worked(worked) => match self.own_paths.numbered_child(node, side) {
+                Ok(Some(child)) => Some(child),
+                Ok(None) | Err(_) => Box::into_inner(worked).child_of(node, side),
+            },
             Known::Made(made) => Box::into_inner(made).child_of(node, side),
             Known::Nothing | Known::Posted(_) | Known::Undone => None,
         }
