@@ -65,5 +65,5 @@ known_stays old new numbers ms rule keeps is = record {
 
     same : plan_of new.paths numbers ≡ plan_of old.paths numbers
     same = plan_of_numbers new.paths numbers (plan_of old.paths numbers) (sym (length-map numbers (λ n. path_of old.paths n)))
-           (λ k l. let inside : k < length numbers = subst (λ n. k < n) (length-map numbers (λ n. path_of old.paths n)) l in
-           kept k inside ∙ ap Some (sym (get_or-map (λ n. path_of old.paths n) numbers k 0 [] inside)))
+        (λ k l. let inside : k < length numbers = subst (λ n. k < n) (length-map numbers (λ n. path_of old.paths n)) l in
+        kept k inside ∙ ap Some (sym (get_or-map (λ n. path_of old.paths n) numbers k 0 [] inside)))

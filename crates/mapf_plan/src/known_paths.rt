@@ -248,7 +248,12 @@ impl KnownPaths {
         ensures end { IfOk result (λ end. end ≤ agent) }
         ensures pairs { IfOk result (λ end. (k : ℕ) → k < end → AreMet self.now.rule k agent (path_of self.now.paths (slice_index numbers.now k)) (path_of self.now.paths number) meetings.new.items) }
     {
-        add_known_earlier(row_of(&self.times_by_later, number), numbers, agent, meetings)
+        add_known_earlier(
+            row_of(&self.times_by_later, number),
+            numbers,
+            agent,
+            meetings,
+        )
     }
 
     /// The same with each later agent.

@@ -1,7 +1,5 @@
 -- Nodes of the tree that wait, one after the other.
-use Rattle.std.proofs.Common.{◌≡◌, true, List, ◌∷◌, Option, Some, None, IsSome, Ok, sym, refl, subst}
-use Rattle.std.specs.Option.{is_some}
-use Rattle.mapf_plan.specs.declared.conflict.Conflict.{Conflict}
+use Rattle.std.proofs.Common.{◌≡◌, List, ◌∷◌, None, IsSome, Ok, sym, subst}
 use Rattle.mapf_tree.specs.Problem.{Problem}
 use Rattle.mapf_tree.specs.Nodes.{Node, AllStand}
 use Rattle.mapf_tree.specs.Search.{Searched, IsSearch, IsLawful}

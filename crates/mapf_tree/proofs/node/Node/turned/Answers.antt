@@ -26,18 +26,18 @@ pub returns-clause-constraints : goal.returns-clause-constraints
 returns-clause-constraints c =
     if_ok c.of.result _ _
     (λ n is.
-      ap (λ (m : Node). m.constraints) is
-      ∙ sets_turned _ _ _ _ _ c.args.self.now c.self.view_is c.in_ok-try_clone.field-0.value c.in_ok-with.field-0 c.args.change
-      (c.in_ok-try_clone.ensures ∙ ap (λ (b : Body). b.root.value) c.deref-3.ensures)
-      (c.in_ok-with.ensures ∙ ap (λ (b : Body). b.changes ++ c.args.change ∷ []) c.deref-4.ensures))
+    ap (λ (m : Node). m.constraints) is
+    ∙ sets_turned _ _ _ _ _ c.args.self.now c.self.view_is c.in_ok-try_clone.field-0.value c.in_ok-with.field-0 c.args.change
+    (c.in_ok-try_clone.ensures ∙ ap (λ (b : Body). b.root.value) c.deref-3.ensures)
+    (c.in_ok-with.ensures ∙ ap (λ (b : Body). b.changes ++ c.args.change ∷ []) c.deref-4.ensures))
     c.of.ensures
 
 pub returns-clause-plan : goal.returns-clause-plan
 returns-clause-plan c =
     if_ok c.of.result _ _
     (λ n is.
-      ap (λ (m : Node). m.plan) is
-      ∙ plan_turned _ _ _ _ _ c.args.self.now c.self.view_is c.in_ok-try_clone.field-0.value c.in_ok-with.field-0 c.args.change
-      (c.in_ok-try_clone.ensures ∙ ap (λ (b : Body). b.root.value) c.deref-3.ensures)
-      (c.in_ok-with.ensures ∙ ap (λ (b : Body). b.changes ++ c.args.change ∷ []) c.deref-4.ensures))
+    ap (λ (m : Node). m.plan) is
+    ∙ plan_turned _ _ _ _ _ c.args.self.now c.self.view_is c.in_ok-try_clone.field-0.value c.in_ok-with.field-0 c.args.change
+    (c.in_ok-try_clone.ensures ∙ ap (λ (b : Body). b.root.value) c.deref-3.ensures)
+    (c.in_ok-with.ensures ∙ ap (λ (b : Body). b.changes ++ c.args.change ∷ []) c.deref-4.ensures))
     c.of.ensures
