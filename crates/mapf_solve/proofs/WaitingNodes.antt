@@ -1,17 +1,11 @@
 -- Nodes of the tree that wait, one after the other.
-use Rattle.std.proofs.Common.{◌≡◌, List, ◌∷◌, None, IsSome, Ok, sym, subst}
+use Rattle.std.proofs.Common.{◌≡◌, List, ◌∷◌, None, Ok, sym, subst}
 use Rattle.mapf_tree.specs.Problem.{Problem}
 use Rattle.mapf_tree.specs.Nodes.{Node, AllStand}
 use Rattle.mapf_tree.specs.Search.{Searched, IsSearch, IsLawful}
 use Rattle.mapf_tree.proofs.OpenNodes.{tail_stands}
-use Rattle.mapf_tree.proofs.TurnLemmas.{branches}
-use Rattle.mapf_tree.specs.Family.{IsBranching}
 
--- the first of them branches, if it has a conflict
-pub first_branches : (p : Problem) (old new : List Node) (n : Node) → AllStand p old → old ≡ n ∷ new → IsSome n.conflict → IsBranching p n
-first_branches p old new n all is some = branches p old new n is all some
-
--- and the others wait still
+-- behind the first of them the others wait still
 pub others_wait : (p : Problem) (old new : List Node) (n : Node) → AllStand p old → old ≡ n ∷ new → AllStand p new
 others_wait p old new n all is = tail_stands p n new (subst (AllStand p) is all)
 

@@ -1,23 +1,31 @@
-use Rattle.std.proofs.Common.{◌∙◌}
+use Rattle.std.proofs.Common.{◌≡◌, ℕ, List, Option, Some, ◌∙◌}
+use Rattle.std.specs.Prelude.{IfSome, slice_get}
+use Rattle.mapf_plan.specs.KnownPaths.{KnownPaths, IsKnownPlan}
 use Rattle.mapf_plan.proofs.PlanNumbers.{known_stays}
+use Rattle.mapf_tree.specs.Problem.{Problem}
+use Rattle.mapf_tree.specs.declared.book.AtNode.{AtNode}
+use Rattle.mapf_tree.specs.declared.known_sets.KnownSet.{KnownSet}
+use Rattle.mapf_tree.specs.Book.{AreKnown, AreFirst}
 use Rattle.mapf_tree.proofs.Books.{known_kept, if_some}
 use Rattle.mapf_tree.proofs.book.Book.numbered.Goals as goal
 
--- all that is remembered stays so, whether the path has a number or memory ran out
+-- all that is remembered stays so where each path keeps its number
+all_kept : (problem : Problem) (old new : KnownPaths) (sets : List KnownSet) (firsts : List ℕ) (latest : Option AtNode) → new.rule ≡ old.rule → ((n : ℕ) (p : List ℕ) → slice_get old.paths n ≡ Some p → slice_get new.paths n ≡ Some p) →
+    AreKnown problem old.paths sets → AreFirst problem sets firsts → old.rule ≡ problem.rule → IfSome latest (λ at. IsKnownPlan old at.plan.numbers.items at.plan.meetings.items) →
+    AreKnown problem new.paths sets × AreFirst problem sets firsts × (new.rule ≡ problem.rule) × IfSome latest (λ at. IsKnownPlan new at.plan.numbers.items at.plan.meetings.items)
+all_kept problem old new sets firsts latest same keeps known first rule plan = (
+  known_kept problem old.paths new.paths sets keeps known,
+  first,
+  same ∙ rule,
+  if_some latest _ _ (λ at is. known_stays old new at.plan.numbers.items at.plan.meetings.items same keeps is) plan,
+)
+
 pub invariant_of-self : goal.invariant_of-self
 invariant_of-self c =
-    let paths = c.self.inside.paths in let new = c.number.new.self in (
-      known_kept c.self.inside.problem.now paths.paths new.paths c.self.inside.sets c.number.ensures.keeps c.self.invariant.0,
-      c.self.invariant.1,
-      c.number.ensures.rule ∙ c.self.invariant.2,
-      if_some c.self.inside.latest _ _ (λ at known. known_stays paths new at.plan.numbers.items at.plan.meetings.items c.number.ensures.rule c.number.ensures.keeps known) c.self.invariant.3,
-    )
+    all_kept c.self.inside.problem.now c.self.inside.paths c.number.new.self c.self.inside.sets c.self.inside.firsts.items c.self.inside.latest c.number.ensures.rule c.number.ensures.keeps c.self.invariant.0 c.self.invariant.1
+    c.self.invariant.2 c.self.invariant.3
 
 pub invariant_of-self-2 : goal.invariant_of-self-2
 invariant_of-self-2 c =
-    let paths = c.self.inside.paths in let new = c.number.new.self in (
-      known_kept c.self.inside.problem.now paths.paths new.paths c.self.inside.sets c.number.ensures.keeps c.self.invariant.0,
-      c.self.invariant.1,
-      c.number.ensures.rule ∙ c.self.invariant.2,
-      if_some c.self.inside.latest _ _ (λ at known. known_stays paths new at.plan.numbers.items at.plan.meetings.items c.number.ensures.rule c.number.ensures.keeps known) c.self.invariant.3,
-    )
+    all_kept c.self.inside.problem.now c.self.inside.paths c.number.new.self c.self.inside.sets c.self.inside.firsts.items c.self.inside.latest c.number.ensures.rule c.number.ensures.keeps c.self.invariant.0 c.self.invariant.1
+    c.self.invariant.2 c.self.invariant.3

@@ -2,13 +2,14 @@ use Rattle.std.proofs.Common.{sym, subst, ◌∙◌}
 use Rattle.mapf_board.specs.Owners.{currents}
 use Rattle.mapf_tree.specs.Family.{IsBranching}
 use Rattle.mapf_solve.specs.Ahead.{AreSidesOf}
-use Rattle.mapf_solve.proofs.WaitingNodes.{first_branches, others_wait}
+use Rattle.mapf_tree.proofs.TurnLemmas.{branches}
+use Rattle.mapf_solve.proofs.WaitingNodes.{others_wait}
 use Rattle.mapf_solve.proofs.sessions.coordinator.Coordinator.work_ahead.Goals as goal
 
 pub post_sides-requires-clause-node : goal.post_sides-requires-clause-node
 post_sides-requires-clause-node c =
     subst (λ p. IsBranching p c.in-Some.node.now) (sym (c.place_for.ensures ∙ c.loop-node.invariant.problem))
-    (first_branches c.args.self.now.ahead _ _ _ c.loop-node.invariant.waits c.in-Some.ensures.steps (c.may_have_jobs.ensures c.if-may_have_jobs.true))
+    (branches c.args.self.now.ahead _ _ _ c.in-Some.ensures.steps c.loop-node.invariant.waits (c.may_have_jobs.ensures c.if-may_have_jobs.true))
 
 pub loop-node-preserved-in-Some-place_for : goal.loop-node-preserved-in-Some-place_for
 loop-node-preserved-in-Some-place_for c = record {
