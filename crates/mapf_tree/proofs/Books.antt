@@ -21,7 +21,7 @@ use Rattle.mapf_tree.specs.declared.known_sets.KnownOwn.{KnownOwn}
 use Rattle.mapf_tree.specs.declared.known_sets.KnownOwn.TheVariants.{Path, NoneWithin}
 use Rattle.mapf_tree.specs.declared.known_sets.KnownSet.{KnownSet}
 use Rattle.mapf_tree.specs.Problem.{Problem}
-use Rattle.mapf_tree.specs.Nodes.{Node, IsSameSet, IsConflictOf}
+use Rattle.mapf_tree.specs.Nodes.{Changed, Node, IsSameSet, IsConflictOf}
 use Rattle.mapf_tree.specs.Family.{IsBranching, IsChildOf, IsOwnWithin, Leaves}
 use Rattle.mapf_tree.specs.SideQuery.{SideQuery, IsQueryOf, IsFoundBy}
 use Rattle.mapf_tree.specs.Tree.{IsAllowedFor, IsOwnPathOf, agent_on, constraint_on, constraints_of}
@@ -318,17 +318,15 @@ small_at book node side c agent number path branching found at is on =
     )
 
 -- and the node that has it is the child
-pub child_at : (book : Book) (node new : Node) (side : Side) (c : Conflict) (agent number : ℕ) (constraint : Constraint) (path : List ℕ) → IsFoundAt book node side (Some number) → slice_get book.paths number ≡ Some path →
-    node.conflict ≡ Some c → agent ≡ agent_on c side → constraint ≡ constraint_on c side → new.name ≡ node.name ++ side ∷ [] →
-    new.changes ≡ node.changes ++ record { agent = agent; constraint = constraint; path = path } ∷ [] → new.constraints ≡ set node.constraints agent (constraint ∷ get_or node.constraints agent []) →
-    new.plan ≡ set node.plan agent path → new.rule ≡ node.rule → IsConflictOf node.rule (set node.plan agent path) new.conflict → IsChildOf book.problem node side (Some new)
-child_at book node new side c agent number constraint path found at is on forbids name changes constraints plan rule conflict =
+pub child_at : (book : Book) (node new : Node) (side : Side) (c : Conflict) (number : ℕ) (change : Changed) → IsFoundAt book node side (Some number) → slice_get book.paths number ≡ Some change.path →
+    node.conflict ≡ Some c → change.agent ≡ agent_on c side → change.constraint ≡ constraint_on c side → new.name ≡ node.name ++ side ∷ [] →
+    new.changes ≡ node.changes ++ change ∷ [] → new.constraints ≡ set node.constraints change.agent (change.constraint ∷ get_or node.constraints change.agent []) →
+    new.plan ≡ set node.plan change.agent change.path → new.rule ≡ node.rule → IsConflictOf node.rule (set node.plan change.agent change.path) new.conflict → IsChildOf book.problem node side (Some new)
+child_at book node new side c number change found at is on forbids name changes constraints plan rule conflict =
     let q = found.0 in
-    let a : agent ≡ q.agent = on ∙ ap (λ s. agent_on c s) (sym found.2) ∙ sym (found.3.agent c is) in
-    let k : constraint ≡ q.constraint = forbids ∙ ap (λ s. constraint_on c s) (sym found.2) ∙ sym (found.3.constraint c is) in
-    let own : IsFoundBy q (Some path) = subst (λ p. IsFoundBy q (Some p)) (get_or_from_slice_get book.paths number path [] at) found.5 in
+    let own : IsFoundBy q (Some change.path) = subst (λ p. IsFoundBy q (Some p)) (get_or_from_slice_get book.paths number change.path [] at) found.5 in
     subst₂ (λ p s. IsChildOf p node s (Some new)) found.1 found.2
-    (is_child node new q path found.3 own (subst (λ s. new.name ≡ node.name ++ s ∷ []) (sym found.2) name)
-    (subst₂ (λ i x. new.changes ≡ node.changes ++ record { agent = i; constraint = x; path = path } ∷ []) a k changes)
-    (subst₂ (λ i x. new.constraints ≡ set node.constraints i (x ∷ get_or node.constraints i [])) a k constraints) (subst (λ i. new.plan ≡ set node.plan i path) a plan) rule
-    (subst (λ i. IsConflictOf node.rule (set node.plan i path) new.conflict) a conflict))
+    (is_child node new q change found.3 own
+    (on ∙ ap (λ s. agent_on c s) (sym found.2) ∙ sym (found.3.agent c is))
+    (forbids ∙ ap (λ s. constraint_on c s) (sym found.2) ∙ sym (found.3.constraint c is))
+    (subst (λ s. new.name ≡ node.name ++ s ∷ []) (sym found.2) name) changes constraints plan rule conflict)

@@ -7,6 +7,7 @@ pub mod Nodes
 pub mod Family
 pub mod SideQuery
 pub mod Book
+pub mod SharedChanges
 pub mod Laws
 pub mod OpenList
 pub mod Search

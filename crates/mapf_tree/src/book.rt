@@ -6,6 +6,7 @@ ghost use Rattle.mapf_plan.specs.Path.{cost};
 ghost use Rattle.mapf_plan.specs.Plan.{path_of};
 ghost use Rattle.mapf_plan.specs.KnownPaths.{IsKnownPlan};
 ghost use Rattle.mapf_low.specs.declared.constraint.Constraint.{Constraint};
+ghost use Rattle.mapf_low.specs.Kept.{HasTwoEnds};
 ghost use Rattle.mapf_tree.specs.Nodes.{IsConflictOf, changed_sets};
 ghost use Rattle.mapf_tree.specs.Family.{IsBranching, IsChildOf};
 ghost use Rattle.mapf_tree.specs.Book.{Book, HasOwnPath, AreSetsOf, ArePathsOf, IsKnownAt, IsOwnIn, IsFoundAt};
@@ -14,11 +15,13 @@ mod learning;
 
 use crate::change::Change;
 use crate::known_sets::{KnownOwn, KnownSets};
+use crate::shared_changes::{SharedChange, keep_shared, shared_change};
 use crate::side_extensions::SideExtensions;
 use crate::side_query::left_for;
 use crate::sides::{agent_of, constraint_of};
 use crate::{Node, Problem, Side, SideQuery};
 use mapf_grid::NoMemory;
+use mapf_low::Constraint;
 use mapf_plan::{Conflict, KnownPaths, KnownPlan, MOST_BOUND};
 use std::alloc::Global;
 use std::marker::Model;
@@ -57,19 +60,22 @@ pub(crate) struct Book<'p> {
     firsts: Vec<usize>,
     /// What was known at the node that was looked at last: the next one has the same paths but for a few.
     latest: Option<AtNode>,
+    /// The changes that nodes share, by the numbers of their extensions.
+    changes: Vec<Option<SharedChange>>,
 }
 
 impl<'p> Model for Book<'p> {
     ghost use Rattle.std.specs.Prelude.{◌≡◌, IfSome};
     ghost use Rattle.mapf_plan.specs.KnownPaths.{IsKnownPlan};
     ghost use Rattle.mapf_tree.specs.Book.{Book, AreKnown, AreFirst};
+    ghost use Rattle.mapf_tree.specs.SharedChanges.{AreShared};
 
     ghost Value = { Book };
 
     ghost view = { λ b. record { problem = b.problem.now; sets = b.sets; paths = b.paths.paths } };
 
     ghost invariant = { λ b. AreKnown b.problem.now b.paths.paths b.sets × AreFirst b.problem.now b.sets b.firsts.items × (b.paths.rule ≡ b.problem.now.rule)
-        × IfSome b.latest (λ at. IsKnownPlan b.paths at.plan.numbers.items at.plan.meetings.items) };
+        × IfSome b.latest (λ at. IsKnownPlan b.paths at.plan.numbers.items at.plan.meetings.items) × AreShared b.paths.paths b.changes.items };
 }
 
 impl<'p> Book<'p> {
@@ -84,6 +90,7 @@ impl<'p> Book<'p> {
             paths: KnownPaths::new(alloc, problem.rule()),
             firsts: Vec::new(alloc),
             latest: None,
+            changes: Vec::new(alloc),
         }
     }
 
@@ -240,17 +247,13 @@ impl<'p> Book<'p> {
         let Some(number) = found.path else {
             return Ok(Some(None));
         };
-        let Some(path) = self.paths.path(number) else {
-            return Ok(None);
-        };
-        let path = Arc::try_clone(path)?;
         let conflict = node.conflict().unwrap();
-        let change = Change {
-            agent: agent_of(&conflict, side),
-            constraint: constraint_of(&conflict, side),
-            path,
-            extension: found.extension,
-        };
+        let change = self.change_of(
+            agent_of(&conflict, side),
+            constraint_of(&conflict, side),
+            found.extension,
+            number,
+        )?;
         let conflict = self.conflict_with(node, at, &change, number)?;
         let old = self.cost_at(node, at, change.agent);
         let extensions = self.known_after(at, &change, &conflict);
@@ -258,6 +261,43 @@ impl<'p> Book<'p> {
         prove!(u64::from(bound) <= MOST_BOUND);
         let child = node.turned(self.alloc, side, change, old, conflict)?;
         Ok(Some(Some(child.knowing(extensions))))
+    }
+
+    /// The change by which this agent is forbidden this more, and has the path of this number from then on. The same one is given
+    /// where nodes turn alike, which is told by the number of the extension.
+    fn change_of(
+        &mut self,
+        agent: usize,
+        constraint: Constraint,
+        extension: usize,
+        number: usize,
+    ) -> Result<Arc<Change>, NoMemory>
+        requires constraint { HasTwoEnds constraint }
+        requires number { number < length self.old.paths }
+        ensures same { self.new ≡ self.old }
+        ensures agent { IfOk result (λ change. change.value.agent ≡ agent) }
+        ensures constraint { IfOk result (λ change. change.value.constraint ≡ constraint) }
+        ensures path { IfOk result (λ change. slice_get self.old.paths number ≡ Some change.value.path) }
+    {
+        if let Some(shared) = shared_change(&self.changes, extension, agent, &constraint, number) {
+            return Ok(Arc::try_clone(shared)?);
+        }
+        let path = Arc::try_clone(self.paths.path(number).unwrap())?;
+        let change = Arc::new(
+            self.alloc,
+            Change {
+                agent,
+                constraint,
+                path,
+                extension,
+            },
+        )?;
+        let shared = SharedChange {
+            path: number,
+            change: Arc::try_clone(&change)?,
+        };
+        keep_shared(&mut self.changes, extension, shared);
+        Ok(change)
     }
 
     /// The numbers of the extensions for both sides of a conflict after a change at a node, if the own paths there are known;

@@ -73,12 +73,12 @@ impl Chain {
     }
 
     /// The chain with one change more.
-    pub(crate) fn with(&self, alloc: Global, change: Change) -> Result<Chain, NoMemory>
-        ensures { IfOk result (λ chain. chain ≡ self.now ++ change ∷ []) }
+    pub(crate) fn with(&self, alloc: Global, change: Arc<Change>) -> Result<Chain, NoMemory>
+        ensures { IfOk result (λ chain. chain ≡ self.now ++ change.value ∷ []) }
     {
         let mut own = Vec::with_capacity(alloc, self.own.len() + 1)?;
         share_all(&mut own, &self.own)?;
-        own.push(Arc::new(alloc, change)?)?;
+        own.push(change)?;
         if own.len() <= FEW {
             return Ok(Chain {
                 older: Arc::try_clone(&self.older)?,

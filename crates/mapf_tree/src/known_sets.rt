@@ -179,7 +179,7 @@ fn is_same_list(one: &[Constraint], other: &[Constraint]) -> bool
 }
 
 /// Whether two constraints are one.
-fn is_same(one: &Constraint, other: &Constraint) -> bool
+pub(crate) fn is_same(one: &Constraint, other: &Constraint) -> bool
     ensures { IsTrue result → one.now ≡ other.now }
 {
     match *one {

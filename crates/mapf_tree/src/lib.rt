@@ -23,6 +23,7 @@ mod own_paths;
 mod problem;
 mod progress;
 mod search;
+mod shared_changes;
 mod side;
 mod side_extensions;
 mod side_query;

@@ -115,20 +115,20 @@ impl Node {
         &self,
         alloc: Global,
         side: Side,
-        change: Change,
+        change: Arc<Change>,
         old: u32,
         conflict: Option<Conflict>,
     ) -> Result<Node, NoMemory>
-        requires agent { change.agent < length self.now.plan }
-        requires old { old ≡ cost (path_of self.now.plan change.agent) }
-        requires small { plan_cost (slice_set self.now.plan change.agent change.path) ≤ most_bound }
-        requires conflict { IsConflictOf self.now.rule (slice_set self.now.plan change.agent change.path) conflict }
+        requires agent { change.value.agent < length self.now.plan }
+        requires old { old ≡ cost (path_of self.now.plan change.value.agent) }
+        requires small { plan_cost (slice_set self.now.plan change.value.agent change.value.path) ≤ most_bound }
+        requires conflict { IsConflictOf self.now.rule (slice_set self.now.plan change.value.agent change.value.path) conflict }
         ensures name { IfOk result (λ n. n.name ≡ self.now.name ++ side ∷ []) }
-        ensures changes { IfOk result (λ n. n.changes ≡ self.now.changes ++ change ∷ []) }
-        ensures constraints { IfOk result (λ n. n.constraints ≡ slice_set self.now.constraints change.agent (change.constraint ∷ slice_index_or self.now.constraints change.agent [])) }
-        ensures plan { IfOk result (λ n. n.plan ≡ slice_set self.now.plan change.agent change.path) }
+        ensures changes { IfOk result (λ n. n.changes ≡ self.now.changes ++ change.value ∷ []) }
+        ensures constraints { IfOk result (λ n. n.constraints ≡ slice_set self.now.constraints change.value.agent (change.value.constraint ∷ slice_index_or self.now.constraints change.value.agent [])) }
+        ensures plan { IfOk result (λ n. n.plan ≡ slice_set self.now.plan change.value.agent change.value.path) }
         ensures rule { IfOk result (λ n. n.rule ≡ self.now.rule) }
-        ensures conflict { IfOk result (λ n. IsConflictOf self.now.rule (slice_set self.now.plan change.agent change.path) n.conflict) }
+        ensures conflict { IfOk result (λ n. IsConflictOf self.now.rule (slice_set self.now.plan change.value.agent change.value.path) n.conflict) }
     {
         let key = self.key_with(alloc, side, change.agent, old, &change.path)?;
         let body = Body {

@@ -229,12 +229,15 @@ impl<'p> SideQuery<'p> {
             constraint,
             ..
         } = self;
-        let change = Change {
-            agent,
-            constraint,
-            path,
-            extension,
-        };
+        let change = Arc::new(
+            alloc,
+            Change {
+                agent,
+                constraint,
+                path,
+                extension,
+            },
+        )?;
         Ok(Some(node.turned(alloc, side, change, old, conflict)?))
     }
 }

@@ -13,6 +13,7 @@ invariant_of-self-2 c =
       firsts_kept problem old new c.self.inside.firsts.items (λ n a cs h. set_kept old new s n a cs c.in_ok-set.ensures.added.0 h) c.self.invariant.1,
       c.self.invariant.2,
       c.self.invariant.3,
+      c.self.invariant.4,
     )
 
 pub returns-clause-kept : goal.returns-clause-kept

@@ -1,4 +1,4 @@
-use Rattle.std.proofs.Common.{set, [], ◌∷◌, ◌++◌, ap, ◌∙◌}
+use Rattle.std.proofs.Common.{set, [], ◌∷◌, ◌++◌, ap, ap₂, ◌∙◌}
 use Rattle.mapf_plan.specs.Plan.{plan_cost}
 use Rattle.mapf_tree.specs.Nodes.{Changed, Node}
 use Rattle.mapf_tree.specs.declared.node.Body.{Body}
@@ -7,12 +7,12 @@ use Rattle.mapf_tree.proofs.node.Node.turned.Goals as goal
 
 pub of-requires : goal.of-requires
 of-requires c =
-    agrees_turned _ _ _ _ _ c.args.self.now c.self.view_is c.in_ok-try_clone.field-0.value c.in_ok-with.field-0 c.args.change
-    (c.in_ok-try_clone.ensures ∙ ap (λ (b : Body). b.root.value) c.deref-3.ensures)
-    (c.in_ok-with.ensures ∙ ap (λ (b : Body). b.changes ++ c.args.change ∷ []) c.deref-4.ensures)
-    c.self.inside.key.cost c.self.inside.key.depth c.in_ok-key.key.cost c.in_ok-key.key.depth c.in_ok-key.key.name c.args.side c.deref-2.result.now.rule c.args.conflict c.self.invariant c.requires.agent
-    (ap (λ (b : Body). b.rule) c.deref-2.ensures ∙ ap (λ (n : Node). n.rule) c.self.view_is)
-    (c.in_ok-key.ensures.cost ∙ ap (λ path. plan_cost (set c.args.self.now.plan c.change.inside.agent path)) c.deref.ensures ∙ ap (λ (x : Changed). plan_cost (set c.args.self.now.plan x.agent x.path)) c.change.view_is) c.in_ok-key.ensures.depth c.in_ok-key.ensures.name
+    agrees_turned _ _ _ _ _ c.args.self.now c.self.view_is c.in_ok-try_clone.field-0.value c.in_ok-with.field-0 c.args.change.value
+    (c.in_ok-try_clone.ensures ∙ ap (λ (b : Body). b.root.value) c.deref-5.ensures)
+    (c.in_ok-with.ensures ∙ ap (λ (b : Body). b.changes ++ c.args.change.value ∷ []) c.deref-6.ensures)
+    c.self.inside.key.cost c.self.inside.key.depth c.in_ok-key.key.cost c.in_ok-key.key.depth c.in_ok-key.key.name c.args.side c.deref-4.result.now.rule c.args.conflict c.self.invariant c.requires.agent
+    (ap (λ (b : Body). b.rule) c.deref-4.ensures ∙ ap (λ (n : Node). n.rule) c.self.view_is)
+    (c.in_ok-key.ensures.cost ∙ ap₂ (λ agent path. plan_cost (set c.args.self.now.plan agent path)) (ap (λ (x : Changed). x.agent) (c.behind-change.view_is ∙ c.deref.ensures)) (c.deref-3.ensures ∙ ap (λ (x : Changed). x.path) (c.behind-change-2.view_is ∙ c.deref-2.ensures))) c.in_ok-key.ensures.depth c.in_ok-key.ensures.name
     c.requires.conflict
 
 pub returns-clause-name : goal.returns-clause-name
@@ -20,16 +20,16 @@ returns-clause-name c = if_ok c.of.result _ _ (λ n is. ap (λ (m : Node). m.nam
 
 pub returns-clause-changes : goal.returns-clause-changes
 returns-clause-changes c =
-    if_ok c.of.result _ _ (λ n is. ap (λ (m : Node). m.changes) is ∙ c.in_ok-with.ensures ∙ ap (λ (b : Body). b.changes ++ c.args.change ∷ []) c.deref-4.ensures ∙ ap (λ (m : Node). m.changes ++ c.args.change ∷ []) c.self.view_is) c.of.ensures
+    if_ok c.of.result _ _ (λ n is. ap (λ (m : Node). m.changes) is ∙ c.in_ok-with.ensures ∙ ap (λ (b : Body). b.changes ++ c.args.change.value ∷ []) c.deref-6.ensures ∙ ap (λ (m : Node). m.changes ++ c.args.change.value ∷ []) c.self.view_is) c.of.ensures
 
 pub returns-clause-constraints : goal.returns-clause-constraints
 returns-clause-constraints c =
     if_ok c.of.result _ _
     (λ n is.
     ap (λ (m : Node). m.constraints) is
-    ∙ sets_turned _ _ _ _ _ c.args.self.now c.self.view_is c.in_ok-try_clone.field-0.value c.in_ok-with.field-0 c.args.change
-    (c.in_ok-try_clone.ensures ∙ ap (λ (b : Body). b.root.value) c.deref-3.ensures)
-    (c.in_ok-with.ensures ∙ ap (λ (b : Body). b.changes ++ c.args.change ∷ []) c.deref-4.ensures))
+    ∙ sets_turned _ _ _ _ _ c.args.self.now c.self.view_is c.in_ok-try_clone.field-0.value c.in_ok-with.field-0 c.args.change.value
+    (c.in_ok-try_clone.ensures ∙ ap (λ (b : Body). b.root.value) c.deref-5.ensures)
+    (c.in_ok-with.ensures ∙ ap (λ (b : Body). b.changes ++ c.args.change.value ∷ []) c.deref-6.ensures))
     c.of.ensures
 
 pub returns-clause-plan : goal.returns-clause-plan
@@ -37,7 +37,7 @@ returns-clause-plan c =
     if_ok c.of.result _ _
     (λ n is.
     ap (λ (m : Node). m.plan) is
-    ∙ plan_turned _ _ _ _ _ c.args.self.now c.self.view_is c.in_ok-try_clone.field-0.value c.in_ok-with.field-0 c.args.change
-    (c.in_ok-try_clone.ensures ∙ ap (λ (b : Body). b.root.value) c.deref-3.ensures)
-    (c.in_ok-with.ensures ∙ ap (λ (b : Body). b.changes ++ c.args.change ∷ []) c.deref-4.ensures))
+    ∙ plan_turned _ _ _ _ _ c.args.self.now c.self.view_is c.in_ok-try_clone.field-0.value c.in_ok-with.field-0 c.args.change.value
+    (c.in_ok-try_clone.ensures ∙ ap (λ (b : Body). b.root.value) c.deref-5.ensures)
+    (c.in_ok-with.ensures ∙ ap (λ (b : Body). b.changes ++ c.args.change.value ∷ []) c.deref-6.ensures))
     c.of.ensures

@@ -1,6 +1,8 @@
-use Rattle.std.proofs.Common.{◌≡◌, ◌<◌, length, Some, option_map, subst, sym, ap, ◌∙◌, arith}
+use Rattle.std.proofs.Common.{◌≡◌, ◌<◌, length, set, Some, option_map, subst, subst₂, sym, ap, ◌∙◌, arith}
 use Rattle.std.specs.Arc.{arc_value}
+use Rattle.mapf_plan.specs.Plan.{plan_cost}
 use Rattle.mapf_tree.specs.Family.{IsChildOf}
+use Rattle.mapf_tree.specs.Nodes.{Changed}
 use Rattle.mapf_tree.specs.SideQuery.{SideQuery, IsQueryOf, IsFoundBy}
 use Rattle.mapf_tree.proofs.SideNodes.{within_bound}
 use Rattle.mapf_tree.proofs.Queries.{is_child, no_child}
@@ -18,6 +20,7 @@ turned-requires-clause-small c =
     subst (λ n. c.self.inside.agent < n) (sym (plan ∙ ap (λ (q : SideQuery). length q.problem.inst.starts) (sym c.self.view_is))) c.self.invariant.0 in
     omega (
       arith,
+      ap (λ (x : Changed). plan_cost (set c.args.node.now.plan x.agent x.path)) c.in_ok-change.ensures.ok,
       within_bound c.self.inside.problem.now c.args.node.now.plan c.self.inside.agent c.self.inside.limit c.self.inside.constraints path inside
           (subst (IsQueryOf c.args.node.now) (sym c.self.view_is) c.requires.query).leaves (subst (λ q. IsFoundBy q (Some path)) (sym c.self.view_is) found),
       c.self.invariant.1,
@@ -25,9 +28,9 @@ turned-requires-clause-small c =
 
 pub returns : goal.returns
 returns c =
-    let path = arc_value c.in-Some.path in
+    let path = arc_value c.in-Some.path in let change = c.in_ok-change.change.value in
     let found : IsFoundBy c.args.self (Some path) = subst (λ p. IsFoundBy c.args.self (option_map arc_value p)) c.in-Some.is c.requires.path in
-    let e = c.in_ok-turned.ensures in
+    let same = c.in_ok-change.ensures.ok in let e = c.in_ok-turned.ensures in
     subst (λ (q : SideQuery). IsChildOf q.problem c.args.node.now q.side (Some c.in_ok-turned.field-0)) c.self.view_is
-    (is_child c.args.node.now c.in_ok-turned.field-0 _ path (subst (IsQueryOf c.args.node.now) (sym c.self.view_is) c.requires.query)
-    (subst (λ q. IsFoundBy q (Some path)) (sym c.self.view_is) found) e.name e.changes e.constraints e.plan e.rule e.conflict)
+    (is_child c.args.node.now c.in_ok-turned.field-0 _ change (subst (IsQueryOf c.args.node.now) (sym c.self.view_is) c.requires.query)
+    (subst₂ (λ q p. IsFoundBy q (Some p)) (sym c.self.view_is) (sym (ap (λ (x : Changed). x.path) same)) found) (ap (λ (x : Changed). x.agent) same) (ap (λ (x : Changed). x.constraint) same) e.name e.changes e.constraints e.plan e.rule e.conflict)
