@@ -21,11 +21,15 @@ use Rattle.mapf_tree.specs.declared.known_sets.KnownOwn.{KnownOwn}
 use Rattle.mapf_tree.specs.declared.known_sets.KnownOwn.TheVariants.{Path, NoneWithin}
 use Rattle.mapf_tree.specs.declared.known_sets.KnownSet.{KnownSet}
 use Rattle.mapf_tree.specs.Problem.{Problem}
+use Rattle.mapf_plan.specs.KnownPaths.{KnownPaths, IsKnownPlan}
+use Rattle.mapf_tree.specs.declared.book.AtNode.{AtNode}
+use Rattle.mapf_tree.specs.declared.shared_changes.SharedChange.{SharedChange}
+use Rattle.mapf_tree.specs.SharedChanges.{AreShared}
 use Rattle.mapf_tree.specs.Nodes.{Changed, Node, IsSameSet, IsConflictOf}
 use Rattle.mapf_tree.specs.Family.{IsBranching, IsChildOf, IsOwnWithin, Leaves}
 use Rattle.mapf_tree.specs.SideQuery.{SideQuery, IsQueryOf, IsFoundBy}
 use Rattle.mapf_tree.specs.Tree.{IsAllowedFor, IsOwnPathOf, agent_on, constraint_on, constraints_of}
-use Rattle.mapf_tree.specs.Book.{Book, HasSet, IsExtension, AreExtensions, IsExtended, HasOwnPath, AreKnown, IsKnownOwn, IsOwnIn, IsFoundAt, AreFirst, AreSetsOf, ArePathsOf}
+use Rattle.mapf_tree.specs.Book.{Book, HasSet, IsExtension, AreExtensions, IsExtended, HasOwnPath, AreOwnPaths, AreKnown, IsKnownOwn, IsOwnIn, IsFoundAt, AreFirst, AreSetsOf, ArePathsOf, IsKnownAt}
 use Rattle.mapf_tree.proofs.ConstraintSets.{with_same, IsWith, IsWith-cons}
 use Rattle.mapf_tree.proofs.SideNodes.{own_by_limit, within_bound, agent_inside}
 use Rattle.mapf_tree.proofs.Queries.{is_child, no_child}
@@ -177,10 +181,31 @@ known_more problem paths old new s is are one number x at =
 
 -- the own path under a known set
 pub own_path_of : (book : Book) (set number : ℕ) (s : KnownSet) → AreKnown book.problem book.paths book.sets → slice_get book.sets set ≡ Some s → s.own ≡ Path number → HasOwnPath book set number
-own_path_of book set number s is at own agent cs has =
+own_path_of book set number s is at own =
     let known = subst (IsKnownOwn book.problem book.paths s.agent s.constraints) own (is set s at) in
-    let same = same_set book.sets set agent cs s at has in
-    (known.0, known.1, subst₂ (λ i xs. IsOwnPathOf book.problem i xs known.0) same.0 same.1 known.2)
+    (s.agent, s.constraints, known.0, (s, at, refl, refl), known.1, known.2)
+
+-- it is the own path of whichever agent has the set
+own_path_told : (book : Book) (set number agent : ℕ) (cs : List Constraint) → HasOwnPath book set number → HasSet book.sets set agent cs →
+    (path : List ℕ) × (slice_get book.paths number ≡ Some path) × IsOwnPathOf book.problem agent cs path
+own_path_told book set number agent cs own has =
+    let same = same_number book.sets set own.0 agent own.1 cs own.3 has in
+    (own.2, own.4, subst₂ (λ i xs. IsOwnPathOf book.problem i xs own.2) same.0 same.1 own.5)
+
+-- own paths by number stay so where each set and each path keeps its number
+pub own_paths_kept : (old new : Book) (sets numbers : List ℕ) → new.problem ≡ old.problem → ((n a : ℕ) (cs : List Constraint) → HasSet old.sets n a cs → HasSet new.sets n a cs) →
+    ((n : ℕ) (p : List ℕ) → slice_get old.paths n ≡ Some p → slice_get new.paths n ≡ Some p) → AreOwnPaths old sets numbers → AreOwnPaths new sets numbers
+own_paths_kept old new sets numbers same keeps stays are = (are.0, λ k l. kept (slice_index sets k) (slice_index numbers k) (are.1 k l))
+  where
+    kept : (set number : ℕ) → HasOwnPath old set number → HasOwnPath new set number
+    kept set number own = (own.0, own.1, own.2, keeps set own.0 own.1 own.3, stays number own.2 own.4, subst (λ p. IsOwnPathOf p own.0 own.1 own.2) (sym same) own.5)
+
+-- all that a book remembers holds
+abbrev pub IsRemembered : Problem → List ℕ → Option AtNode → List (Option SharedChange) → List KnownSet → KnownPaths → Type 0
+IsRemembered problem firsts latest changes sets paths =
+    AreKnown problem paths.paths sets × AreFirst problem sets firsts × (paths.rule ≡ problem.rule)
+    × IfSome latest (λ at. IsKnownPlan paths at.plan.numbers.items at.plan.meetings.items × AreOwnPaths (record { problem = problem; sets = sets; paths = paths.paths }) at.sets.items at.plan.numbers.items)
+    × AreShared paths.paths changes
 
 -- how many agents a node of the tree has
 pub agents_at_node : (problem : Problem) (node : Node) → IsBranching problem node → length node.plan ≡ length problem.inst.starts
@@ -188,7 +213,7 @@ agents_at_node problem node branching = ap length branching.stands.plan ∙ bran
 
 -- the own paths under each agent's set are those of the node's plan, as an agent has one own path under a set
 pub paths_at_node : (book : Book) (node : Node) (sets paths : List ℕ) → IsBranching book.problem node → AreSetsOf book.sets sets node.constraints →
-    (length paths ≡ length sets) × ((k : ℕ) → k < length sets → HasOwnPath book (slice_index sets k) (slice_index paths k)) → 0 < length node.plan → length node.plan ≤ most_agents →
+    AreOwnPaths book sets paths → 0 < length node.plan → length node.plan ≤ most_agents →
     ArePathsOf book.paths paths node.plan
 paths_at_node book node sets paths branching are own some few = record {
   few = (omega (arith, each, some), omega (arith, each, few));
@@ -209,7 +234,7 @@ paths_at_node book node sets paths branching are own some few = record {
     have agent l =
         let inside : agent < length book.problem.inst.starts = omega (arith, l, agents) in
         let set = are.same agent (omega (arith, inside, branching.stands.agents)) in
-        let known = own.1 agent (omega (arith, inside, count)) agent set.0 set.1 in
+        let known = own_path_told book (slice_index sets agent) (slice_index paths agent) agent set.0 (own.1 agent (omega (arith, inside, count))) set.1 in
         let all : IsSameSet set.0 (constraints_of branching.of.0 agent) =
         λ x. let one = set.2 x in let two = branching.stands.sets agent inside x in ((λ h. two.0 (one.0 h)), (λ h. one.1 (two.1 h))) in
         let one : known.0 ≡ path_of branching.of.1 agent = same_own _ _ _ _ _ _ _ (own_set _ _ _ _ set.0 (constraints_of branching.of.0 agent) known.0 all known.2) (branching.stands.member.plan.own agent inside) in
@@ -259,7 +284,7 @@ none_lower problem limit least agent cs small none q allowed = none q (record { 
 pub own_in_path : (book : Book) (set number limit : ℕ) (path : List ℕ) (s : KnownSet) → AreKnown book.problem book.paths book.sets → slice_get book.sets set ≡ Some s → s.own ≡ Path number → slice_get book.paths number ≡ Some path →
     limit ≤ book.problem.bound → cost path ≤ limit → IsOwnIn book set limit (Some number)
 own_in_path book set number limit path s is at own there small within agent cs has =
-    let known = own_path_of book set number s is at own agent cs has in
+    let known = own_path_told book set number agent cs (own_path_of book set number s is at own) has in
     let one : known.0 ≡ path = one_value known.0 path (sym known.1 ∙ there) in (
       slice_get_within book.paths number path there,
       subst (IsOwnWithin book.problem limit agent cs) (ap Some (one ∙ sym (get_or_from_slice_get book.paths number path [] there)))
@@ -269,7 +294,7 @@ own_in_path book set number limit path s is at own there small within agent cs h
 pub own_in_dearer : (book : Book) (set number limit : ℕ) (path : List ℕ) (s : KnownSet) → AreKnown book.problem book.paths book.sets → slice_get book.sets set ≡ Some s → s.own ≡ Path number → slice_get book.paths number ≡ Some path →
     limit ≤ book.problem.bound → limit < cost path → IsOwnIn book set limit None
 own_in_dearer book set number limit path s is at own there small dear agent cs has =
-    let known = own_path_of book set number s is at own agent cs has in
+    let known = own_path_told book set number agent cs (own_path_of book set number s is at own) has in
     let one : known.0 ≡ path = one_value known.0 path (sym known.1 ∙ there) in
     (tt, λ q allowed. none_dearer book.problem limit agent cs known.0 small (subst (λ p. limit < cost p) (sym one) dear) known.2 q allowed)
 
@@ -330,3 +355,8 @@ child_at book node new side c number change found at is on forbids name changes 
     (on ∙ ap (λ s. agent_on c s) (sym found.2) ∙ sym (found.3.agent c is))
     (forbids ∙ ap (λ s. constraint_on c s) (sym found.2) ∙ sym (found.3.constraint c is))
     (subst (λ s. new.name ≡ node.name ++ s ∷ []) (sym found.2) name) changes constraints plan rule conflict)
+
+-- what is known at a node may be kept
+pub at_kept : (book : Book) (node : Node) (at : Option AtNode) → IfSome at (λ at. IsKnownAt book node at.sets.items at.plan.numbers.items at.plan.meetings.items) →
+    IfSome at (λ at. IsKnownPlan (record { rule = book.problem.rule; paths = book.paths }) at.plan.numbers.items at.plan.meetings.items × AreOwnPaths book at.sets.items at.plan.numbers.items)
+at_kept book node at known = if_some at _ _ (λ at is. (is.meet, is.own)) known

@@ -68,17 +68,21 @@ pub record ArePathsOf (paths : List (List ℕ)) (numbers : List ℕ) (plan : Lis
   pub inside : AreNumbers paths numbers
   pub same : plan_of paths numbers ≡ plan
 
+-- the path of the second number is its agent's own under the set of the first one
+abbrev pub HasOwnPath : Book → ℕ → ℕ → Type 0
+HasOwnPath book set number =
+    (agent : ℕ) × (cs : List Constraint) × (path : List ℕ) × HasSet book.sets set agent cs × (slice_get book.paths number ≡ Some path) × IsOwnPathOf book.problem agent cs path
+
+-- the paths of these numbers are the own ones under the sets of those
+abbrev pub AreOwnPaths : Book → List ℕ → List ℕ → Type 0
+AreOwnPaths book sets numbers = (length numbers ≡ length sets) × ((k : ℕ) → k < length sets → HasOwnPath book (slice_index sets k) (slice_index numbers k))
+
 -- what is known at a node: each agent's set by number, and its plan by numbers, with meetings of its conflicts
 pub record IsKnownAt (book : Book) (node : Node) (sets numbers : List ℕ) (meetings : List Meeting) : Type 0 where
   pub forbids : AreSetsOf book.sets sets node.constraints
+  pub own : AreOwnPaths book sets numbers
   pub plans : ArePathsOf book.paths numbers node.plan
   pub meet : IsKnownPlan (record { rule = book.problem.rule; paths = book.paths }) numbers meetings
-
--- the path of the second number is the own path under the set of the first one
-abbrev pub HasOwnPath : Book → ℕ → ℕ → Type 0
-HasOwnPath book set number =
-    (agent : ℕ) (cs : List Constraint) → HasSet book.sets set agent cs →
-    (path : List ℕ) × (slice_get book.paths number ≡ Some path) × IsOwnPathOf book.problem agent cs path
 
 -- the number of the own path under a set, at a cost of at most the limit; or that there is none
 abbrev pub IsOwnIn : Book → ℕ → ℕ → Option ℕ → Type 0

@@ -1,6 +1,6 @@
 //! Own paths by the sets of constraints under which they were searched.
 
-ghost use Rattle.std.specs.Prelude.{◌≡◌, ◌<◌, ◌≤◌, List, [], ◌∷◌, length, map, slice_get, slice_set, Some, None, IfSome, IfOk, OnOk, IsTrue};
+ghost use Rattle.std.specs.Prelude.{◌≡◌, ◌≢◌, ℕ, ◌<◌, ◌≤◌, List, [], ◌∷◌, length, map, slice_get, slice_index, slice_set, Some, None, IfSome, IfOk, OnOk, IsTrue};
 ghost use Rattle.std.specs.Arc.{arc_value};
 ghost use Rattle.mapf_plan.specs.Path.{cost};
 ghost use Rattle.mapf_plan.specs.Plan.{path_of};
@@ -9,7 +9,7 @@ ghost use Rattle.mapf_low.specs.declared.constraint.Constraint.{Constraint};
 ghost use Rattle.mapf_low.specs.Kept.{HasTwoEnds};
 ghost use Rattle.mapf_tree.specs.Nodes.{IsConflictOf, changed_sets};
 ghost use Rattle.mapf_tree.specs.Family.{IsBranching, IsChildOf};
-ghost use Rattle.mapf_tree.specs.Book.{Book, HasOwnPath, AreSetsOf, ArePathsOf, IsKnownAt, IsOwnIn, IsFoundAt};
+ghost use Rattle.mapf_tree.specs.Book.{Book, HasOwnPath, AreOwnPaths, AreSetsOf, ArePathsOf, IsKnownAt, IsOwnIn, IsFoundAt};
 
 mod learning;
 
@@ -60,6 +60,8 @@ pub(crate) struct Book<'p> {
     firsts: Vec<usize>,
     /// What was known at the node that was looked at last: the next one has the same paths but for a few.
     latest: Option<AtNode>,
+    /// Room for the numbers of the sets at the next node.
+    spare: Vec<usize>,
     /// The changes that nodes share, by the numbers of their extensions.
     changes: Vec<Option<SharedChange>>,
 }
@@ -67,7 +69,7 @@ pub(crate) struct Book<'p> {
 impl<'p> Model for Book<'p> {
     ghost use Rattle.std.specs.Prelude.{◌≡◌, IfSome};
     ghost use Rattle.mapf_plan.specs.KnownPaths.{IsKnownPlan};
-    ghost use Rattle.mapf_tree.specs.Book.{Book, AreKnown, AreFirst};
+    ghost use Rattle.mapf_tree.specs.Book.{Book, AreKnown, AreFirst, AreOwnPaths};
     ghost use Rattle.mapf_tree.specs.SharedChanges.{AreShared};
 
     ghost Value = { Book };
@@ -75,7 +77,8 @@ impl<'p> Model for Book<'p> {
     ghost view = { λ b. record { problem = b.problem.now; sets = b.sets; paths = b.paths.paths } };
 
     ghost invariant = { λ b. AreKnown b.problem.now b.paths.paths b.sets × AreFirst b.problem.now b.sets b.firsts.items × (b.paths.rule ≡ b.problem.now.rule)
-        × IfSome b.latest (λ at. IsKnownPlan b.paths at.plan.numbers.items at.plan.meetings.items) × AreShared b.paths.paths b.changes.items };
+        × IfSome b.latest (λ at. IsKnownPlan b.paths at.plan.numbers.items at.plan.meetings.items
+        × AreOwnPaths (record { problem = b.problem.now; sets = b.sets; paths = b.paths.paths }) at.sets.items at.plan.numbers.items) × AreShared b.paths.paths b.changes.items };
 }
 
 impl<'p> Book<'p> {
@@ -90,6 +93,7 @@ impl<'p> Book<'p> {
             paths: KnownPaths::new(alloc, problem.rule()),
             firsts: Vec::new(alloc),
             latest: None,
+            spare: Vec::new(alloc),
             changes: Vec::new(alloc),
         }
     }
@@ -115,7 +119,7 @@ impl<'p> Book<'p> {
 
     /// Keeps what is known at the node that was looked at.
     pub(crate) fn keep(&mut self, at: Option<AtNode>)
-        requires { IfSome at (λ at. IsKnownPlan (record { rule = self.old.problem.rule; paths = self.old.paths }) at.plan.numbers.items at.plan.meetings.items) }
+        requires { IfSome at (λ at. IsKnownPlan (record { rule = self.old.problem.rule; paths = self.old.paths }) at.plan.numbers.items at.plan.meetings.items × AreOwnPaths self.old at.sets.items at.plan.numbers.items) }
         ensures { self.new ≡ self.old }
     {
         self.latest = at;
@@ -125,42 +129,79 @@ impl<'p> Book<'p> {
     fn turned(&mut self, node: &Node, other: AtNode) -> Result<Option<AtNode>, NoMemory>
         requires node { IsBranching self.old.problem node.now }
         requires other { IsKnownPlan (record { rule = self.old.problem.rule; paths = self.old.paths }) other.plan.numbers.items other.plan.meetings.items }
+        requires own { AreOwnPaths self.old other.sets.items other.plan.numbers.items }
         requires agents { length other.plan.numbers.items ≡ length node.now.plan }
         ensures same { self.new ≡ self.old }
         ensures known { IfOk result (λ found. IfSome found (λ at. IsKnownAt self.old node.now at.sets.items at.plan.numbers.items at.plan.meetings.items)) }
     {
-        let AtNode { sets, mut plan } = other;
-        let Some(sets) = self.sets_at(node, sets)? else {
+        let AtNode {
+            sets: before,
+            mut plan,
+        } = other;
+        let spare = replace(&mut self.spare, Vec::new(self.alloc));
+        let Some(sets) = self.sets_at(node, spare)? else {
             return Ok(None);
         };
-        if !self.turn_plan(node, &sets, &mut plan)? {
+        if !self.turn_plan(node, &before, &sets, &mut plan)? {
             return Ok(None);
         }
+        self.spare = before;
         Ok(Some(AtNode { sets, plan }))
     }
 
-    /// Gives each agent of a plan the path that it has at a node, whose agents' sets have these numbers; false where one isn't
-    /// known.
+    /// Gives each agent of a plan the path that it has at a node, where its set is another than it was before. The numbers of
+    /// the sets before and of those at the node are given. False where a path isn't known.
     fn turn_plan(
         &mut self,
         node: &Node,
+        before: &[usize],
         sets: &[usize],
         plan: &mut KnownPlan,
     ) -> Result<bool, NoMemory>
         requires node { IsBranching self.old.problem node.now }
         requires sets { AreSetsOf self.old.sets sets.now node.now.constraints }
         requires plan { IsKnownPlan (record { rule = self.old.problem.rule; paths = self.old.paths }) plan.old.numbers.items plan.old.meetings.items }
+        requires before { AreOwnPaths self.old before.now plan.old.numbers.items }
         requires agents { length plan.old.numbers.items ≡ length node.now.plan }
         ensures same { self.new ≡ self.old }
         ensures plan { IfOk result (λ known. IsTrue known → IsKnownPlan (record { rule = self.old.problem.rule; paths = self.old.paths }) plan.new.numbers.items plan.new.meetings.items) }
+        ensures own { IfOk result (λ known. IsTrue known → AreOwnPaths self.old sets.now plan.new.numbers.items) }
         ensures paths { IfOk result (λ known. IsTrue known → ArePathsOf self.old.paths plan.new.numbers.items node.now.plan) }
     {
         for agent in 0..node.agents() {
-            let Some(number) = self.path_of(sets[agent]) else {
+            if !self.turn_agent(plan, agent, before[agent], sets[agent])? {
                 return Ok(false);
-            };
-            turn_agent(&mut self.paths, plan, agent, number)?;
+            }
         }
+        Ok(true)
+    }
+
+    /// Gives one agent of a plan its own path under a set, where the one that it has is that under another; false where it isn't
+    /// known.
+    #[inline(always)]
+    fn turn_agent(
+        &mut self,
+        plan: &mut KnownPlan,
+        agent: usize,
+        before: usize,
+        set: usize,
+    ) -> Result<bool, NoMemory>
+        requires plan { IsKnownPlan (record { rule = self.old.problem.rule; paths = self.old.paths }) plan.old.numbers.items plan.old.meetings.items }
+        requires agent { agent < length plan.old.numbers.items }
+        requires own { HasOwnPath self.old before (slice_index plan.old.numbers.items agent) }
+        ensures same { self.new ≡ self.old }
+        ensures plan { IfOk result (λ known. IsTrue known → IsKnownPlan (record { rule = self.old.problem.rule; paths = self.old.paths }) plan.new.numbers.items plan.new.meetings.items) }
+        ensures own { IfOk result (λ known. IsTrue known → HasOwnPath self.old set (slice_index plan.new.numbers.items agent)) }
+        ensures others { IfOk result (λ known. IsTrue known → (k : ℕ) → k ≢ agent → slice_index plan.new.numbers.items k ≡ slice_index plan.old.numbers.items k) }
+        ensures agents { IfOk result (λ known. IsTrue known → length plan.new.numbers.items ≡ length plan.old.numbers.items) }
+    {
+        if set == before {
+            return Ok(true);
+        }
+        let Some(number) = self.path_of(set) else {
+            return Ok(false);
+        };
+        turn_to(&mut self.paths, plan, agent, number)?;
         Ok(true)
     }
 
@@ -205,7 +246,8 @@ impl<'p> Book<'p> {
     fn paths_at(&self, node: &Node, sets: &[usize]) -> Result<Option<Vec<usize>>, NoMemory>
         requires node { IsBranching self.now.problem node.now }
         requires sets { AreSetsOf self.now.sets sets.now node.now.constraints }
-        ensures { IfOk result (λ found. IfSome found (λ paths. ArePathsOf self.now.paths paths.items node.now.plan)) }
+        ensures own { IfOk result (λ found. IfSome found (λ paths. AreOwnPaths self.now sets.now paths.items)) }
+        ensures paths { IfOk result (λ found. IfSome found (λ paths. ArePathsOf self.now.paths paths.items node.now.plan)) }
     {
         let mut paths = Vec::with_capacity(self.alloc, node.agents())?;
         for set in sets {
@@ -467,7 +509,7 @@ impl<'p> Book<'p> {
 
 /// Gives one agent of a plan the path of this number, where it has another one.
 #[inline(always)]
-fn turn_agent(
+fn turn_to(
     paths: &mut KnownPaths,
     plan: &mut KnownPlan,
     agent: usize,

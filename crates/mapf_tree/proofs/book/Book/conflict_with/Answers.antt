@@ -5,6 +5,7 @@ use Rattle.mapf_plan.specs.Plan.{path_of}
 use Rattle.mapf_plan.specs.KnownPaths.{plan_of}
 use Rattle.mapf_tree.specs.Nodes.{Changed, IsConflictOf}
 use Rattle.mapf_tree.specs.Book.{Book, IsKnownAt}
+use Rattle.mapf_tree.proofs.Books.{IsRemembered}
 use Rattle.mapf_tree.proofs.book.Book.conflict_with.Goals as goal
 
 pub returns-in-Some-clause-conflict : goal.returns-in-Some-clause-conflict
@@ -20,3 +21,6 @@ returns-in-Some-clause-conflict c =
     let plan : slice_set (plan_of paths.paths numbers) agent (path_of paths.paths c.args.number) ≡ slice_set node.plan change.agent change.path =
     ap₂ (λ l p. slice_set l agent p) front path ∙ ap (λ (x : Changed). slice_set node.plan x.agent change.path) c.change.view_is in
     subst₂ (λ r l. IfOk c.first_conflict_of_changed.result (IsConflictOf r l)) rule plan c.first_conflict_of_changed.ensures.conflict
+
+pub invariant_of-self : goal.invariant_of-self
+invariant_of-self c = subst (IsRemembered c.self.inside.problem.now c.self.inside.firsts.items c.self.inside.latest c.self.inside.changes.items c.self.inside.sets) (sym c.first_conflict_of_changed.ensures.known) c.self.invariant

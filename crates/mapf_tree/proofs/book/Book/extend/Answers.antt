@@ -3,6 +3,7 @@ use Rattle.std.specs.Prelude.{slice_index}
 use Rattle.mapf_tree.specs.Problem.{Problem}
 use Rattle.mapf_tree.specs.Book.{Book, HasSet, IsExtension}
 use Rattle.mapf_tree.proofs.ConstraintSets.{IsWith, with_same}
+use Rattle.mapf_tree.proofs.Books.{IsRemembered}
 use Rattle.mapf_tree.proofs.book.Book.extend.Goals as goal
 
 pub extend-requires : goal.extend-requires
@@ -21,3 +22,6 @@ extend-requires c =
       subst (λ a. HasSet c.args.self.now.sets c.args.set a q.constraints) (sym c.agent.ensures.agent) c.requires.set,
       with_same c.constraint.result (get_or node.constraints agent []) set.0 q.constraints (λ x. let one = set.2 x in (one.1, one.0)) more,
     )
+
+pub invariant_of-self : goal.invariant_of-self
+invariant_of-self c = subst (λ sets. IsRemembered c.self.inside.problem.now c.self.inside.firsts.items c.self.inside.latest c.self.inside.changes.items sets c.self.inside.paths) (sym c.extend.ensures) c.self.invariant

@@ -1,4 +1,4 @@
-use Rattle.std.proofs.Common.{◌≡◌, ℕ, ◌<◌, length}
+use Rattle.std.proofs.Common.{◌≡◌, ℕ, ◌<◌, ◌≤◌, length}
 use Rattle.std.specs.Prelude.{slice_index}
 use Rattle.mapf_plan.specs.KnownPaths.{IsKnownPlan}
 use Rattle.mapf_tree.specs.Book.{HasOwnPath}
@@ -10,3 +10,4 @@ invariant-loop-agent l =
     × IsKnownPlan (record { rule = l.fn.self.problem.rule; paths = l.fn.self.paths }) l.plan.numbers.items l.plan.meetings.items
     × (length l.plan.numbers.items ≡ length l.node.plan)
     × ((k : ℕ) → k < l.agent → HasOwnPath l.fn.self (slice_index l.sets k) (slice_index l.plan.numbers.items k))
+    × ((k : ℕ) → l.agent ≤ k → k < length l.node.plan → HasOwnPath l.fn.self (slice_index l.before k) (slice_index l.plan.numbers.items k))
