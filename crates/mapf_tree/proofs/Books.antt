@@ -22,7 +22,7 @@ use Rattle.mapf_tree.specs.declared.known_sets.KnownOwn.TheVariants.{Path, NoneW
 use Rattle.mapf_tree.specs.declared.known_sets.KnownSet.{KnownSet}
 use Rattle.mapf_tree.specs.Problem.{Problem}
 use Rattle.mapf_plan.specs.KnownPaths.{KnownPaths, IsKnownPlan}
-use Rattle.mapf_tree.specs.declared.book.AtNode.{AtNode}
+use Rattle.mapf_tree.specs.declared.book.at_node.AtNode.{AtNode}
 use Rattle.mapf_tree.specs.declared.shared_changes.SharedChange.{SharedChange}
 use Rattle.mapf_tree.specs.SharedChanges.{AreShared}
 use Rattle.mapf_tree.specs.Nodes.{Changed, Node, IsSameSet, IsConflictOf}

@@ -85,6 +85,7 @@ impl Node {
     }
 
     /// The node of this key and all else.
+    #[inline(always)]
     fn of(alloc: Global, key: Key, body: Body) -> Result<Node, NoMemory>
         requires { AgreesWith key.cost key.depth (node_of key.name body.root.value body.changes body.rule body.conflict) }
         ensures { IfOk result (λ n. n ≡ node_of key.name body.root.value body.changes body.rule body.conflict) }

@@ -162,6 +162,7 @@ impl<'p> OwnPaths<'p> {
     }
 
     /// The children on both sides, each of which is given or searched now.
+    #[inline(always)]
     fn children_or_search(
         &mut self,
         node: &Node,
@@ -181,6 +182,7 @@ impl<'p> OwnPaths<'p> {
     }
 
     /// The child on one side, which is known or searched now.
+    #[inline(always)]
     fn child_from(
         &mut self,
         node: &Node,

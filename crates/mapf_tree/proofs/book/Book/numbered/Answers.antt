@@ -4,7 +4,7 @@ use Rattle.std.proofs.lemmas.List.Elements.{All-weaker}
 use Rattle.mapf_plan.specs.KnownPaths.{KnownPaths}
 use Rattle.mapf_plan.proofs.PlanNumbers.{known_stays}
 use Rattle.mapf_tree.specs.Problem.{Problem}
-use Rattle.mapf_tree.specs.declared.book.AtNode.{AtNode}
+use Rattle.mapf_tree.specs.declared.book.at_node.AtNode.{AtNode}
 use Rattle.mapf_tree.specs.declared.known_sets.KnownSet.{KnownSet}
 use Rattle.mapf_tree.specs.declared.shared_changes.SharedChange.{SharedChange}
 use Rattle.mapf_tree.specs.SharedChanges.{IsShared}

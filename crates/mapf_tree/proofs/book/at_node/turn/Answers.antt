@@ -3,7 +3,7 @@ use Rattle.std.proofs.lemmas.Grind.{get_or_default_zero}
 use Rattle.mapf_tree.specs.Nodes.{Changed}
 use Rattle.mapf_tree.specs.Book.{IsExtended, AreSetsOf}
 use Rattle.mapf_tree.proofs.Books.{sets_turned_on}
-use Rattle.mapf_tree.proofs.book.turn.Goals as goal
+use Rattle.mapf_tree.proofs.book.at_node.turn.Goals as goal
 
 pub returns-in-Some : goal.returns-in-Some
 returns-in-Some c told cs are =

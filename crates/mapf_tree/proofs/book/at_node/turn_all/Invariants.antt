@@ -3,7 +3,7 @@ use Rattle.std.specs.Arc.{arc_value}
 use Rattle.mapf_low.specs.declared.constraint.Constraint.{Constraint}
 use Rattle.mapf_tree.specs.Nodes.{changed_sets}
 use Rattle.mapf_tree.specs.Book.{AreSetsOf}
-use Rattle.mapf_tree.proofs.book.turn_all.Given as goal
+use Rattle.mapf_tree.proofs.book.at_node.turn_all.Given as goal
 
 abbrev pub invariant-loop-change : goal.invariant-loop-change
 invariant-loop-change l =

@@ -3,7 +3,7 @@ use Rattle.std.specs.Arc.{arc_value}
 use Rattle.mapf_tree.specs.Nodes.{changed_sets}
 use Rattle.mapf_tree.specs.Book.{AreSetsOf}
 use Rattle.mapf_tree.proofs.Chains.{chain_more, chain_whole, changed_sets-push}
-use Rattle.mapf_tree.proofs.book.turn_all.Goals as goal
+use Rattle.mapf_tree.proofs.book.at_node.turn_all.Goals as goal
 
 pub loop-change-preserved : goal.loop-change-preserved
 loop-change-preserved c cs are =
