@@ -3,7 +3,7 @@ ghost use Rattle.std.specs.Arc.{arc_value};
 ghost use Rattle.mapf_grid.specs.Instance.{most_agents};
 ghost use Rattle.mapf_plan.specs.Path.{cost};
 ghost use Rattle.mapf_plan.specs.Plan.{path_of, plan_cost, most_bound};
-ghost use Rattle.mapf_tree.specs.Nodes.{Changed, changed_sets};
+ghost use Rattle.mapf_tree.specs.Nodes.{changed_sets};
 
 use crate::chain::Chain;
 use crate::change::Change;
