@@ -21,10 +21,8 @@ use Rattle.mapf_tree.specs.declared.known_sets.KnownOwn.{KnownOwn}
 use Rattle.mapf_tree.specs.declared.known_sets.KnownOwn.TheVariants.{Path, NoneWithin}
 use Rattle.mapf_tree.specs.declared.known_sets.KnownSet.{KnownSet}
 use Rattle.mapf_tree.specs.Problem.{Problem}
-use Rattle.mapf_plan.specs.KnownPaths.{KnownPaths, IsKnownPlan}
+use Rattle.mapf_plan.specs.KnownPaths.{IsKnownPlan}
 use Rattle.mapf_tree.specs.declared.book.at_node.AtNode.{AtNode}
-use Rattle.mapf_tree.specs.declared.shared_changes.SharedChange.{SharedChange}
-use Rattle.mapf_tree.specs.SharedChanges.{AreShared}
 use Rattle.mapf_tree.specs.Nodes.{Changed, Node, IsSameSet, IsConflictOf}
 use Rattle.mapf_tree.specs.Family.{IsBranching, IsChildOf, IsOwnWithin, Leaves}
 use Rattle.mapf_tree.specs.SideQuery.{SideQuery, IsQueryOf, IsFoundBy}
@@ -199,13 +197,6 @@ own_paths_kept old new sets numbers same keeps stays are = (are.0, λ k l. kept 
   where
     kept : (set number : ℕ) → HasOwnPath old set number → HasOwnPath new set number
     kept set number own = (own.0, own.1, own.2, keeps set own.0 own.1 own.3, stays number own.2 own.4, subst (λ p. IsOwnPathOf p own.0 own.1 own.2) (sym same) own.5)
-
--- all that a book remembers holds
-abbrev pub IsRemembered : Problem → List ℕ → Option AtNode → List (Option SharedChange) → List KnownSet → KnownPaths → Type 0
-IsRemembered problem firsts latest changes sets paths =
-    AreKnown problem paths.paths sets × AreFirst problem sets firsts × (paths.rule ≡ problem.rule)
-    × IfSome latest (λ at. IsKnownPlan paths at.plan.numbers.items at.plan.meetings.items × AreOwnPaths (record { problem = problem; sets = sets; paths = paths.paths }) at.sets.items at.plan.numbers.items)
-    × AreShared paths.paths changes
 
 -- how many agents a node of the tree has
 pub agents_at_node : (problem : Problem) (node : Node) → IsBranching problem node → length node.plan ≡ length problem.inst.starts

@@ -3,13 +3,16 @@ use Rattle.std.specs.Prelude.{◌≡◌, ◌⊎◌, ◌↔◌, ℕ, ◌<◌, ◌
 use Rattle.mapf_grid.specs.Instance.{most_agents}
 use Rattle.mapf_plan.specs.Plan.{path_of}
 use Rattle.mapf_plan.specs.declared.meetings.Meeting.{Meeting}
-use Rattle.mapf_plan.specs.KnownPaths.{AreNumbers, IsKnownPlan, plan_of}
+use Rattle.mapf_plan.specs.KnownPaths.{KnownPaths, AreNumbers, IsKnownPlan, plan_of}
 use Rattle.mapf_low.specs.declared.constraint.Constraint.{Constraint}
 use Rattle.mapf_tree.specs.declared.side.Side.{Side}
+use Rattle.mapf_tree.specs.declared.book.at_node.AtNode.{AtNode}
 use Rattle.mapf_tree.specs.declared.known_sets.Extension.{Extension}
 use Rattle.mapf_tree.specs.declared.known_sets.KnownOwn.{KnownOwn}
 use Rattle.mapf_tree.specs.declared.known_sets.KnownOwn.TheVariants.{Path, NoneWithin}
 use Rattle.mapf_tree.specs.declared.known_sets.KnownSet.{KnownSet}
+use Rattle.mapf_tree.specs.declared.shared_changes.SharedChange.{SharedChange}
+use Rattle.mapf_tree.specs.SharedChanges.{AreShared}
 use Rattle.mapf_tree.specs.Problem.{Problem}
 use Rattle.mapf_tree.specs.Tree.{IsOwnPathOf}
 use Rattle.mapf_tree.specs.Nodes.{Node, IsSameSet}
@@ -95,3 +98,10 @@ abbrev pub IsFoundAt : Book → Node → Side → Option ℕ → Type 0
 IsFoundAt book node side found =
     (q : SideQuery) × (q.problem ≡ book.problem) × (q.side ≡ side) × IsQueryOf node q × IfSome found (λ n. n < length book.paths) ×
     IsFoundBy q (option_map (λ n. path_of book.paths n) found)
+
+-- all that a book remembers holds, and its paths are compared by the problem's rule
+abbrev pub IsRemembered : Problem → List ℕ → Option AtNode → List (Option SharedChange) → List KnownSet → KnownPaths → Type 0
+IsRemembered problem firsts latest changes sets paths =
+    AreKnown problem paths.paths sets × AreFirst problem sets firsts × (paths.rule ≡ problem.rule)
+    × IfSome latest (λ at. IsKnownPlan paths at.plan.numbers.items at.plan.meetings.items × AreOwnPaths (record { problem = problem; sets = sets; paths = paths.paths }) at.sets.items at.plan.numbers.items)
+    × AreShared paths.paths changes

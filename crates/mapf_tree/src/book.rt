@@ -44,18 +44,13 @@ pub(crate) struct Book<'p> {
 }
 
 impl<'p> Model for Book<'p> {
-    ghost use Rattle.std.specs.Prelude.{◌≡◌, IfSome};
-    ghost use Rattle.mapf_plan.specs.KnownPaths.{IsKnownPlan};
-    ghost use Rattle.mapf_tree.specs.Book.{Book, AreKnown, AreFirst, AreOwnPaths};
-    ghost use Rattle.mapf_tree.specs.SharedChanges.{AreShared};
+    ghost use Rattle.mapf_tree.specs.Book.{Book, IsRemembered};
 
     ghost Value = { Book };
 
     ghost view = { λ b. record { problem = b.problem.now; sets = b.sets; paths = b.paths.paths } };
 
-    ghost invariant = { λ b. AreKnown b.problem.now b.paths.paths b.sets × AreFirst b.problem.now b.sets b.firsts.items × (b.paths.rule ≡ b.problem.now.rule)
-        × IfSome b.latest (λ at. IsKnownPlan b.paths at.plan.numbers.items at.plan.meetings.items
-        × AreOwnPaths (record { problem = b.problem.now; sets = b.sets; paths = b.paths.paths }) at.sets.items at.plan.numbers.items) × AreShared b.paths.paths b.changes.items };
+    ghost invariant = { λ b. IsRemembered b.problem.now b.firsts.items b.latest b.changes.items b.sets b.paths };
 }
 
 impl<'p> Book<'p> {

@@ -4,8 +4,7 @@ use Rattle.std.proofs.lemmas.Option.{get_or_from_slice_get}
 use Rattle.mapf_plan.specs.Plan.{path_of}
 use Rattle.mapf_plan.specs.KnownPaths.{plan_of}
 use Rattle.mapf_tree.specs.Nodes.{Changed, IsConflictOf}
-use Rattle.mapf_tree.specs.Book.{Book, IsKnownAt}
-use Rattle.mapf_tree.proofs.Books.{IsRemembered}
+use Rattle.mapf_tree.specs.Book.{IsRemembered, Book, IsKnownAt}
 use Rattle.mapf_tree.proofs.book.Book.conflict_with.Goals as goal
 
 pub returns-in-Some-clause-conflict : goal.returns-in-Some-clause-conflict

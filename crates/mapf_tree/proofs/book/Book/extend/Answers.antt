@@ -1,9 +1,8 @@
 use Rattle.std.proofs.Common.{◌<◌, [], get_or, length, subst, subst₂, sym, ap, arith}
 use Rattle.std.specs.Prelude.{slice_index}
 use Rattle.mapf_tree.specs.Problem.{Problem}
-use Rattle.mapf_tree.specs.Book.{Book, HasSet, IsExtension}
+use Rattle.mapf_tree.specs.Book.{IsRemembered, Book, HasSet, IsExtension}
 use Rattle.mapf_tree.proofs.ConstraintSets.{IsWith, with_same}
-use Rattle.mapf_tree.proofs.Books.{IsRemembered}
 use Rattle.mapf_tree.proofs.book.Book.extend.Goals as goal
 
 pub extend-requires : goal.extend-requires

@@ -1,8 +1,7 @@
 use Rattle.std.proofs.Common.{◌≡◌, ◌∙◌, subst, subst₂, sym, ap}
 use Rattle.std.specs.Prelude.{IfSome}
 use Rattle.mapf_plan.specs.KnownPaths.{IsKnownPlan}
-use Rattle.mapf_tree.specs.Book.{Book, AreOwnPaths, AreSetsOf, ArePathsOf}
-use Rattle.mapf_tree.proofs.Books.{IsRemembered}
+use Rattle.mapf_tree.specs.Book.{IsRemembered, Book, AreOwnPaths, AreSetsOf, ArePathsOf}
 use Rattle.mapf_tree.proofs.book.Book.looked_up.Goals as goal
 
 pub invariant_of-self : goal.invariant_of-self

@@ -8,7 +8,8 @@ use Rattle.mapf_tree.specs.declared.book.at_node.AtNode.{AtNode}
 use Rattle.mapf_tree.specs.declared.known_sets.KnownSet.{KnownSet}
 use Rattle.mapf_tree.specs.declared.shared_changes.SharedChange.{SharedChange}
 use Rattle.mapf_tree.specs.SharedChanges.{IsShared}
-use Rattle.mapf_tree.proofs.Books.{IsRemembered, known_kept, own_paths_kept, if_some}
+use Rattle.mapf_tree.specs.Book.{IsRemembered}
+use Rattle.mapf_tree.proofs.Books.{known_kept, own_paths_kept, if_some}
 use Rattle.mapf_tree.proofs.book.Book.numbered.Goals as goal
 
 -- all that is remembered stays so where each path keeps its number

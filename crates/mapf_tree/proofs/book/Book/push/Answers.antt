@@ -1,8 +1,8 @@
 use Rattle.std.proofs.Common.{ℕ, List, refl, subst, sym}
 use Rattle.mapf_low.specs.declared.constraint.Constraint.{Constraint}
 use Rattle.mapf_tree.specs.declared.known_sets.KnownSet.{KnownSet}
-use Rattle.mapf_tree.specs.Book.{Book, HasSet, IsKnownOwn}
-use Rattle.mapf_tree.proofs.Books.{IsRemembered, known_more, firsts_kept, set_kept, set_added, own_paths_kept, if_some}
+use Rattle.mapf_tree.specs.Book.{IsRemembered, Book, HasSet, IsKnownOwn}
+use Rattle.mapf_tree.proofs.Books.{known_more, firsts_kept, set_kept, set_added, own_paths_kept, if_some}
 use Rattle.mapf_tree.proofs.book.Book.push.Goals as goal
 
 pub invariant_of-self-2 : goal.invariant_of-self-2

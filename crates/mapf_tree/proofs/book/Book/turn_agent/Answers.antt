@@ -1,7 +1,6 @@
 use Rattle.std.proofs.Common.{subst, sym, ap, ◌∙◌, get_or-set_same, get_or-set_other}
 use Rattle.std.specs.Prelude.{slice_index}
-use Rattle.mapf_tree.specs.Book.{HasOwnPath}
-use Rattle.mapf_tree.proofs.Books.{IsRemembered}
+use Rattle.mapf_tree.specs.Book.{IsRemembered, HasOwnPath}
 use Rattle.mapf_tree.proofs.book.Book.turn_agent.Goals as goal
 
 pub returns-clause-own : goal.returns-clause-own
