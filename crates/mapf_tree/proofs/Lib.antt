@@ -27,6 +27,9 @@ pub mod Queries
 pub mod SameSets
 pub mod Books
 pub mod Rising
+pub mod Merged
+pub mod RunLists
+pub mod Least
 pub mod OpenNodes
 pub mod TurnLemmas
 pub mod Remaining

@@ -4,6 +4,7 @@ use Rattle.std.proofs.lemmas.List.Elements.{All-contains, All-from_recursion}
 use Rattle.mapf_grid.specs.Least.{Precedes, IsLeast}
 use Rattle.mapf_grid.proofs.Members.{here, there, here_or_there}
 use Rattle.mapf_grid.proofs.Ranks.{irreflexive, asymmetric}
+use Rattle.mapf_tree.proofs.Rising.{same_or_other}
 use Rattle.mapf_plan.specs.declared.conflict.Conflict.{Conflict}
 use Rattle.mapf_plan.specs.Plan.{plan_cost, HasNoConflict, IsFirstConflict}
 use Rattle.mapf_plan.proofs.Conflicts.{same_first}
@@ -61,7 +62,7 @@ module _ (p : Problem) (old new : List Node) (node : Node) (y : PlannedNode) (al
   added_shows : (m : PlannedNode) → HasNodeFor p new m ↔ (HasNodeFor p old m ⊎ (m ≡ y))
   added_shows m = (
     (λ s. ⊎_elim (λ i. inl (s.0, i, s.2)) (λ e. inr (same_stands p s.0 node m y s.2 is (ap node_key e))) (added.only s.0 s.1)),
-    ⊎_elim (λ s. (s.0, added.stay s.0 s.1, s.2)) with_key,
+    ⊎_elim (λ s. ⊎_elim (λ e. with_key (same_stands p s.0 node m y s.2 is e)) (λ o. (s.0, added.stay s.0 s.1 o, s.2)) (same_or_other (node_key s.0) (node_key node))) with_key,
   )
     where
       with_key : m ≡ y → HasNodeFor p new m

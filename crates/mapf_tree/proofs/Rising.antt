@@ -1,5 +1,5 @@
 -- Nodes in strict order by key, and a list of them with one node put in.
-use Rattle.std.proofs.Common.{◌≡◌, ℕ, List, [], ◌∷◌, Ordering, Less, Equal, Greater, nat_cmp, inl, inr, refl, subst, sym, ap, ◌∙◌, ⊎_elim, Contains}
+use Rattle.std.proofs.Common.{◌≡◌, ◌≢◌, ◌⊎◌, ℕ, List, [], ◌∷◌, Ordering, Less, Equal, Greater, nat_cmp, inl, inr, refl, subst, sym, ap, ◌∙◌, ⊎_elim, Contains}
 use Rattle.std.specs.BTreeSet.{replace_key, insert_key}
 use Rattle.std.specs.Cmp.{IsTotalOrder, nat_cmp_total, tied_itself}
 use Rattle.std.specs.Cmp.Lexicographic.{slice_cmp, lists_total}
@@ -23,14 +23,32 @@ total : IsTotalOrder (slice_cmp nat_cmp)
 total = lists_total nat_cmp_total
 
 -- each comparison's answer
-equal_ranks : (p q : List ℕ) → p ≡ q → slice_cmp nat_cmp p q ≡ Equal
+pub equal_ranks : (p q : List ℕ) → p ≡ q → slice_cmp nat_cmp p q ≡ Equal
 equal_ranks p q e = subst (λ r. slice_cmp nat_cmp p r ≡ Equal) e (tied_itself total p)
 
-lesser_rank : (p q : List ℕ) → Precedes p q → slice_cmp nat_cmp p q ≡ Less
+pub lesser_rank : (p q : List ℕ) → Precedes p q → slice_cmp nat_cmp p q ≡ Less
 lesser_rank p q h = (Precedes-slice_cmp p q).1 h
 
-greater_rank : (p q : List ℕ) → Precedes q p → slice_cmp nat_cmp p q ≡ Greater
+pub greater_rank : (p q : List ℕ) → Precedes q p → slice_cmp nat_cmp p q ≡ Greater
 greater_rank p q h = total.antisymm p q ∙ ap ordering_reverse (lesser_rank q p h)
+
+-- what an order of two ranks says of them
+abbrev pub Says : Ordering → List ℕ → List ℕ → Type 0
+Says Less p q = Precedes p q
+Says Equal p q = p ≡ q
+Says Greater p q = Precedes q p
+
+-- std's order says it
+pub says : (p q : List ℕ) (o : Ordering) → o ≡ slice_cmp nat_cmp p q → Says o p q
+says p q o is =
+    by_compare p q
+    (λ e. subst (λ x. Says x p q) (sym (is ∙ equal_ranks p q e)) e)
+    (λ h. subst (λ x. Says x p q) (sym (is ∙ lesser_rank p q h)) h)
+    (λ h. subst (λ x. Says x p q) (sym (is ∙ greater_rank p q h)) h)
+
+-- two ranks are one, or not
+pub same_or_other : (p q : List ℕ) → (p ≡ q) ⊎ (p ≢ q)
+same_or_other p q = by_compare p q inl (λ h. inr (before_is_other p q h)) (λ h. inr (λ e. before_is_other q p h (sym e)))
 
 -- nodes that std sorted come before one another
 all_after : (n : Node) (ns : List Node) → AllByRecursion (λ m. by_key n m ≡ Less) ns → AllByRecursion (λ m. Precedes (node_key n) (node_key m)) ns
@@ -51,7 +69,7 @@ in_front k ns all n = (
 )
 
 -- std's replacement puts the node in
-put_in : (ns : List Node) (k : Node) → IsRising ns → IsPut ns k (replace_key by_key ns k)
+pub put_in : (ns : List Node) (k : Node) → IsRising ns → IsPut ns k (replace_key by_key ns k)
 put_in [] k r = in_front k [] (λ n i. absurd (nowhere i))
 put_in (x ∷ xs) k r =
     by_compare (node_key k) (node_key x)
@@ -93,8 +111,8 @@ pub put_from : (old keys new : List Node) (k : Node) → keys ≡ old → IsRisi
 put_from old keys new k e r is = subst (λ xs. IsPut xs k new) e (subst (λ ys. IsPut keys k ys) (sym is) (put_in keys k r))
 
 -- std's insertion adds the node
-added_in : (ns : List Node) (k : Node) → IsAdded ns k (insert_key by_key ns k)
-added_in [] k = record { stay = λ n i. absurd (nowhere i); only = λ n c. ⊎_elim (λ e. inr (sym e)) (λ i. absurd (nowhere i)) (here_or_there [] c); key = (k, here [] refl, refl) }
+pub added_in : (ns : List Node) (k : Node) → IsAdded ns k (insert_key by_key ns k)
+added_in [] k = record { stay = λ n i o. absurd (nowhere i); only = λ n c. ⊎_elim (λ e. inr (sym e)) (λ i. absurd (nowhere i)) (here_or_there [] c); key = (k, here [] refl, refl) }
 added_in (x ∷ xs) k =
     by_compare (node_key k) (node_key x)
     (λ e. subst (λ o. IsAdded (x ∷ xs) k (placed o)) (sym (equal_ranks (node_key k) (node_key x) e)) (same e))
@@ -106,12 +124,12 @@ added_in (x ∷ xs) k =
 
     -- one with its key is there
     same : node_key k ≡ node_key x → IsAdded (x ∷ xs) k (x ∷ xs)
-    same e = record { stay = λ n i. i; only = λ n c. inl c; key = (x, here xs refl, sym e) }
+    same e = record { stay = λ n i o. i; only = λ n c. inl c; key = (x, here xs refl, sym e) }
 
     -- before all
     first : IsAdded (x ∷ xs) k (k ∷ x ∷ xs)
     first = record {
-      stay = λ n i. there (x ∷ xs) i;
+      stay = λ n i o. there (x ∷ xs) i;
       only = λ n c. ⊎_elim (λ e. inr (sym e)) (λ i. inl i) (here_or_there (x ∷ xs) c);
       key = (k, here (x ∷ xs) refl, refl);
     }
@@ -120,7 +138,7 @@ added_in (x ∷ xs) k =
     later : IsAdded xs k (insert_key by_key xs k) → IsAdded (x ∷ xs) k (x ∷ insert_key by_key xs k)
     later h =
         let new = insert_key by_key xs k in record {
-          stay = λ n i. ⊎_elim (λ e. here new e) (λ j. there new (h.stay n j)) (here_or_there xs i);
+          stay = λ n i o. ⊎_elim (λ e. here new e) (λ j. there new (h.stay n j o)) (here_or_there xs i);
           only = λ n c. ⊎_elim (λ e. inl (here xs e)) (λ j. ⊎_elim (λ i. inl (there xs i)) (λ e. inr e) (h.only n j)) (here_or_there new c);
           key = (h.key.0, there new h.key.1, h.key.2);
         }

@@ -10,6 +10,7 @@ pub mod Book
 pub mod SharedChanges
 pub mod Laws
 pub mod OpenList
+pub mod Runs
 pub mod Search
 pub mod Turns
 pub mod Worked

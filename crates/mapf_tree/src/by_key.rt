@@ -4,6 +4,7 @@ ghost use Rattle.std.specs.Ordering.{eq_by_cmp, as_partial_cmp, nat_cmp, on};
 ghost use Rattle.std.proofs.Common.{rules};
 ghost use Rattle.std.specs.Cmp.Rules.{comparing};
 ghost use Rattle.mapf_tree.specs.Nodes.{node_key};
+ghost use Rattle.mapf_tree.specs.Runs.{IsOrderOf};
 
 use crate::Node;
 use std::cmp::Ordering;
@@ -58,5 +59,16 @@ impl Ord for ByKey {
 
     fn cmp(&self, other: &ByKey) -> Ordering {
         self.node.key().cmp(other.node.key())
+    }
+}
+
+/// Which of two nodes comes first by key. A node comes before none, and where the first is none it is the second.
+pub(crate) fn order_of(first: Option<&Node>, second: Option<&Node>) -> Ordering
+    ensures { IsOrderOf first.entry second.entry result }
+{
+    match (first, second) {
+        (Some(first), Some(second)) => first.key().cmp(second.key()),
+        (Some(_), None) => Ordering::Less,
+        (None, _) => Ordering::Greater,
     }
 }

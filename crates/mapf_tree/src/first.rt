@@ -3,14 +3,13 @@ ghost use Rattle.std.specs.Iterator.{at_most};
 ghost use Rattle.mapf_tree.specs.OpenList.{GivesFirst};
 
 use crate::Node;
-use crate::by_key::ByKey;
-use std::collections::btree_set;
+use crate::open_nodes::OpenNodes;
 use std::marker::Model;
 
 /// The first waiting nodes, in the order of their keys.
 #[derive(Drop)]
 pub struct First<'a> {
-    nodes: btree_set::Iter<'a, ByKey>,
+    nodes: OpenNodes<'a>,
     left: usize,
 }
 
@@ -27,7 +26,7 @@ impl<'a> First<'a> {
     ghost use Rattle.std.specs.Prelude.{◌≡◌, take};
 
     /// The first so many of these nodes.
-    pub(crate) fn of(nodes: btree_set::Iter<'a, ByKey>, left: usize) -> First<'a>
+    pub(crate) fn of(nodes: OpenNodes<'a>, left: usize) -> First<'a>
         ensures { result ≡ take left nodes.entry }
     {
         First { nodes, left }
@@ -46,9 +45,6 @@ impl<'a> Iterator for First<'a> {
             return None;
         }
         self.left -= 1;
-        match self.nodes.next() {
-            Some(waits) => Some(&waits.node),
-            None => None,
-        }
+        self.nodes.next()
     }
 }

@@ -1,15 +1,25 @@
 ghost use Rattle.std.specs.Prelude.{◌≡◌, ◌↔◌, [], take, OnOk, IfErr, IsTrue};
+ghost use Rattle.mapf_tree.specs.OpenList.{IsTaken};
 
-use crate::by_key::ByKey;
+use crate::by_key::order_of;
+use crate::open_nodes::OpenNodes;
+use crate::rest::Rest;
+use crate::runs::Runs;
 use crate::{First, Node};
 use std::alloc::Global;
-use std::collections::BTreeSet;
+use std::cmp::Ordering;
 use std::marker::Model;
 
 /// The nodes that wait, in the order of their keys; no two have one key.
+///
+/// Parents are taken in this order, so that the children of a level come in it, too, where they cost what their parents cost, and
+/// those that cost more come in a few rising runs. Most nodes are put behind the last of a run, and no place is looked for.
 #[derive(Drop)]
 pub struct OpenList {
-    nodes: BTreeSet<ByKey>,
+    /// The nodes that came behind all of the runs with their cost and depth.
+    runs: Runs,
+    /// The others. A node of the runs that has the key of one of them waits no longer.
+    rest: Rest,
 }
 
 impl Model for OpenList {
@@ -18,22 +28,23 @@ impl Model for OpenList {
 
     ghost Value = { List Node };
 
-    ghost use Rattle.mapf_tree.specs.OpenList.{IsRising};
+    ghost use Rattle.mapf_tree.specs.OpenList.{IsRising, merged};
 
-    ghost view = { λ l. l.nodes.keys };
+    ghost view = { λ l. merged l.runs l.rest };
 
-    ghost invariant = { λ l. IsRising l.nodes.keys };
+    ghost invariant = { λ l. IsRising l.runs × IsRising l.rest };
 }
 
 impl OpenList {
-    ghost use Rattle.mapf_tree.specs.OpenList.{IsRising, IsPut, IsAdded, IsTaken};
+    ghost use Rattle.mapf_tree.specs.OpenList.{IsRising, IsPut, IsAdded};
 
     /// No node waits.
     pub fn new(alloc: Global) -> OpenList
         ensures { result ≡ [] }
     {
         OpenList {
-            nodes: BTreeSet::new(alloc),
+            runs: Runs::new(alloc),
+            rest: Rest::new(alloc),
         }
     }
 
@@ -41,7 +52,7 @@ impl OpenList {
     pub fn is_empty(&self) -> bool
         ensures { IsTrue result ↔ (self.now ≡ []) }
     {
-        self.nodes.is_empty()
+        self.runs.is_empty() && self.rest.is_empty()
     }
 
     /// Puts a node in at its place; a node that waits there with the same key goes.
@@ -53,13 +64,10 @@ impl OpenList {
         ensures err { IfErr result (λ _. self.new ≡ self.old) }
         ensures rising { IsRising self.new }
     {
-        match self.nodes.replace(ByKey { node }) {
-            Ok(_same_key) => Ok(()),
-            Err(refused) => Err(refused.value.node),
-        }
+        self.rest.put(node)
     }
 
-    /// Adds a node at its place, which is looked for once; where a node waits with the same key, that one stays and this one goes.
+    /// Adds a node at its place, which is looked for once. Where a node waits with the same key, one of the two stays.
     pub(crate) fn add(&mut self, node: Node) -> Result<(), Node>
         ensures ok { OnOk result (IsAdded self.old node self.new) }
 
@@ -67,9 +75,9 @@ impl OpenList {
         ensures back { IfErr result (λ n. n ≡ node) }
         ensures err { IfErr result (λ _. self.new ≡ self.old) }
     {
-        match self.nodes.insert(ByKey { node }) {
-            Ok(_is_new) => Ok(()),
-            Err(back) => Err(back.value.node),
+        match self.runs.push(node)? {
+            Some(node) => self.rest.add(node),
+            None => Ok(()),
         }
     }
 
@@ -78,9 +86,13 @@ impl OpenList {
         ensures taken { IsTaken self.old result self.new }
         ensures rising { IsRising self.old }
     {
-        match self.nodes.pop_first() {
-            Some(first) => Some(first.node),
-            None => None,
+        match order_of(self.runs.first(), self.rest.first()) {
+            Ordering::Less => self.runs.take_first(),
+            Ordering::Equal => {
+                let _passed_over = self.runs.take_first();
+                self.rest.take_first()
+            }
+            Ordering::Greater => self.rest.take_first(),
         }
     }
 
@@ -89,6 +101,6 @@ impl OpenList {
         ensures first { result ≡ take count self.now }
         ensures rising { IsRising self.now }
     {
-        First::of(self.nodes.iter(), count)
+        First::of(OpenNodes::of(self.runs.iter(), self.rest.iter()), count)
     }
 }

@@ -34,3 +34,6 @@ loop-node-preserved c = record {
   live = c.loop-node.invariant.live;
   jobs = c.loop-node.invariant.jobs;
 }
+
+pub post_sides-requires-clause-jobs : goal.post_sides-requires-clause-jobs
+post_sides-requires-clause-jobs c = subst (λ p. AreSidesOf p (currents c.loop-node.desk.owner)) (sym (c.place_for.ensures ∙ c.loop-node.invariant.problem)) c.loop-node.invariant.jobs
