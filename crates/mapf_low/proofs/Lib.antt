@@ -25,7 +25,7 @@ mod Searching
 mod ClassLists
 mod Found
 mod Chains
-mod StatePairs
+mod StateTables
 mod OutOfReach
 mod Placing
 mod BackwardCosts

@@ -82,7 +82,7 @@ module _ (query : Query) (end : ℕ) where
   }
     where
       alive : (k : ℕ) → t + 1 ≤ k → (v : ℕ) → ¬ Contains dead (v, k) → ¬ Contains new (v, k)
-      alive k m v f i = pick ((joined (v, k)).0 i)
+      alive k m v f i = pick (joined (v, k) i)
         where
           pick : Contains dead (v, k) ⊎ ◌≡◌ {A = ℕ × ℕ} (cell, t) (v, k) → ⊥
           pick (inl j) = f j
@@ -134,7 +134,7 @@ module _ (query : Query) (dead : List (ℕ × ℕ)) (t cell : ℕ) (posed : IsPo
 
   -- so it is a dead end
   pub dead_more : (new : List (ℕ × ℕ)) → IsJoined (cell, t + 1) dead new → AreDead query new
-  dead_more new joined v s i = pick ((joined (v, s)).0 i)
+  dead_more new joined v s i = pick (joined (v, s) i)
     where
       pick : Contains dead (v, s) ⊎ ◌≡◌ {A = ℕ × ℕ} (cell, t + 1) (v, s) → ¬ CanBe query s v
       pick (inl i) = out v s i

@@ -1,6 +1,6 @@
 -- A search backwards from the goal: where an agent may be at a time step, and what isn't ruled out yet. Its query's table has
 -- the distances to the start.
-use Rattle.std.specs.Prelude.{◌≡◌, ◌⊎◌, ◌↔◌, ℕ, zero, suc, ◌+◌, ◌≤◌, List, Option, MatchOption, Contains}
+use Rattle.std.specs.Prelude.{◌≡◌, ◌⊎◌, ℕ, zero, suc, ◌+◌, ◌≤◌, List, Option, MatchOption, Contains}
 use Rattle.mapf_low.specs.declared.constraint.Constraint.TheVariants.{Vertex, Edge}
 use Rattle.mapf_low.specs.Query.{Query}
 use Rattle.mapf_low.specs.Reached.{ComesFrom, IsReconstructed}
@@ -11,9 +11,9 @@ pub record DeadEnds : Type 0 where
   pub states : List (ℕ × ℕ)
   pub room : ℕ
 
--- the new states are the old ones and this one
+-- each new state is an old one or this one; an older state may be forgotten, which costs a second look at it and nothing else
 abbrev pub IsJoined : ℕ × ℕ → List (ℕ × ℕ) → List (ℕ × ℕ) → Type 0
-IsJoined state old new = (s : ℕ × ℕ) → Contains new s ↔ (Contains old s ⊎ (state ≡ s))
+IsJoined state old new = (s : ℕ × ℕ) → Contains new s → Contains old s ⊎ (state ≡ s)
 
 -- some list of steps from the start leads to v at time t, and breaks no constraint up to then
 abbrev pub CanBe : Query → ℕ → ℕ → Type 0

@@ -1,15 +1,16 @@
 ghost use Rattle.std.specs.Prelude.{◌≡◌, ◌↔◌, ◌+◌, ◌<◌, [], IsTrue, OnOk, Contains};
 ghost use Rattle.mapf_low.specs.Backwards.{IsJoined};
 
-use indexmap::IndexSet;
+use crate::state_table::StateTable;
 use mapf_grid::{Cell, NoMemory};
 use std::alloc::Global;
 use std::marker::Model;
 
-/// States, cells at time steps, that an agent can't be in, and how many more may join them.
+/// States, cells at time steps, that an agent can't be in, and how many more may join them. An older one may be forgotten for a
+/// newer one: the search then only turns back from it once more.
 #[derive(Drop)]
 pub struct DeadEnds {
-    states: IndexSet<(Cell, u32)>,
+    states: StateTable,
     room: usize,
 }
 
@@ -18,7 +19,7 @@ impl Model for DeadEnds {
 
     ghost Value = { DeadEnds };
 
-    ghost view = { λ d. record { states = d.states.keys; room = d.room } };
+    ghost view = { λ d. record { states = d.states; room = d.room } };
 }
 
 impl DeadEnds {
@@ -28,7 +29,7 @@ impl DeadEnds {
         ensures room { result.room ≡ room }
     {
         DeadEnds {
-            states: IndexSet::new(alloc),
+            states: StateTable::new(alloc),
             room,
         }
     }
@@ -45,16 +46,16 @@ impl DeadEnds {
     pub fn contains(&self, cell: Cell, time: u32) -> bool
         ensures { IsTrue result ↔ Contains self.now.states (cell, time) }
     {
-        !self.states.is_empty() && self.states.contains(&(cell, time))
+        self.states.contains(cell, time)
     }
 
-    /// Adds the cell at this time step to the states.
+    /// Adds the cell at this time step to the states, where another may be forgotten.
     pub fn add(&mut self, cell: Cell, time: u32) -> Result<(), NoMemory>
         requires { 0 < self.old.room }
         ensures states { OnOk result (IsJoined (cell, time) self.old.states self.new.states) }
         ensures room { OnOk result (self.new.room + 1 ≡ self.old.room) }
     {
-        self.states.insert((cell, time))?;
+        self.states.add(cell, time)?;
         self.room -= 1;
         Ok(())
     }

@@ -22,6 +22,7 @@ mod query;
 mod reached;
 mod reconstruction;
 mod search;
+mod state_table;
 mod states;
 mod taken;
 mod time;

@@ -32,7 +32,7 @@ pub struct SideQuery<'p> {
 }
 
 /// So many dead ends a search backwards may meet before it is given up.
-const MOST_DEAD_ENDS: usize = 100;
+const MOST_DEAD_ENDS: usize = 1_000;
 
 impl<'p> Model for SideQuery<'p> {
     ghost use Rattle.std.specs.Prelude.{◌<◌, ◌≤◌, length};

@@ -28,6 +28,10 @@ returns-in_default c =
     (none_far c.new-query.result c.new-query.ensures.posed
     (subst (λ (q : Query). distance_at q.table q.goal ≡ None) (sym c.new-query.ensures.asks) (sym c.get.ensures.value ∙ c.in_default.is)))
 
+pub trace-requires-clause-left : goal.trace-requires-clause-left
+trace-requires-clause-left c =
+    subst (IsLeft c.new-query.result c.loop-end.dead.states c.loop-end.end) (ap (λ (q : Query). q.goal) (sym c.new-query.ensures.asks)) (c.is_left.ensures.0 c.if-is_left.true)
+
 pub returns-in-Some-Some : goal.returns-in-Some-Some
 returns-in-Some-Some c =
     let query = c.new-query.result in
