@@ -2,7 +2,7 @@
 use Rattle.std.proofs.Common.{◌≡◌, ℕ, zero, suc, ◌<◌, ◌≤◌, ◌+◌, List, max, Some, None, MatchOption, subst, arith}
 use Rattle.mapf_grid.proofs.Decide.{up_to}
 use Rattle.mapf_plan.specs.Path.{cost}
-use Rattle.mapf_low.specs.Backwards.{CanBe}
+use Rattle.mapf_low.specs.Backwards.{CanBe, HasNoneBefore}
 use Rattle.mapf_low.specs.Constraints.{IsAllowed}
 use Rattle.mapf_low.specs.OwnPath.{IsOwnPath}
 use Rattle.mapf_low.specs.Query.{Query, IsPosed, MayEnd}
@@ -10,10 +10,6 @@ use Rattle.mapf_low.specs.Reached.{EndsAt, IsReconstructed}
 use Rattle.mapf_low.specs.Walk.{distance_at}
 use Rattle.mapf_low.proofs.Arrivals.{is_allowed, own_path, none_arrives}
 use Rattle.mapf_low.proofs.OutOfReach.{can_near, can_be_at, can_covering, trail}
-
--- no list of steps of a lower cost can end on the goal, up to the limit
-abbrev pub HasNoneBefore : Query → ℕ → Type 0
-HasNoneBefore query end = (t : ℕ) → t < end → t ≤ query.limit → ¬ EndsAt query (CanBe query) t
 
 module _ (query : Query) (posed : IsPosed query query.start) where
   -- nor at one cost more

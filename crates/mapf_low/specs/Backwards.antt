@@ -1,9 +1,9 @@
 -- A search backwards from the goal: where an agent may be at a time step, and what isn't ruled out yet. Its query's table has
 -- the distances to the start.
-use Rattle.std.specs.Prelude.{◌≡◌, ◌⊎◌, ℕ, zero, suc, ◌+◌, ◌≤◌, List, Option, MatchOption, Contains}
+use Rattle.std.specs.Prelude.{◌≡◌, ◌⊎◌, ℕ, zero, suc, ◌+◌, ◌<◌, ◌≤◌, List, Option, MatchOption, Contains}
 use Rattle.mapf_low.specs.declared.constraint.Constraint.TheVariants.{Vertex, Edge}
 use Rattle.mapf_low.specs.Query.{Query}
-use Rattle.mapf_low.specs.Reached.{ComesFrom, IsReconstructed}
+use Rattle.mapf_low.specs.Reached.{ComesFrom, EndsAt, IsReconstructed}
 use Rattle.mapf_low.specs.Walk.{distance_at}
 
 -- cells at time steps that are known to be out of reach, and how many more may join them
@@ -40,3 +40,7 @@ IsTraced query end found =
     MatchOption found
     (¬ CanBe query end query.goal)
     (λ p. IsReconstructed query (CanBe query) p 0 end × CanBe query end query.goal)
+
+-- no list of steps of a lower cost can end on the goal, up to the limit
+abbrev pub HasNoneBefore : Query → ℕ → Type 0
+HasNoneBefore query end = (t : ℕ) → t < end → t ≤ query.limit → ¬ EndsAt query (CanBe query) t

@@ -1,16 +1,20 @@
-ghost use Rattle.std.specs.Prelude.{◌≡◌, ◌↔◌, ℕ, ◌+◌, ◌<◌, ◌≤◌, IsTrue, Some};
+ghost use Rattle.std.specs.Prelude.{◌≡◌, ◌↔◌, ℕ, ◌+◌, ◌<◌, ◌≤◌, IsTrue, IfOk, MatchOption, Contains, Some};
 ghost use Rattle.mapf_grid.specs.Grid.{cells, IsFree};
-ghost use Rattle.mapf_low.specs.Walk.{AreDistances};
+ghost use Rattle.mapf_low.specs.declared.constraint.Constraint.{Constraint};
+ghost use Rattle.mapf_low.specs.Walk.{AreDistances, distance_at};
 ghost use Rattle.mapf_low.specs.Best.{IsSmallest};
 ghost use Rattle.mapf_low.specs.Query.{IsPosed, MayEnd};
 ghost use Rattle.mapf_low.specs.Reached.{ComesFrom};
 ghost use Rattle.mapf_low.specs.Backwards.{IsLeft, MayLead};
+ghost use Rattle.mapf_low.specs.Times.{IsQuiet};
 ghost use Rattle.mapf_plan.specs.Plan.{most_bound};
 
+use crate::busy::{busy_times, is_busy};
 use crate::dead_ends::DeadEnds;
 use crate::time::is_past;
 use crate::{Constraints, Distances};
-use mapf_grid::{Cell, Map};
+use mapf_grid::{Cell, Map, NoMemory};
+use std::alloc::Global;
 use std::marker::Model;
 
 /// What a search backwards is asked: one agent's own path from its start to its goal on a map, under constraints, at a cost
@@ -23,51 +27,56 @@ pub struct BackwardQuery<'a> {
     /// Read by contracts alone: a cell at distance 0 from the start is the start.
     start: Cell,
     goal: Cell,
-    /// Read by contracts alone.
     limit: u32,
+    /// Of which time steps, up to the limit, there is a constraint.
+    busy_times: Vec<bool>,
     /// The last time step at which the goal is forbidden.
     last: Option<u32>,
 }
 
 impl<'a> Model for BackwardQuery<'a> {
     ghost use Rattle.mapf_low.specs.Query.{Query, IsPrepared};
+    ghost use Rattle.mapf_low.specs.Times.{AreMarked};
 
     ghost Value = { Query };
 
     ghost view = { λ q. record { grid = q.map.now; table = q.from_start.now; constraints = q.constraints.now; start = q.start; goal = q.goal; limit = q.limit } };
 
-    ghost invariant = { λ q. IsPrepared (record { grid = q.map.now; table = q.from_start.now; constraints = q.constraints.now; start = q.start; goal = q.goal; limit = q.limit }) q.start q.last };
+    ghost invariant = { λ q. IsPrepared (record { grid = q.map.now; table = q.from_start.now; constraints = q.constraints.now; start = q.start; goal = q.goal; limit = q.limit }) q.start q.last × AreMarked q.constraints.now q.limit q.busy_times.items };
 }
 
 impl<'a> BackwardQuery<'a> {
     /// Asks for the own path between two cells; `from_start` are the distances to the start on this map.
     pub fn new(
+        alloc: Global,
         map: &'a Map,
         from_start: &'a Distances,
         start: Cell,
         goal: Cell,
         constraints: &'a Constraints,
         limit: u32,
-    ) -> BackwardQuery<'a>
+    ) -> Result<BackwardQuery<'a>, NoMemory>
         requires start { IsFree map.now start }
         requires goal { IsFree map.now goal }
         requires from_start { AreDistances map.now start from_start.now }
         requires limit { limit ≤ most_bound }
-        ensures asks { result ≡ record { grid = map.now; table = from_start.now; constraints = constraints.now; start = start; goal = goal; limit = limit } }
-        ensures posed { IsPosed result result.start }
+        ensures asks { IfOk result (λ q. q ≡ record { grid = map.now; table = from_start.now; constraints = constraints.now; start = start; goal = goal; limit = limit }) }
+        ensures posed { IfOk result (λ q. IsPosed q q.start) }
     {
         // A map's sizes are known from a call alone.
         let _width = map.width();
         let last = constraints.last_time_at(goal);
-        BackwardQuery {
+        let busy_times = busy_times(alloc, constraints, limit)?;
+        Ok(BackwardQuery {
             map,
             from_start,
             constraints,
             start,
             goal,
             limit,
+            busy_times,
             last,
-        }
+        })
     }
 
     /// Where the agent ends.
@@ -78,6 +87,13 @@ impl<'a> BackwardQuery<'a> {
         self.goal
     }
 
+    /// What its path may cost at most.
+    pub fn limit(&self) -> u32
+        ensures { result ≡ self.now.limit }
+    {
+        self.limit
+    }
+
     /// Whether nothing forbids the goal from this time step on.
     pub fn may_end(&self, time: u32) -> bool
         ensures { IsTrue result ↔ MayEnd self.now time }
@@ -85,33 +101,71 @@ impl<'a> BackwardQuery<'a> {
         is_past(self.last, time)
     }
 
+    /// Whether the marks tell that no constraint is of this time step or the next.
+    fn is_quiet(&self, time: u32) -> bool
+        ensures { IsTrue result → IsQuiet self.now.constraints time }
+    {
+        time < self.limit
+            && !is_busy(&self.busy_times, time)
+            && !is_busy(&self.busy_times, time + 1)
+    }
+
+    /// Whether a walk from the start to the cell has at most so many steps.
+    #[inline]
+    fn is_near(&self, cell: Cell, time: u32) -> bool
+        ensures { IsTrue result ↔ MatchOption (distance_at self.now.table cell) ⊥ (λ n. n ≤ time) }
+    {
+        match self.from_start.get(cell) {
+            Some(distance) => distance <= time,
+            None => false,
+        }
+    }
+
     /// Whether nothing rules out so far that the agent is on the cell at this time step: the start is near enough, the cell
     /// is not forbidden, and the state is no dead end.
-    #[inline]
     pub fn is_left(&self, dead: &DeadEnds, cell: Cell, time: u32) -> bool
         ensures { IsTrue result ↔ IsLeft self.now dead.now.states time cell }
     {
-        match self.from_start.get(cell) {
-            Some(distance) => {
-                distance <= time
-                    && self.constraints.allows_at(cell, time)
-                    && !dead.contains(cell, time)
-            }
-            None => false,
-        }
+        self.is_near(cell, time)
+            && self.constraints.allows_at(cell, time)
+            && !dead.contains(cell, time)
+    }
+
+    /// Whether no constraint forbids to be on `from` at this time step and to step from there to `to`. `quiet` says that none is
+    /// of this time step or the next, and then none is looked up.
+    #[inline]
+    fn allows(&self, from: Cell, to: Cell, time: u32, quiet: bool) -> bool
+        requires early { time < most_bound }
+        requires quiet { IsTrue quiet → IsQuiet self.now.constraints time }
+        ensures { IsTrue result
+            ↔ ((¬ Contains self.now.constraints (Constraint.Vertex from time))
+            × (¬ Contains self.now.constraints (Constraint.Edge from to (time + 1)))) }
+    {
+        quiet
+            || (self.constraints.allows_at(from, time)
+                && self.constraints.allows_step(from, to, time + 1))
     }
 
     /// The cell `from`, where there is one, if nothing rules out so far that the agent is there at this time step, and nothing
     /// forbids the step from there to `to`.
     #[inline]
-    fn if_left(&self, dead: &DeadEnds, from: Option<Cell>, to: Cell, time: u32) -> Option<Cell>
-        requires { time < most_bound }
+    fn if_left(
+        &self,
+        dead: &DeadEnds,
+        from: Option<Cell>,
+        to: Cell,
+        time: u32,
+        quiet: bool,
+    ) -> Option<Cell>
+        requires early { time < most_bound }
+        requires quiet { IsTrue quiet → IsQuiet self.now.constraints time }
         ensures { (v : ℕ) → (result ≡ Some v) ↔ ((from ≡ Some v) × MayLead self.now dead.now.states time v to) }
     {
         match from {
             Some(cell)
-                if self.is_left(dead, cell, time)
-                    && self.constraints.allows_step(cell, to, time + 1) => { Some(cell) }
+                if self.is_near(cell, time)
+                    && self.allows(cell, to, time, quiet)
+                    && !dead.contains(cell, time) => { Some(cell) }
             _ => None,
         }
     }
@@ -124,23 +178,24 @@ impl<'a> BackwardQuery<'a> {
         requires early { time < most_bound }
         ensures { IsSmallest (ComesFrom self.now (time + 1) (IsLeft self.now dead.now.states time) to) result }
     {
+        let quiet = self.is_quiet(time);
         // The sides in ascending order of their numbers, with the cell itself in the middle.
-        let above = self.if_left(dead, self.map.free_above(to), to, time);
+        let above = self.if_left(dead, self.map.free_above(to), to, time, quiet);
         if above.is_some() {
             return above;
         }
-        let at_left = self.if_left(dead, self.map.free_at_left(to), to, time);
+        let at_left = self.if_left(dead, self.map.free_at_left(to), to, time, quiet);
         if at_left.is_some() {
             return at_left;
         }
-        let stays = self.if_left(dead, Some(to), to, time);
+        let stays = self.if_left(dead, Some(to), to, time, quiet);
         if stays.is_some() {
             return stays;
         }
-        let at_right = self.if_left(dead, self.map.free_at_right(to), to, time);
+        let at_right = self.if_left(dead, self.map.free_at_right(to), to, time, quiet);
         if at_right.is_some() {
             return at_right;
         }
-        self.if_left(dead, self.map.free_below(to), to, time)
+        self.if_left(dead, self.map.free_below(to), to, time, quiet)
     }
 }

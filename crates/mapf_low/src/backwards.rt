@@ -1,8 +1,9 @@
 ghost use Rattle.std.specs.Prelude.{◌≡◌, ℕ, ◌≤◌, List, IfOk, OnOk, IfSome, MatchOption};
 ghost use Rattle.mapf_grid.specs.Grid.{IsFree};
-ghost use Rattle.mapf_low.specs.Backwards.{CanBe, IsLeft, AreDead, IsTraced};
+ghost use Rattle.mapf_low.specs.Backwards.{IsLeft, AreDead, IsTraced, HasNoneBefore};
 ghost use Rattle.mapf_low.specs.Constraints.{IsAllowed};
 ghost use Rattle.mapf_low.specs.OwnPath.{IsOwnPath};
+ghost use Rattle.mapf_low.specs.Query.{IsFound};
 ghost use Rattle.mapf_low.specs.Walk.{AreDistances};
 ghost use Rattle.mapf_plan.specs.Path.{cost};
 ghost use Rattle.mapf_plan.specs.Plan.{most_bound};
@@ -63,6 +64,33 @@ fn trace(
     Ok(Some(Some(Path::of(replace(cells, Vec::new(alloc))))))
 }
 
+/// The own path that is asked for, which costs at least `first`: what a list of steps of the first cost gives at which one
+/// leads to the goal, and may end there. `None`, if more than `budget` dead ends were met.
+fn first_traced(
+    alloc: Global,
+    query: &BackwardQuery,
+    first: u32,
+    budget: usize,
+) -> Result<Option<Option<Path>>, NoMemory>
+    requires { HasNoneBefore query.now first }
+    ensures { IfOk result (λ answer. IfSome answer (IsFound query.now)) }
+{
+    let goal = query.goal();
+    let limit = query.limit();
+    let mut dead = DeadEnds::new(alloc, budget);
+    let mut cells = Vec::new(alloc);
+    for end in first..limit + 1 {
+        if query.may_end(end) && query.is_left(&dead, goal, end) {
+            match trace(alloc, query, end, &mut dead, &mut cells)? {
+                None => return Ok(None),
+                Some(Some(path)) => return Ok(Some(Some(path))),
+                Some(None) => {}
+            }
+        }
+    }
+    Ok(Some(None))
+}
+
 /// An agent's own path, as [`crate::cheapest`] gives it, by a search backwards: for a rising cost, from the goal at that time
 /// step to the start at time 0. Where it meets no dead end it visits one state a time step.
 ///
@@ -90,21 +118,9 @@ pub fn cheapest_backwards(
         ((p : List ℕ) → ¬ IsAllowed map.now start goal bound constraints.now p)
         (IsOwnPath map.now start goal bound constraints.now))) }
 {
-    let query = BackwardQuery::new(map, from_start, start, goal, constraints, bound);
+    let query = BackwardQuery::new(alloc, map, from_start, start, goal, constraints, bound)?;
     let Some(nearest) = from_start.get(goal) else {
         return Ok(Some(None));
     };
-    let first = least.max(nearest);
-    let mut dead = DeadEnds::new(alloc, budget);
-    let mut cells = Vec::new(alloc);
-    for end in first..bound + 1 {
-        if query.may_end(end) && query.is_left(&dead, goal, end) {
-            match trace(alloc, &query, end, &mut dead, &mut cells)? {
-                None => return Ok(None),
-                Some(Some(path)) => return Ok(Some(Some(path))),
-                Some(None) => {}
-            }
-        }
-    }
-    Ok(Some(None))
+    first_traced(alloc, &query, least.max(nearest), budget)
 }

@@ -1,6 +1,5 @@
-use Rattle.mapf_low.specs.Backwards.{AreDead}
-use Rattle.mapf_low.proofs.BackwardCosts.{HasNoneBefore}
-use Rattle.mapf_low.proofs.backwards.cheapest_backwards.Given as goal
+use Rattle.mapf_low.specs.Backwards.{AreDead, HasNoneBefore}
+use Rattle.mapf_low.proofs.backwards.first_traced.Given as goal
 
 abbrev pub invariant-loop-end : goal.invariant-loop-end
 invariant-loop-end l =
