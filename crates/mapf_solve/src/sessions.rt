@@ -1,6 +1,7 @@
 //! Sessions: the owner of a live board takes nodes, and workers beside it work out children of nodes that wait.
 
 mod ahead;
+mod clear;
 mod coordinator;
 mod course;
 mod desk;

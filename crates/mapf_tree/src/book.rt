@@ -152,10 +152,9 @@ impl<'p> Book<'p> {
     ) -> Option<SideExtensions> {
         let at = at.as_ref()?;
         let conflict = conflict.as_ref()?;
-        Some(SideExtensions {
-            left: self.known_on(at, change, conflict, Side::Left)?,
-            right: self.known_on(at, change, conflict, Side::Right)?,
-        })
+        let left = self.known_on(at, change, conflict, Side::Left)?;
+        let right = self.known_on(at, change, conflict, Side::Right)?;
+        SideExtensions::of(left, right)
     }
 
     /// That for one side.

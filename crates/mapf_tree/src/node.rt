@@ -158,7 +158,7 @@ impl Node {
 
     /// The number that the extension for a side of its conflict may have among those that are known; nothing rests on it.
     pub(crate) fn extension_on(&self, side: Side) -> Option<usize> {
-        Some(self.body.extensions?.of(side))
+        Some(self.body.extensions?.on(side))
     }
 
     /// The key one turn further, where an agent has another path; the old one's cost is given.

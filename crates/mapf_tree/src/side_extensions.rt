@@ -2,18 +2,28 @@ use crate::Side;
 
 /// The numbers that the extensions for the two sides of a node's conflict may have among those that are known; nothing rests on
 /// them.
+///
+/// They are kept short, since each node that waits has them.
 #[derive(Clone, Copy, Debug, PartialEq, Eq)]
 pub(crate) struct SideExtensions {
-    pub(crate) left: usize,
-    pub(crate) right: usize,
+    left: u32,
+    right: u32,
 }
 
 impl SideExtensions {
+    /// These numbers; none where one is 2^32 or more.
+    pub(crate) fn of(left: usize, right: usize) -> Option<SideExtensions> {
+        Some(SideExtensions {
+            left: u32::try_from(left).ok()?,
+            right: u32::try_from(right).ok()?,
+        })
+    }
+
     /// That of a side.
-    pub(crate) fn of(&self, side: Side) -> usize {
+    pub(crate) fn on(&self, side: Side) -> usize {
         match side {
-            Side::Left => self.left,
-            Side::Right => self.right,
+            Side::Left => self.left as usize,
+            Side::Right => self.right as usize,
         }
     }
 }

@@ -1,6 +1,6 @@
 //! The coordinator of a session, who posts jobs on a live board and takes back what becomes of them.
 
-ghost use Rattle.std.specs.Prelude.{◌≡◌, ◌≤◌, All, IfOk, IfSome, IsSome, IsTrue, Ok, None};
+ghost use Rattle.std.specs.Prelude.{◌≡◌, ◌≤◌, All, IfOk, IfSome, Ok, None};
 ghost use Rattle.mapf_board.specs.Owners.{currents};
 ghost use Rattle.mapf_board.specs.declared.limits.TheConstants.{MOST_WORKERS};
 ghost use Rattle.mapf_tree.specs.Nodes.{AllStand};
@@ -9,6 +9,7 @@ ghost use Rattle.mapf_tree.specs.Search.{TakesBetween};
 ghost use Rattle.mapf_solve.specs.Ahead.{AreSidesOf, IsGivenOf, IsKnownOf};
 
 use crate::sessions::ahead::{Ahead, Known};
+use crate::sessions::clear::{Clear, may_have_jobs};
 use crate::sessions::desk::Desk;
 use crate::sessions::made::Made;
 use crate::sessions::ready::Ready;
@@ -69,6 +70,10 @@ impl<'p> Coordinator<'p> {
         ensures jobs { AreSidesOf self.old.ahead (currents desk.new.owner) }
     {
         self.collect_all(desk);
+        if self.ready.is_clear() {
+            return;
+        }
+        self.ready.note_clear(Clear::of(waiting, self.nodes));
         let mut below = None;
         for node in waiting.first(self.nodes) {
             if may_have_jobs(node) {
@@ -296,11 +301,4 @@ impl<'p> Coordinator<'p> {
             known => known,
         }
     }
-}
-
-/// Whether a node's plan has a conflict, and the path of a child of it was not known when the node was made.
-fn may_have_jobs(node: &Node) -> bool
-    ensures { IsTrue result → IsSome node.now.conflict }
-{
-    node.conflict().is_some() && !node.has_known_sides()
 }

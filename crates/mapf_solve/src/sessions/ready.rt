@@ -6,6 +6,7 @@ ghost use Rattle.mapf_tree.specs.SideQuery.{IsFromStart};
 ghost use Rattle.mapf_solve.specs.Ahead.{IsKnownOf};
 
 use crate::sessions::ahead::Known;
+use crate::sessions::clear::Clear;
 use crate::sessions::side_job::Worked;
 use mapf_grid::NoMemory;
 use mapf_tree::{Children, FromStart, KnownChildren, Node, OpenList, OwnPaths, Problem, Side};
@@ -22,6 +23,8 @@ pub(crate) struct Ready<'p> {
     own_paths: OwnPaths<'p>,
     left: Known<'p>,
     right: Known<'p>,
+    /// Until when nothing is to be posted.
+    clear: Clear,
 }
 
 impl<'p> Model for Ready<'p> {
@@ -44,7 +47,22 @@ impl<'p> Ready<'p> {
             own_paths: OwnPaths::new(alloc, problem)?,
             left: Known::Nothing,
             right: Known::Nothing,
+            clear: Clear::none(),
         })
+    }
+
+    /// Whether nothing is to be posted in this turn, since the first waiting nodes are known to have no jobs.
+    pub(crate) fn is_clear(&mut self) -> bool
+        ensures { self.new ≡ self.old }
+    {
+        self.clear.passes()
+    }
+
+    /// This was seen of the waiting nodes.
+    pub(crate) fn note_clear(&mut self, clear: Clear)
+        ensures { self.new ≡ self.old }
+    {
+        self.clear = clear;
     }
 
     /// The children of a node on both sides, left first, each where its path is known, or that there is no such child. None
@@ -119,7 +137,9 @@ impl<'p> Children for Ready<'p> {
     ) -> Result<(Option<Node>, Option<Node>), NoMemory> {
         let left = self.take(node, Side::Left);
         let right = self.take(node, Side::Right);
-        self.own_paths.children_from(node, left, right)
+        let children = self.own_paths.children_from(node, left, right);
+        self.clear.note_both(&children);
+        children
     }
 
     fn ahead(&mut self, _problem: &Problem, _waiting: &OpenList) {}
