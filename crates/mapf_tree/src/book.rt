@@ -35,6 +35,8 @@ pub(crate) struct Book<'p> {
     paths: KnownPaths,
     /// The number of each agent's empty set, once the root was met.
     firsts: Vec<usize>,
+    /// How many nodes were looked at.
+    looked: usize,
     /// What was known at the node that was looked at last: the next one has the same paths but for a few.
     latest: Option<AtNode>,
     /// Room for the numbers of the sets at the next node.
@@ -64,6 +66,7 @@ impl<'p> Book<'p> {
             sets: KnownSets::new(alloc),
             paths: KnownPaths::new(alloc, problem.rule()),
             firsts: Vec::new(alloc),
+            looked: 0,
             latest: None,
             spare: Vec::new(alloc),
             changes: Vec::new(alloc),

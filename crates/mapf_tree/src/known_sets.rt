@@ -105,17 +105,31 @@ impl KnownSets {
         Ok(number)
     }
 
-    /// Remembers an extension, unless memory runs out. Answers its number.
+    /// Remembers an extension, unless it is known or memory runs out. Answers its number.
     pub(crate) fn extend(&mut self, extension: Extension) -> usize
         requires { IsExtension self.old extension }
         ensures { self.new ≡ self.old }
     {
+        if let Some(number) = self.number_of(&extension) {
+            return number;
+        }
         let key = extension_key(extension.before, &extension.constraint);
         let number = self.extensions.len();
         if let Ok(()) = self.extensions.push(extension) {
             let _before = self.extension_places.insert(key, number);
         }
         number
+    }
+
+    /// The number of an extension, if it is known.
+    fn number_of(&self, extension: &Extension) -> Option<usize> {
+        let number = self.guess(extension.before, &extension.constraint)?;
+        let after = self.extended_by(number, extension.before, &extension.constraint)?;
+        if after == extension.after {
+            Some(number)
+        } else {
+            None
+        }
     }
 
     /// The number that the extension of a set by this constraint may have, if there is one; nothing rests on it.

@@ -17,8 +17,15 @@ use mapf_plan::{KnownPaths, KnownPlan};
 use std::mem::replace;
 use std::sync::Arc;
 
-/// Of more agents nothing is kept by node, as there are too many pairs of them.
+/// Pairs of so many agents are kept by node from the start.
 const MOST_PAIRED: usize = 64;
+
+/// Of more agents than these nothing is kept by node, as there are too many pairs of them.
+const MOST_PAIRED_LATER: usize = 256;
+
+/// Of more than are paired from the start so many nodes for each agent are looked at before: in a short search all their pairs
+/// cost more than they save.
+const NODES_BEFORE: usize = 12;
 
 /// What is known at a node, by numbers.
 #[derive(Drop)]
@@ -31,16 +38,20 @@ pub(crate) struct AtNode {
 
 impl<'p> Book<'p> {
     /// What is known at a node, from what was known at the one that was looked at last. None where a set or a path isn't known,
-    /// and of more than 64 agents.
+    /// of more than 64 agents for the first 12 nodes for each of them, and of more than 256 agents.
     pub(crate) fn at_node(&mut self, node: &Node) -> Result<Option<AtNode>, NoMemory>
         requires { IsBranching self.old.problem node.now }
         ensures problem { self.new.problem ≡ self.old.problem }
         ensures known { IfOk result (λ found. IfSome found (λ at. IsKnownAt self.new node.now at.sets.items at.plan.numbers.items at.plan.meetings.items)) }
     {
-        if node.agents() > MOST_PAIRED {
+        if node.agents() > MOST_PAIRED_LATER {
             return Ok(None);
         }
         self.begin(node)?;
+        self.looked = self.looked.saturating_add(1);
+        if !are_paired(node.agents(), self.looked) {
+            return Ok(None);
+        }
         if let Some(latest) = replace(&mut self.latest, None) {
             if latest.plan.numbers.len() == node.agents() {
                 return self.turned(node, latest);
@@ -205,6 +216,11 @@ impl<'p> Book<'p> {
             KnownOwn::NoneWithin(_) => None,
         }
     }
+}
+
+/// Whether pairs of so many agents, which are at most 256, are kept once so many nodes were looked at.
+fn are_paired(agents: usize, looked: usize) -> bool {
+    agents <= MOST_PAIRED || looked / NODES_BEFORE >= agents
 }
 
 /// Gives one agent of a plan the path of this number, where it has another one.

@@ -35,7 +35,8 @@ impl<'p> Book<'p> {
         ensures found { IfOk result (λ found. IfSome found (λ f. IsFoundAt self.old node.now side f.path)) }
     {
         let Some(known) = at else {
-            return self.found_by_query(node, None, side);
+            let sets = self.sets_at(node, Vec::new(self.alloc))?;
+            return self.found_by_query(node, sets.as_deref(), side);
         };
         if let Some(found) = self.found_by_number(node, at, &known.sets, side) {
             return Ok(Some(found));
