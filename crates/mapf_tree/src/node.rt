@@ -28,14 +28,16 @@ pub struct Node {
 }
 
 /// What a node is beside its key.
+///
+/// The small fields stand last, as fields lie in their order and each node that waits has a body.
 #[derive(Drop)]
 struct Body {
-    rule: Rule,
     root: Arc<Plan>,
     changes: Chain,
     conflict: Option<Conflict>,
     /// Where the paths of both its children were known when it was made; nothing rests on it.
     extensions: Option<SideExtensions>,
+    rule: Rule,
 }
 
 // By hand, so that a proof about what holds a node sees a call where it is dropped, and not what a node consists of.
