@@ -1,4 +1,4 @@
-//! For how long the first waiting nodes are known to have no jobs.
+//! For how long no job is to be posted.
 
 ghost use Rattle.std.specs.Prelude.{IsSome, IsTrue};
 
@@ -8,20 +8,19 @@ use mapf_tree::{Node, OpenList};
 /// So many waiting nodes are looked at beyond those whose children are worked ahead.
 const MORE: usize = 32;
 
-/// Until when nothing is to be posted, since the first waiting nodes have no jobs. No answer depends on it.
+/// For how many turns nothing is to be posted. No answer depends on it.
 ///
-/// As long as a turn takes one of the nodes that were seen, and no child comes among them that may have jobs, the first waiting
-/// nodes have none.
+/// What there is to be posted for the first waiting nodes is posted. Behind them so many come that have no jobs; each turn one
+/// of these moves up, as long as no child comes among them that may have jobs.
 #[derive(Clone, Copy, Debug)]
 pub(crate) struct Clear {
-    /// So many turns more the first waiting nodes come no later than the last that was seen.
     turns: usize,
     /// The cost and depth of the last node that was seen.
     last: (u64, usize),
 }
 
 impl Clear {
-    /// No node was seen.
+    /// Something may have to be posted.
     pub(crate) fn none() -> Clear {
         Clear {
             turns: 0,
@@ -29,20 +28,27 @@ impl Clear {
         }
     }
 
-    /// What is seen of the waiting nodes, of which so many first ones are worked ahead.
-    pub(crate) fn of(waiting: &OpenList, nodes: usize) -> Clear {
-        let mut seen: usize = 0;
-        let mut last = (0, 0);
-        for node in waiting.first(nodes.saturating_add(MORE)) {
-            if may_have_jobs(node) {
-                break;
+    /// What is seen of the waiting nodes behind the first ones, for which all is posted; these are so many.
+    pub(crate) fn behind(waiting: &OpenList, posted: usize) -> Clear {
+        let mut clear = Clear::none();
+        let mut place: usize = 0;
+        for node in waiting.first(posted.saturating_add(MORE)) {
+            if place >= posted {
+                if may_have_jobs(node) {
+                    break;
+                }
+                clear = clear.with(node);
             }
-            seen = seen.saturating_add(1);
-            last = level_of(node);
+            place = place.saturating_add(1);
         }
+        clear
+    }
+
+    /// The same with one node more that has no jobs.
+    fn with(self, node: &Node) -> Clear {
         Clear {
-            turns: seen.saturating_sub(nodes),
-            last,
+            turns: self.turns.saturating_add(1),
+            last: level_of(node),
         }
     }
 

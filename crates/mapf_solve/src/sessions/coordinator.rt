@@ -73,7 +73,6 @@ impl<'p> Coordinator<'p> {
         if self.ready.is_clear() {
             return;
         }
-        self.ready.note_clear(Clear::of(waiting, self.nodes));
         let mut below = None;
         for node in waiting.first(self.nodes) {
             if may_have_jobs(node) {
@@ -85,6 +84,7 @@ impl<'p> Coordinator<'p> {
                 }
             }
         }
+        self.ready.note_clear(Clear::behind(waiting, self.nodes));
     }
 
     /// Collects what is done.
@@ -132,6 +132,7 @@ impl<'p> Coordinator<'p> {
         requires { All (λ x. IsGivenOf self.old.ahead x.1) left.items }
         ensures { self.new.ahead ≡ self.old.ahead }
     {
+        self.ready.note_clear(Clear::none());
         for (_slot, given) in left {
             self.keep_last(given);
         }
