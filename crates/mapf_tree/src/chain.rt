@@ -79,19 +79,37 @@ impl Chain {
         let mut own = Vec::with_capacity(alloc, self.own.len() + 1)?;
         share_all(&mut own, &self.own)?;
         own.push(change)?;
-        if own.len() <= FEW {
-            return Ok(Chain {
-                older: Arc::try_clone(&self.older)?,
-                own,
-            });
+        let mut chain = Chain {
+            older: Arc::try_clone(&self.older)?,
+            own,
+        };
+        if chain.own.len() > FEW {
+            chain.share_own()?;
         }
-        let mut all = Vec::with_capacity(alloc, self.older.len() + own.len())?;
+        Ok(chain)
+    }
+
+    /// All changes become one list that nodes share, if the node's own ones are as many as may be and memory suffices. So the
+    /// chains below it share one list, and neither makes its own.
+    pub(crate) fn settle(&mut self)
+        ensures { self.new ≡ self.old }
+    {
+        if self.own.len() >= FEW {
+            let _refused = self.share_own();
+        }
+    }
+
+    /// All changes become one list that nodes share.
+    fn share_own(&mut self) -> Result<(), NoMemory>
+        ensures { self.new ≡ self.old }
+    {
+        let alloc = self.allocator();
+        let mut all = Vec::with_capacity(alloc, self.older.len() + self.own.len())?;
         share_all(&mut all, &self.older)?;
-        share_all(&mut all, &own)?;
-        Ok(Chain {
-            older: Arc::new(alloc, all)?,
-            own: Vec::new(alloc),
-        })
+        share_all(&mut all, &self.own)?;
+        self.older = Arc::new(alloc, all)?;
+        self.own = Vec::new(alloc);
+        Ok(())
     }
 
     /// An equal chain.

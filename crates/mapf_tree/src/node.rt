@@ -153,6 +153,15 @@ impl Node {
         Node { key, body }
     }
 
+    /// The same node, whose changes stand in one list for the nodes below it, where it has as many of its own as may be.
+    pub(crate) fn settled(self) -> Node
+        ensures { result ≡ self }
+    {
+        let Node { key, mut body } = self;
+        body.changes.settle();
+        Node { key, body }
+    }
+
     /// Whether the paths of both its children were known when it was made. No answer depends on it.
     pub fn has_known_sides(&self) -> bool {
         self.body.extensions.is_some()

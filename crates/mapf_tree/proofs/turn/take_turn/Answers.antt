@@ -1,3 +1,7 @@
+use Rattle.std.proofs.Common.{◌≡◌, ◌∷◌, Some, subst, sym, ap, ◌∙◌}
+use Rattle.mapf_plan.specs.declared.conflict.Conflict.{Conflict}
+use Rattle.mapf_tree.specs.Nodes.{Node}
+use Rattle.mapf_tree.specs.Family.{IsBranching}
 use Rattle.mapf_tree.proofs.TurnLemmas.{solved_case, branches, branched_case, conflict_there, some_there, conflict_absent}
 use Rattle.mapf_tree.proofs.turn.take_turn.Goals as goal
 
@@ -8,11 +12,14 @@ returns-then-is_none-clause-turned g c =
 
 pub returns-clause-turned : goal.returns-clause-turned
 returns-clause-turned g c =
-    branched_case c.args.problem.now c.args.waiting.now c.take_least.new.self c.add_if_some.new.waiting c.add_if_some-2.new.waiting c.in-Some.node c.into_key.result c.in_ok-left.left c.in_ok-left.right
-    c.in-Some.ensures.taken c.in-Some.ensures.rising c.requires.nodes (conflict_there _ _ _ c.is_none.ensures c.conflict.ensures.conflict c.if-is_none.false)
+    let same : c.in-Some.node ≡ c.settled-node.result = sym c.settled-node.ensures in
+    branched_case c.args.problem.now c.args.waiting.now c.take_least.new.self c.add_if_some.new.waiting c.add_if_some-2.new.waiting c.settled-node.result c.into_key.result c.in_ok-left.left c.in_ok-left.right
+    (c.in-Some.ensures.taken ∙ ap (λ n. n ∷ c.take_least.new.self) same) c.in-Some.ensures.rising c.requires.nodes
+    (subst (λ (n : Node). (found : Conflict) × (n.conflict ≡ Some found)) same (conflict_there _ _ _ c.is_none.ensures c.conflict.ensures.conflict c.if-is_none.false))
     c.in_ok-left.ensures.left c.in_ok-left.ensures.right c.in_ok-add_if_some.ensures c.in_ok-add_if_some-2.ensures c.into_key.ensures.rank
 
 pub both-requires-clause-branching : goal.both-requires-clause-branching
 both-requires-clause-branching g c =
-    branches c.args.problem.now c.args.waiting.now c.take_least.new.self c.in-Some.node c.in-Some.ensures.taken c.requires.nodes
-    (some_there _ _ _ c.is_none.ensures c.conflict.ensures.conflict c.if-is_none.false)
+    subst (IsBranching c.args.problem.now) (sym c.settled-node.ensures)
+    (branches c.args.problem.now c.args.waiting.now c.take_least.new.self c.in-Some.node c.in-Some.ensures.taken c.requires.nodes
+    (some_there _ _ _ c.is_none.ensures c.conflict.ensures.conflict c.if-is_none.false))
