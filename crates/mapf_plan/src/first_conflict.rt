@@ -6,14 +6,15 @@ ghost use Rattle.mapf_plan.specs.declared.conflict.Conflict.{Conflict};
 ghost use Rattle.mapf_plan.specs.declared.rule.Rule.{Rule};
 ghost use Rattle.mapf_plan.specs.Plan.{most_bound, conflict_rank, conflict_time, first_agent, second_agent, IsConflict, IsFirstConflict, HasNoConflict};
 ghost use Rattle.mapf_plan.specs.FirstConflict.{IsConflictOfPair, IsConflictWithout, IsConflictBefore, IsEarlier};
+ghost use Rattle.mapf_plan.specs.declared.first_conflict.TheConstants.{STEPS};
 
 use crate::marks::Marks;
 use crate::pair_conflicts::{earlier, first_of_pair, may_meet};
 use crate::step_conflicts::first_at;
 use crate::{AgentPaths, Conflict, Rule};
 
-/// How many time steps all agents are looked at together. From then on pairs of agents are, as two that are at rest need no
-/// time step more.
+/// How many time steps all agents are looked at together, at most. From then on pairs of agents are, as two that are at rest need
+/// no time step more.
 const STEPS: u32 = 250;
 
 /// The first conflict of all times, where only one agent's path is new, no two agents have a conflict before one time step, and
@@ -135,7 +136,7 @@ pub(crate) fn first_conflict_from<P: AgentPaths>(
     ensures { MatchOption result (HasNoConflict rule (P.paths plan.now)) (λ c. IsFirstConflict rule (P.paths plan.now) c) }
 {
     let mut marks = Marks::new();
-    let end = time.saturating_add(STEPS);
+    let end = time.saturating_add(steps_from(plan, time));
     for step in time..end {
         let round = (step - time) as u8 + 1;
         if let Some(found) = first_at(plan, rule, step, round, &mut marks) {
@@ -143,6 +144,17 @@ pub(crate) fn first_conflict_from<P: AgentPaths>(
         }
     }
     first_by_pairs(plan, rule, end)
+}
+
+/// How many time steps from this one on all agents are looked at together: no more than until all are at rest.
+fn steps_from<P: AgentPaths>(plan: &P, time: u32) -> u32
+    ensures { result ≤ STEPS }
+{
+    let mut longest: u32 = 0;
+    for agent in 0..plan.agents() {
+        longest = longest.max(plan.path(agent).cost());
+    }
+    longest.saturating_add(1).saturating_sub(time).min(STEPS)
 }
 
 /// The same, pair by pair of agents.
