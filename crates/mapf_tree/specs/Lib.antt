@@ -4,6 +4,7 @@ pub mod Tree
 pub mod Cut
 pub mod Answered
 pub mod Nodes
+pub mod OwnChanges
 pub mod Family
 pub mod SideQuery
 pub mod Book

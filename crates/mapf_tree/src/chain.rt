@@ -8,6 +8,7 @@ ghost use Rattle.mapf_tree.specs.Nodes.{Changed, IsTurnedTo, IsSameSet, changed_
 
 use crate::change::Change;
 use crate::current_paths::CurrentPaths;
+use crate::own_changes::OwnChanges;
 use mapf_grid::NoMemory;
 use mapf_low::Constraints;
 use mapf_plan::{Path, Plan};
@@ -15,16 +16,13 @@ use std::alloc::Global;
 use std::marker::Model;
 use std::sync::Arc;
 
-/// So many changes a node may have of its own; with one more it shares them all with the nodes below it.
-const FEW: usize = 7;
-
 /// The changes that lead from the root to a node, the first turn's first.
 ///
 /// The older ones are one list that nodes share, so a child's chain copies no more than a few of its parent's pointers.
 #[derive(Drop)]
 pub(crate) struct Chain {
     older: Arc<Vec<Arc<Change>>>,
-    own: Vec<Arc<Change>>,
+    own: OwnChanges,
 }
 
 impl Model for Chain {
@@ -34,7 +32,7 @@ impl Model for Chain {
 
     ghost Value = { List Changed };
 
-    ghost view = { λ c. map arc_value c.older.value.items ++ map arc_value c.own.items };
+    ghost view = { λ c. map arc_value c.older.value.items ++ c.own };
 }
 
 impl Chain {
@@ -44,13 +42,13 @@ impl Chain {
     {
         Ok(Chain {
             older: Arc::new(alloc, Vec::new(alloc))?,
-            own: Vec::new(alloc),
+            own: OwnChanges::none(),
         })
     }
 
     /// Where its memory is from.
     pub(crate) fn allocator(&self) -> Global {
-        *self.own.allocator()
+        *self.older.allocator()
     }
 
     /// What a turn changed, turns from 0.
@@ -61,7 +59,7 @@ impl Chain {
         if turn < older {
             Some(&self.older[turn])
         } else {
-            Some(self.own.get(turn - older)?)
+            Some(self.own.as_slice().get(turn - older)?)
         }
     }
 
@@ -69,58 +67,56 @@ impl Chain {
     pub(crate) fn parts(&self) -> (&[Arc<Change>], &[Arc<Change>])
         ensures { map arc_value result.0.now ++ map arc_value result.1.now ≡ self.now }
     {
-        (&self.older, &self.own)
+        (&self.older, self.own.as_slice())
     }
 
-    /// The chain with one change more.
+    /// The chain with one change more. Where it has as many by itself as may be, those are shared with all nodes below it.
     pub(crate) fn with(&self, alloc: Global, change: Arc<Change>) -> Result<Chain, NoMemory>
         ensures { IfOk result (λ chain. chain ≡ self.now ++ change.value ∷ []) }
     {
-        let mut own = Vec::with_capacity(alloc, self.own.len() + 1)?;
-        share_all(&mut own, &self.own)?;
-        own.push(change)?;
-        let mut chain = Chain {
-            older: Arc::try_clone(&self.older)?,
-            own,
-        };
-        if chain.own.len() > FEW {
-            chain.share_own()?;
+        match self.own.with(change)? {
+            Ok(own) => Ok(Chain {
+                older: Arc::try_clone(&self.older)?,
+                own,
+            }),
+            Err(change) => Ok(Chain {
+                older: self.shared(alloc)?,
+                own: OwnChanges::one(change),
+            }),
         }
-        Ok(chain)
     }
 
-    /// All changes become one list that nodes share, if the node's own ones are as many as may be and memory suffices. So the
-    /// chains below it share one list, and neither makes its own.
+    /// All changes become one list that nodes share, if it has as many by itself as may be and memory suffices. So the chains
+    /// below it share one list, and neither makes its own.
     pub(crate) fn settle(&mut self)
         ensures { self.new ≡ self.old }
     {
-        if self.own.len() >= FEW {
-            let _refused = self.share_own();
+        if self.own.is_full() {
+            if let Ok(older) = self.shared(self.allocator()) {
+                self.older = older;
+                self.own = OwnChanges::none();
+            }
         }
     }
 
-    /// All changes become one list that nodes share.
-    fn share_own(&mut self) -> Result<(), NoMemory>
-        ensures { self.new ≡ self.old }
+    /// All changes as one list that nodes can share.
+    fn shared(&self, alloc: Global) -> Result<Arc<Vec<Arc<Change>>>, NoMemory>
+        ensures { IfOk result (λ all. map arc_value all.value.items ≡ self.now) }
     {
-        let alloc = self.allocator();
-        let mut all = Vec::with_capacity(alloc, self.older.len() + self.own.len())?;
+        let own = self.own.as_slice();
+        let mut all = Vec::with_capacity(alloc, self.older.len() + own.len())?;
         share_all(&mut all, &self.older)?;
-        share_all(&mut all, &self.own)?;
-        self.older = Arc::new(alloc, all)?;
-        self.own = Vec::new(alloc);
-        Ok(())
+        share_all(&mut all, own)?;
+        Ok(Arc::new(alloc, all)?)
     }
 
     /// An equal chain.
-    pub(crate) fn copy(&self, alloc: Global) -> Result<Chain, NoMemory>
-        ensures { IfOk result (λ chain. chain ≡ self.now) }
+    pub(crate) fn copy(&self) -> Result<Chain, NoMemory>
+        ensures { IfOk result (λ other. other ≡ self.now) }
     {
-        let mut own = Vec::with_capacity(alloc, self.own.len())?;
-        share_all(&mut own, &self.own)?;
         Ok(Chain {
             older: Arc::try_clone(&self.older)?,
-            own,
+            own: self.own.copy()?,
         })
     }
 
@@ -129,7 +125,7 @@ impl Chain {
         ensures { (root : List (List ℕ)) → agent < length root → IsTurnedTo root self.now agent (option_map (λ p. arc_value p.now) result) }
     {
         let older = turned_after(None, &self.older, agent);
-        turned_after(older, &self.own, agent)
+        turned_after(older, self.own.as_slice(), agent)
     }
 
     /// An agent's path: that of its last change, or the root's.
@@ -154,7 +150,7 @@ impl Chain {
     {
         let mut paths = CurrentPaths::of(alloc, root)?;
         change_all(&mut paths, &self.older);
-        change_all(&mut paths, &self.own);
+        change_all(&mut paths, self.own.as_slice());
         Ok(paths)
     }
 
@@ -163,7 +159,7 @@ impl Chain {
         ensures { IfOk result (λ set. (agents : ℕ) → agent < agents → IsSameSet set (slice_index_or (changed_sets (replicate agents []) self.now) agent [])) }
     {
         let older = constraints_after(Constraints::new(alloc), &self.older, agent)?;
-        constraints_after(older, &self.own, agent)
+        constraints_after(older, self.own.as_slice(), agent)
     }
 }
 

@@ -20,6 +20,7 @@ mod name;
 mod node;
 mod open_list;
 mod open_nodes;
+mod own_changes;
 mod own_paths;
 mod problem;
 mod progress;

@@ -332,7 +332,7 @@ impl Node {
         let body = Body {
             rule: self.body.rule,
             root: Arc::try_clone(&self.body.root)?,
-            changes: self.body.changes.copy(alloc)?,
+            changes: self.body.changes.copy()?,
             conflict: self.body.conflict,
             extensions: self.body.extensions,
         };
