@@ -12,10 +12,6 @@ use std::alloc::Global;
 use std::marker::Model;
 use std::sync::Arc;
 
-/// The most cells of a map on which paths are looked for backwards: on a larger one a table of distances costs more than the
-/// searches that it helps.
-const MOST_CELLS: u32 = 65_536;
-
 /// How far each cell of a map is from the start of an agent, in a table that is shared; or an agent without a table.
 pub struct FromStart {
     agent: usize,
@@ -43,8 +39,7 @@ impl Model for FromStart {
 }
 
 impl FromStart {
-    /// The distances from the start of an agent of a problem. Without a table where the map has more than 65,536 cells, or
-    /// memory runs out.
+    /// The distances from the start of an agent of a problem. Without a table where memory runs out.
     pub(crate) fn of(alloc: Global, problem: &Problem, agent: usize) -> FromStart
         requires { agent < length problem.now.inst.starts }
         ensures { IsFromStart problem.now result }
@@ -95,17 +90,12 @@ impl FromStart {
     }
 }
 
-/// A table of the distances from the start of an agent of a problem. None where the map has more than 65,536 cells, or memory
-/// runs out.
+/// A table of the distances from the start of an agent of a problem. None where memory runs out.
 fn table_of(alloc: Global, problem: &Problem, agent: usize) -> Option<Arc<Distances>>
     requires { agent < length problem.now.inst.starts }
     ensures { IfSome result (λ d. AreDistances problem.now.inst.grid (slice_index problem.now.inst.starts agent) (arc_value d)) }
 {
     let instance = problem.instance();
-    let map = instance.map();
-    if map.height() * map.width() > MOST_CELLS {
-        return None;
-    }
-    let distances = Distances::to(alloc, map, instance.start(agent)).ok()?;
+    let distances = Distances::to(alloc, instance.map(), instance.start(agent)).ok()?;
     Arc::new(alloc, distances).ok()
 }

@@ -18,6 +18,8 @@ use std::sync::Arc;
 struct OfAgent<'p> {
     problem: &'p Problem,
     from_start: Option<FromStart>,
+    /// How many of the agent's paths were searched without them.
+    searched: u32,
 }
 
 impl<'p> Model for OfAgent<'p> {
@@ -40,20 +42,25 @@ impl<'p> OfAgent<'p> {
         OfAgent {
             problem,
             from_start: None,
+            searched: 0,
         }
     }
 
-    /// The distances from this agent's start, which are made where they are asked for first. Without a table on a large map, or
-    /// where memory ran out.
-    fn from_start(&mut self, alloc: Global, agent: usize) -> FromStart
-        requires { agent < length self.old.inst.starts }
+    /// The distances from the agent's start for a query of its own path: they are made for the first one that wants a table of them.
+    /// Without a table before, or where memory ran out.
+    fn from_start(&mut self, alloc: Global, query: &SideQuery<'p>) -> FromStart
+        requires { query.now.problem ≡ self.old }
         ensures problem { self.new ≡ self.old }
         ensures start { IsFromStart self.old result }
     {
         if let Some(known) = &self.from_start {
             return known.share();
         }
-        let made = FromStart::of(alloc, self.problem, agent);
+        if !query.wants_from_start(self.searched) {
+            self.searched = self.searched.saturating_add(1);
+            return FromStart::none(query.agent());
+        }
+        let made = FromStart::of(alloc, self.problem, query.agent());
         let shared = made.share();
         self.from_start = Some(made);
         shared
@@ -208,7 +215,7 @@ impl<'p> OwnPaths<'p> {
         ensures child { IfOk result (IsChildOf self.old node.now side) }
     {
         let query = SideQuery::of(self.alloc, self.problem, node, side)?;
-        let from_start = self.from_start_of(query.agent());
+        let from_start = self.from_start_of(&query);
         let path = match query.own_path_with(self.alloc, &from_start)? {
             Some(path) => Some(Arc::new(self.alloc, path)?),
             None => None,
@@ -217,25 +224,30 @@ impl<'p> OwnPaths<'p> {
         query.child_by(self.alloc, node, path, extension)
     }
 
-    /// The distances from the start of the agent on a side of a node's conflict, which are made where they are asked for first.
-    /// Without a table on a map of more than 65,536 cells, or where memory ran out.
+    /// The distances from the start of the agent on a side of a node's conflict, which are made where a search for it first wants
+    /// them: on a map of at most 65,536 cells each does, but for an agent's first ones where there are at most 4,096, and on a
+    /// larger one where the agent's goal is forbidden late. Without a table before, or where memory ran out.
     pub fn from_start(&mut self, node: &Node, side: Side) -> FromStart
         requires { IsBranching self.old node.now }
         ensures problem { self.new ≡ self.old }
         ensures start { IsFromStart self.old result }
     {
         let conflict = node.conflict().unwrap();
-        self.from_start_of(agent_of(&conflict, side))
+        match SideQuery::of(self.alloc, self.problem, node, side) {
+            Ok(query) => self.from_start_of(&query),
+            Err(_refused) => FromStart::none(agent_of(&conflict, side)),
+        }
     }
 
-    /// The distances from an agent's start.
-    fn from_start_of(&mut self, agent: usize) -> FromStart
-        requires { agent < length self.old.inst.starts }
+    /// The distances from the start of a query's agent.
+    fn from_start_of(&mut self, query: &SideQuery<'p>) -> FromStart
+        requires { query.now.problem ≡ self.old }
         ensures problem { self.new ≡ self.old }
         ensures start { IsFromStart self.old result }
     {
+        let agent = query.agent();
         if agent < self.agents.len() {
-            self.agents[agent].from_start(self.alloc, agent)
+            self.agents[agent].from_start(self.alloc, query)
         } else {
             FromStart::none(agent)
         }

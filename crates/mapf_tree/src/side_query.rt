@@ -31,6 +31,16 @@ pub struct SideQuery<'p> {
     least: u32,
 }
 
+/// The most cells of a map on which an agent's first paths are looked for forwards: many agents are searched for but once or twice.
+const FEW_CELLS: u32 = 4_096;
+
+/// For about so many cells of such a map a table of distances costs what a search forwards does.
+const CELLS_A_SEARCH: u32 = 2_048;
+
+/// The most cells of a map on which paths are always looked for backwards: on a larger one a table of distances mostly costs
+/// more than the searches that it helps.
+const MOST_CELLS: u32 = 65_536;
+
 /// So many dead ends a search backwards may meet before it is given up.
 const MOST_DEAD_ENDS: usize = 1_000;
 
@@ -111,6 +121,35 @@ impl<'p> SideQuery<'p> {
         ensures { result ≡ self.now.constraint }
     {
         self.constraint
+    }
+
+    /// Whether a table of the distances from its agent's start is worth its cost, after so many searches for that agent without one:
+    /// on a map of at most 65,536 cells, but where there are at most 4,096 only once those searches cost as much; and on each that
+    /// has fewer cells than a search forwards may take states.
+    pub(crate) fn wants_from_start(&self, searched: u32) -> bool {
+        let map = self.problem.instance().map();
+        let cells = map.height() * map.width();
+        let pays = if cells <= FEW_CELLS {
+            cells <= searched.saturating_mul(CELLS_A_SEARCH)
+        } else {
+            cells <= MOST_CELLS
+        };
+        pays || u64::from(cells) < self.late_states()
+    }
+
+    /// How many states a search forwards may take since the goal is forbidden late: about half the square of the time steps that
+    /// the agent has to spare until then. None where its newest constraint doesn't forbid the goal.
+    fn late_states(&self) -> u64 {
+        let instance = self.problem.instance();
+        let start = instance.start(self.agent);
+        match self.constraint {
+            Constraint::Vertex { cell, time } if cell == instance.goal(self.agent) => {
+                let nearest = self.problem.distances(self.agent).get(start).unwrap_or(0);
+                let spare = u64::from(time.min(self.limit).saturating_sub(nearest));
+                spare * spare / 2
+            }
+            _ => 0,
+        }
     }
 
     /// The own path that it asks for; none where there is none.
