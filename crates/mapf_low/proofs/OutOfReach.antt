@@ -2,16 +2,17 @@
 use Rattle.std.proofs.Common.{◌≡◌, ◌⊎◌, ℕ, zero, suc, ◌<◌, ◌≤◌, ◌+◌, List, [], ◌∷◌, ◌++◌, length, slice_index, Option, Some, None, MatchOption, Contains, length-append, inl, inr, subst, subst₂, sym, refl, ap, ◌∙◌, arith}
 use Rattle.std.proofs.lemmas.Bool.{cases_lt}
 use Rattle.std.proofs.lemmas.List.{get_or_push, get_or_append_left}
-use Rattle.mapf_grid.specs.Grid.{IsFree}
+use Rattle.mapf_grid.specs.Grid.{IsFree, HasSizes}
 use Rattle.mapf_plan.specs.Path.{cost, at}
 use Rattle.mapf_low.specs.declared.constraint.Constraint.TheVariants.{Vertex}
 use Rattle.mapf_low.specs.Backwards.{CanBe, IsLeft, AreDead}
 use Rattle.mapf_low.specs.Constraints.{IsAllowed}
-use Rattle.mapf_low.specs.Query.{Query, IsPosed}
+use Rattle.mapf_low.specs.Earliest.{AreEarliest, IsPosedBackwards}
+use Rattle.mapf_low.specs.Query.{Query}
 use Rattle.mapf_low.specs.Reached.{MayStep, ComesFrom}
-use Rattle.mapf_low.specs.Walk.{IsWalk, IsDistance, distance_at}
+use Rattle.mapf_low.specs.Walk.{IsWalk, IsDistance, AreDistances, distance_at}
 use Rattle.mapf_low.proofs.Arrivals.{IsCovering, IsTrail, step_at}
-use Rattle.mapf_low.proofs.LevelSearch.{Next_back}
+use Rattle.mapf_low.proofs.LevelSearch.{Next_back, table_shortest}
 use Rattle.mapf_low.proofs.Places.{free_below, obeys_each}
 
 module _ (query : Query) where
@@ -45,13 +46,23 @@ module _ (query : Query) where
   near_if t v None w h = h t w
   near_if t v (Some n) w h = h.least t w
 
-  -- so the start is near enough
-  pub can_near : (t v : ℕ) → IsPosed query query.start → CanBe query t v → MatchOption (distance_at query.table v) ⊥ (λ n. n ≤ t)
-  can_near t v posed i = near_if t v (distance_at query.table v) (can_walk t v i) (posed.distances.shortest v (free_below query.grid v posed.sizes (can_free t v posed.start i)))
+  start_if : (v : ℕ) (o : Option ℕ) → o ≡ Some 0 → MatchOption o ((n : ℕ) → ¬ IsWalk query.grid v query.start n) (IsDistance query.grid query.start v) → v ≡ query.start
+  start_if v None e h = absurd (let m : ◌≡◌ {A = ℕ} 0 1 = cc in omega (arith, m))
+  start_if v (Some n) e h = let z : n ≡ 0 = cc in subst (λ k. IsWalk query.grid v query.start k) z h.walk
 
-  -- and nothing rules it out
-  pub can_left : (dead : List (ℕ × ℕ)) (t v : ℕ) → IsPosed query query.start → AreDead query dead → CanBe query t v → IsLeft query dead t v
-  can_left dead t v posed out i = (can_near t v posed i, can_allowed t v i, λ c. out v t c i)
+  -- so the distances to the start tell when the agent can be on a cell at the earliest
+  pub distances_earliest : (table : List (Option ℕ)) → HasSizes query.grid → IsFree query.grid query.start → AreDistances query.grid query.start table → AreEarliest query table
+  distances_earliest table sizes free h = record {
+    bounds = λ t v l i. near_if t v (distance_at table v) (can_walk t v i) (shortest v (can_free t v free i));
+    at_start = λ v e. start_if v (distance_at table v) e (table_shortest query.grid query.start table sizes free h v);
+  }
+    where
+      shortest : (v : ℕ) → IsFree query.grid v → MatchOption (distance_at table v) ((n : ℕ) → ¬ IsWalk query.grid v query.start n) (IsDistance query.grid query.start v)
+      shortest v f = h.shortest v (free_below query.grid v sizes f)
+
+  -- where the agent can be nothing rules it out
+  pub can_left : (dead : List (ℕ × ℕ)) (t v : ℕ) → t ≤ query.limit → IsPosedBackwards query → AreDead query dead → CanBe query t v → IsLeft query dead t v
+  can_left dead t v l posed out i = (posed.earliest.bounds t v l i, can_allowed t v i, λ c. out v t c i)
 
   -- the places of an allowed path can be reached
   pub can_be_at : (limit : ℕ) (p : List ℕ) → IsAllowed query.grid query.start query.goal limit query.constraints p → (t : ℕ) → t ≤ cost p → CanBe query t (at p t)
@@ -62,7 +73,7 @@ module _ (query : Query) where
       can_next t (at p t) (at p (t + 1)) (λ i. obeys_each query.constraints p a.obeys (Vertex (at p (t + 1)) (t + 1)) i refl) (can_be_at limit p a t (omega (arith, l))) (step_at query limit p a t (omega (arith, l))) in
       subst (λ k. CanBe query k (at p k)) n here
 
-  pub can_covering : (limit count : ℕ) → IsPosed query query.start → IsCovering query limit (CanBe query) count
+  pub can_covering : (limit count : ℕ) → IsPosedBackwards query → IsCovering query limit (CanBe query) count
   can_covering limit count posed = record {
     start = posed.start;
     ends = posed.ends;

@@ -1,5 +1,5 @@
--- A search backwards from the goal: where an agent may be at a time step, and what isn't ruled out yet. Its query's table has
--- the distances to the start.
+-- A search backwards from the goal: where an agent may be at a time step, and what isn't ruled out yet. What its query's
+-- table has is told in Earliest.
 use Rattle.std.specs.Prelude.{◌≡◌, ◌⊎◌, ℕ, zero, suc, ◌+◌, ◌<◌, ◌≤◌, List, Option, MatchOption, Contains}
 use Rattle.mapf_low.specs.declared.constraint.Constraint.TheVariants.{Vertex, Edge}
 use Rattle.mapf_low.specs.Query.{Query}
@@ -24,7 +24,7 @@ CanBe query (suc t) v = (¬ Contains query.constraints (Vertex v (suc t))) × ((
 abbrev pub AreDead : Query → List (ℕ × ℕ) → Type 0
 AreDead query dead = (v t : ℕ) → Contains dead (v, t) → ¬ CanBe query t v
 
--- the start is near enough, the cell is not forbidden, and the state is no dead end
+-- it is not too early for the cell, the cell is not forbidden, and the state is no dead end
 abbrev pub IsLeft : Query → List (ℕ × ℕ) → ℕ → ℕ → Type 0
 IsLeft query dead t v =
     MatchOption (distance_at query.table v) ⊥ (λ n. n ≤ t)

@@ -8,6 +8,7 @@ pub mod Best
 pub mod Query
 pub mod Reached
 pub mod Backwards
+pub mod Earliest
 pub mod StateTable
 pub mod Layers
 pub mod Classes

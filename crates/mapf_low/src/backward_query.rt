@@ -1,30 +1,31 @@
 ghost use Rattle.std.specs.Prelude.{◌≡◌, ◌↔◌, ℕ, ◌+◌, ◌<◌, ◌≤◌, IsTrue, IfOk, MatchOption, Contains, Some};
 ghost use Rattle.mapf_grid.specs.Grid.{cells, IsFree};
 ghost use Rattle.mapf_low.specs.declared.constraint.Constraint.{Constraint};
-ghost use Rattle.mapf_low.specs.Walk.{AreDistances, distance_at};
+ghost use Rattle.mapf_low.specs.Walk.{distance_at};
 ghost use Rattle.mapf_low.specs.Best.{IsSmallest};
-ghost use Rattle.mapf_low.specs.Query.{IsPosed, MayEnd};
+ghost use Rattle.mapf_low.specs.Query.{MayEnd};
 ghost use Rattle.mapf_low.specs.Reached.{ComesFrom};
 ghost use Rattle.mapf_low.specs.Backwards.{IsLeft, MayLead};
+ghost use Rattle.mapf_low.specs.Earliest.{AreEarliest, IsPosedBackwards};
 ghost use Rattle.mapf_low.specs.Times.{IsQuiet};
 ghost use Rattle.mapf_plan.specs.Plan.{most_bound};
 
+use crate::Constraints;
 use crate::busy::{busy_times, is_busy};
 use crate::dead_ends::DeadEnds;
+use crate::entry::Entry;
 use crate::time::is_past;
-use crate::{Constraints, Distances};
 use mapf_grid::{Cell, Map, NoMemory};
 use std::alloc::Global;
 use std::marker::Model;
 
 /// What a search backwards is asked: one agent's own path from its start to its goal on a map, under constraints, at a cost
-/// of at most a limit. It goes by the distances to the start.
+/// of at most a limit. It goes by a table that tells of each cell a time step before which the agent can't be there.
 #[derive(Drop)]
 pub struct BackwardQuery<'a> {
     map: &'a Map,
-    from_start: &'a Distances,
+    earliest: &'a [Entry],
     constraints: &'a Constraints,
-    /// Read by contracts alone: a cell at distance 0 from the start is the start.
     start: Cell,
     goal: Cell,
     limit: u32,
@@ -35,22 +36,22 @@ pub struct BackwardQuery<'a> {
 }
 
 impl<'a> Model for BackwardQuery<'a> {
-    ghost use Rattle.mapf_low.specs.Query.{Query, IsPrepared};
-    ghost use Rattle.mapf_low.specs.Times.{AreMarked};
+    ghost use Rattle.mapf_low.specs.Query.{Query};
+    ghost use Rattle.mapf_low.specs.Earliest.{IsPreparedBackwards};
 
     ghost Value = { Query };
 
-    ghost view = { λ q. record { grid = q.map.now; table = q.from_start.now; constraints = q.constraints.now; start = q.start; goal = q.goal; limit = q.limit } };
+    ghost view = { λ q. record { grid = q.map.now; table = q.earliest.now; constraints = q.constraints.now; start = q.start; goal = q.goal; limit = q.limit } };
 
-    ghost invariant = { λ q. IsPrepared (record { grid = q.map.now; table = q.from_start.now; constraints = q.constraints.now; start = q.start; goal = q.goal; limit = q.limit }) q.start q.last × AreMarked q.constraints.now q.limit q.busy_times.items };
+    ghost invariant = { λ q. IsPreparedBackwards (record { grid = q.map.now; table = q.earliest.now; constraints = q.constraints.now; start = q.start; goal = q.goal; limit = q.limit }) q.last q.busy_times.items };
 }
 
 impl<'a> BackwardQuery<'a> {
-    /// Asks for the own path between two cells; `from_start` are the distances to the start on this map.
+    /// Asks for the own path between two cells.
     pub fn new(
         alloc: Global,
         map: &'a Map,
-        from_start: &'a Distances,
+        earliest: &'a [Entry],
         start: Cell,
         goal: Cell,
         constraints: &'a Constraints,
@@ -58,10 +59,10 @@ impl<'a> BackwardQuery<'a> {
     ) -> Result<BackwardQuery<'a>, NoMemory>
         requires start { IsFree map.now start }
         requires goal { IsFree map.now goal }
-        requires from_start { AreDistances map.now start from_start.now }
+        requires earliest { AreEarliest (record { grid = map.now; table = earliest.now; constraints = constraints.now; start = start; goal = goal; limit = limit }) earliest.now }
         requires limit { limit ≤ most_bound }
-        ensures asks { IfOk result (λ q. q ≡ record { grid = map.now; table = from_start.now; constraints = constraints.now; start = start; goal = goal; limit = limit }) }
-        ensures posed { IfOk result (λ q. IsPosed q q.start) }
+        ensures asks { IfOk result (λ q. q ≡ record { grid = map.now; table = earliest.now; constraints = constraints.now; start = start; goal = goal; limit = limit }) }
+        ensures posed { IfOk result IsPosedBackwards }
     {
         // A map's sizes are known from a call alone.
         let _width = map.width();
@@ -69,7 +70,7 @@ impl<'a> BackwardQuery<'a> {
         let busy_times = busy_times(alloc, constraints, limit)?;
         Ok(BackwardQuery {
             map,
-            from_start,
+            earliest,
             constraints,
             start,
             goal,
@@ -82,7 +83,7 @@ impl<'a> BackwardQuery<'a> {
     /// Where the agent ends.
     pub fn goal(&self) -> Cell
         ensures goal { result ≡ self.now.goal }
-        ensures posed { IsPosed self.now self.now.start }
+        ensures posed { IsPosedBackwards self.now }
     {
         self.goal
     }
@@ -110,23 +111,31 @@ impl<'a> BackwardQuery<'a> {
             && !is_busy(&self.busy_times, time + 1)
     }
 
-    /// Whether a walk from the start to the cell has at most so many steps.
+    /// The time step before which the agent can't be on the cell; none, if it can't be there by the limit.
     #[inline]
-    fn is_near(&self, cell: Cell, time: u32) -> bool
+    pub fn earliest(&self, cell: Cell) -> Option<u32>
+        ensures { result ≡ distance_at self.now.table cell }
+    {
+        self.earliest.get(cell.number() as usize)?.distance()
+    }
+
+    /// Whether the agent may be on the cell at this time step, by the table.
+    #[inline]
+    fn is_late_enough(&self, cell: Cell, time: u32) -> bool
         ensures { IsTrue result ↔ MatchOption (distance_at self.now.table cell) ⊥ (λ n. n ≤ time) }
     {
-        match self.from_start.get(cell) {
-            Some(distance) => distance <= time,
+        match self.earliest(cell) {
+            Some(earliest) => earliest <= time,
             None => false,
         }
     }
 
-    /// Whether nothing rules out so far that the agent is on the cell at this time step: the start is near enough, the cell
-    /// is not forbidden, and the state is no dead end.
+    /// Whether nothing rules out so far that the agent is on the cell at this time step: it is late enough, the cell is not
+    /// forbidden, and the state is no dead end.
     pub fn is_left(&self, dead: &DeadEnds, cell: Cell, time: u32) -> bool
         ensures { IsTrue result ↔ IsLeft self.now dead.now.states time cell }
     {
-        self.is_near(cell, time)
+        self.is_late_enough(cell, time)
             && self.constraints.allows_at(cell, time)
             && !dead.contains(cell, time)
     }
@@ -163,7 +172,7 @@ impl<'a> BackwardQuery<'a> {
     {
         match from {
             Some(cell)
-                if self.is_near(cell, time)
+                if self.is_late_enough(cell, time)
                     && self.allows(cell, to, time, quiet)
                     && !dead.contains(cell, time) => { Some(cell) }
             _ => None,

@@ -29,7 +29,7 @@ fn trace(
     dead: &mut DeadEnds,
     cells: &mut Vec<Cell>,
 ) -> Result<Option<Option<Path>>, NoMemory>
-    requires end { end ≤ most_bound }
+    requires end { end ≤ query.now.limit }
     requires left { IsLeft query.now dead.old.states end query.now.goal }
     requires dead { AreDead query.now dead.old.states }
     ensures path { IfOk result (λ answer. IfSome answer (IsTraced query.now end)) }
@@ -91,6 +91,23 @@ fn first_traced(
     Ok(Some(None))
 }
 
+/// The own path that is asked for, where no path that the agent may take costs less than `least`. `None`, if more than `budget`
+/// dead ends were met.
+fn own_path(
+    alloc: Global,
+    query: &BackwardQuery,
+    least: u32,
+    budget: usize,
+) -> Result<Option<Option<Path>>, NoMemory>
+    requires { (p : List ℕ) → IsAllowed query.now.grid query.now.start query.now.goal query.now.limit query.now.constraints p → least ≤ cost p }
+    ensures { IfOk result (λ answer. IfSome answer (IsFound query.now)) }
+{
+    match query.earliest(query.goal()) {
+        Some(earliest) => first_traced(alloc, query, least.max(earliest), budget),
+        None => Ok(Some(None)),
+    }
+}
+
 /// An agent's own path, as [`crate::cheapest`] gives it, by a search backwards: for a rising cost, from the goal at that time
 /// step to the start at time 0. Where it meets no dead end it visits one state a time step.
 ///
@@ -118,9 +135,16 @@ pub fn cheapest_backwards(
         ((p : List ℕ) → ¬ IsAllowed map.now start goal bound constraints.now p)
         (IsOwnPath map.now start goal bound constraints.now))) }
 {
-    let query = BackwardQuery::new(alloc, map, from_start, start, goal, constraints, bound)?;
-    let Some(nearest) = from_start.get(goal) else {
-        return Ok(Some(None));
-    };
-    first_traced(alloc, &query, least.max(nearest), budget)
+    // A map's sizes are known from a call alone.
+    let _width = map.width();
+    let by_distance = BackwardQuery::new(
+        alloc,
+        map,
+        from_start.entries(),
+        start,
+        goal,
+        constraints,
+        bound,
+    )?;
+    own_path(alloc, &by_distance, least, budget)
 }

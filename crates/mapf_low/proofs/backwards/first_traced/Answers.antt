@@ -33,7 +33,7 @@ loop-end-preserved c =
         dead = subst (AreDead query) (ap (λ (d : DeadEnds). d.states) (sym w.dead-is)) c.loop-end.invariant.dead;
         before = none_more query c.goal-goal.ensures.posed c.loop-end.end c.loop-end.invariant.before (λ l a. elim w.else-may_end.branch [
           | else-may_end-via-then-may_end+else-is_left x ↦ not_true x.is_left.result (IsLeft query c.loop-end.dead.states c.loop-end.end c.goal-goal.result) x.is_left.ensures x.if-is_left.false
-              (can_left query c.loop-end.dead.states c.loop-end.end c.goal-goal.result c.goal-goal.ensures.posed c.loop-end.invariant.dead (subst (CanBe query c.loop-end.end) (sym c.goal-goal.ensures.goal) a.0))
+              (can_left query c.loop-end.dead.states c.loop-end.end c.goal-goal.result l c.goal-goal.ensures.posed c.loop-end.invariant.dead (subst (CanBe query c.loop-end.end) (sym c.goal-goal.ensures.goal) a.0))
           | else-may_end-via-else-may_end x ↦ not_true c.may_end.result (MayEnd query c.loop-end.end) c.may_end.ensures x.if-may_end.false a.1
         ]);
       }

@@ -5,14 +5,14 @@ use Rattle.mapf_low.proofs.backward_query.BackwardQuery.smallest_before.Goals as
 
 pub returns-then-is_some-2 : goal.returns-then-is_some-2
 returns-then-is_some-2 c =
-    second_smallest c.args.self.now c.args.dead.now.states c.args.time c.args.to c.self.inside.map.now (ap (λ (q : Query). q.grid) c.self.view_is) c.self.invariant.0.posed.sizes c.requires.free
+    second_smallest c.args.self.now c.args.dead.now.states c.args.time c.args.to c.self.inside.map.now (ap (λ (q : Query). q.grid) c.self.view_is) c.self.invariant.posed.sizes c.requires.free
     c.free_above.result c.if_left-above.result c.free_at_left.result c.if_left-at_left.result
     c.free_above.ensures c.if_left-above.ensures (sym c.is_some.ensures ∙ c.if-is_some.false) c.free_at_left.ensures c.if_left-at_left.ensures
     (sym c.is_some-2.ensures ∙ c.if-is_some-2.true)
 
 pub returns-then-is_some-3 : goal.returns-then-is_some-3
 returns-then-is_some-3 c =
-    third_smallest c.args.self.now c.args.dead.now.states c.args.time c.args.to c.self.inside.map.now (ap (λ (q : Query). q.grid) c.self.view_is) c.self.invariant.0.posed.sizes c.requires.free
+    third_smallest c.args.self.now c.args.dead.now.states c.args.time c.args.to c.self.inside.map.now (ap (λ (q : Query). q.grid) c.self.view_is) c.self.invariant.posed.sizes c.requires.free
     c.free_above.result c.if_left-above.result c.free_at_left.result c.if_left-at_left.result
     c.free_above.ensures c.if_left-above.ensures (sym c.is_some.ensures ∙ c.if-is_some.false) c.free_at_left.ensures c.if_left-at_left.ensures
     (sym c.is_some-2.ensures ∙ c.if-is_some-2.false) c.if_left-stays.result c.if_left-stays.ensures
@@ -20,7 +20,7 @@ returns-then-is_some-3 c =
 
 pub returns-then-is_some-4 : goal.returns-then-is_some-4
 returns-then-is_some-4 c =
-    fourth_smallest c.args.self.now c.args.dead.now.states c.args.time c.args.to c.self.inside.map.now (ap (λ (q : Query). q.grid) c.self.view_is) c.self.invariant.0.posed.sizes c.requires.free
+    fourth_smallest c.args.self.now c.args.dead.now.states c.args.time c.args.to c.self.inside.map.now (ap (λ (q : Query). q.grid) c.self.view_is) c.self.invariant.posed.sizes c.requires.free
     c.free_above.result c.if_left-above.result c.free_at_left.result c.if_left-at_left.result
     c.free_above.ensures c.if_left-above.ensures (sym c.is_some.ensures ∙ c.if-is_some.false) c.free_at_left.ensures c.if_left-at_left.ensures
     (sym c.is_some-2.ensures ∙ c.if-is_some-2.false) c.if_left-stays.result c.if_left-stays.ensures
@@ -29,7 +29,7 @@ returns-then-is_some-4 c =
 
 pub returns : goal.returns
 returns c =
-    last_smallest c.args.self.now c.args.dead.now.states c.args.time c.args.to c.self.inside.map.now (ap (λ (q : Query). q.grid) c.self.view_is) c.self.invariant.0.posed.sizes c.requires.free
+    last_smallest c.args.self.now c.args.dead.now.states c.args.time c.args.to c.self.inside.map.now (ap (λ (q : Query). q.grid) c.self.view_is) c.self.invariant.posed.sizes c.requires.free
     c.free_above.result c.if_left-above.result c.free_at_left.result c.if_left-at_left.result
     c.free_above.ensures c.if_left-above.ensures (sym c.is_some.ensures ∙ c.if-is_some.false) c.free_at_left.ensures c.if_left-at_left.ensures
     (sym c.is_some-2.ensures ∙ c.if-is_some-2.false) c.if_left-stays.result c.if_left-stays.ensures

@@ -1,0 +1,17 @@
+use Rattle.std.proofs.Common.{◌≡◌, Some, None, subst, sym, ap, ◌∙◌}
+use Rattle.mapf_low.specs.Backwards.{HasNoneBefore}
+use Rattle.mapf_low.specs.Walk.{distance_at}
+use Rattle.mapf_low.proofs.BackwardCosts.{none_before, none_far}
+use Rattle.mapf_low.proofs.backwards.own_path.Goals as goal
+
+pub first_traced-requires : goal.first_traced-requires
+first_traced-requires c =
+    let query = c.args.query.now in
+    subst (HasNoneBefore query) (sym c.max.ensures)
+    (none_before query c.goal.ensures.posed c.args.least c.in-Some.earliest
+    (ap (distance_at query.table) (sym c.goal.ensures.goal) ∙ sym c.earliest.ensures ∙ c.in-Some.is) c.requires)
+
+pub returns-in-None : goal.returns-in-None
+returns-in-None c =
+    let query = c.args.query.now in
+    none_far query c.goal.ensures.posed (ap (distance_at query.table) (sym c.goal.ensures.goal) ∙ sym c.earliest.ensures ∙ c.in-None.is)
