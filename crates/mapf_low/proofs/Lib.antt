@@ -30,5 +30,6 @@ mod OutOfReach
 mod Placing
 mod BackwardCosts
 mod AscendingSides
+mod Advancing
 mod Taking
 pub mod Sets

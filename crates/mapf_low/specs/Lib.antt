@@ -8,10 +8,10 @@ pub mod Best
 pub mod Query
 pub mod Reached
 pub mod Backwards
-pub mod Earliest
 pub mod StateTable
 pub mod Layers
 pub mod Classes
+pub mod Earliest
 pub mod Taken
 pub mod Times
 pub mod Spread

@@ -1,4 +1,4 @@
-ghost use Rattle.std.specs.Prelude.{◌≡◌, ◌↔◌, ℕ, ◌+◌, ◌<◌, ◌≤◌, IsTrue, IfOk, MatchOption, Contains, Some};
+ghost use Rattle.std.specs.Prelude.{◌≡◌, ◌↔◌, ℕ, ◌+◌, ◌<◌, ◌≤◌, IsTrue, IfOk, MatchOption, Contains, Some, length};
 ghost use Rattle.mapf_grid.specs.Grid.{cells, IsFree};
 ghost use Rattle.mapf_low.specs.declared.constraint.Constraint.{Constraint};
 ghost use Rattle.mapf_low.specs.Walk.{distance_at};
@@ -6,7 +6,8 @@ ghost use Rattle.mapf_low.specs.Best.{IsSmallest};
 ghost use Rattle.mapf_low.specs.Query.{MayEnd};
 ghost use Rattle.mapf_low.specs.Reached.{ComesFrom};
 ghost use Rattle.mapf_low.specs.Backwards.{IsLeft, MayLead};
-ghost use Rattle.mapf_low.specs.Earliest.{AreEarliest, IsPosedBackwards};
+ghost use Rattle.mapf_low.specs.Earliest.{AreEarliest, IsPosedBackwards, MayGo};
+ghost use Rattle.mapf_low.specs.Levels.{IsFreeSide};
 ghost use Rattle.mapf_low.specs.Times.{IsQuiet};
 ghost use Rattle.mapf_plan.specs.Plan.{most_bound};
 
@@ -16,6 +17,7 @@ use crate::dead_ends::DeadEnds;
 use crate::entry::Entry;
 use crate::time::is_past;
 use mapf_grid::{Cell, Map, NoMemory};
+use smallvec::SmallVec;
 use std::alloc::Global;
 use std::marker::Model;
 
@@ -80,7 +82,15 @@ impl<'a> BackwardQuery<'a> {
         })
     }
 
-    /// Where the agent ends.
+    /// Where the agent begins.
+    pub fn start(&self) -> Cell
+        ensures start { result ≡ self.now.start }
+        ensures posed { IsPosedBackwards self.now }
+    {
+        self.start
+    }
+
+    /// Where it ends.
     pub fn goal(&self) -> Cell
         ensures goal { result ≡ self.now.goal }
         ensures posed { IsPosedBackwards self.now }
@@ -90,9 +100,25 @@ impl<'a> BackwardQuery<'a> {
 
     /// What its path may cost at most.
     pub fn limit(&self) -> u32
-        ensures { result ≡ self.now.limit }
+        ensures limit { result ≡ self.now.limit }
+        ensures posed { IsPosedBackwards self.now }
     {
         self.limit
+    }
+
+    /// How many cells the map has.
+    pub fn cells(&self) -> u32
+        ensures { result ≡ length self.now.grid.free }
+    {
+        self.map.height() * self.map.width()
+    }
+
+    /// The free cells at the four sides of a free cell.
+    pub fn sides(&self, cell: Cell) -> SmallVec<Cell, 4>
+        requires { IsFree self.now.grid cell }
+        ensures { (v : ℕ) → Contains result.items v ↔ IsFreeSide self.now.grid cell v }
+    {
+        self.map.neighbours(cell)
     }
 
     /// Whether nothing forbids the goal from this time step on.
@@ -138,6 +164,21 @@ impl<'a> BackwardQuery<'a> {
         self.is_late_enough(cell, time)
             && self.constraints.allows_at(cell, time)
             && !dead.contains(cell, time)
+    }
+
+    /// Whether no constraint forbids to be on the cell at this time step.
+    pub fn allows_at(&self, cell: Cell, time: u32) -> bool
+        ensures { IsTrue result ↔ (¬ Contains self.now.constraints (Constraint.Vertex cell time)) }
+    {
+        self.constraints.allows_at(cell, time)
+    }
+
+    /// Whether no constraint forbids to be on `from` at this time step, and to be on `to` at the next by a step from there.
+    pub fn may_go(&self, from: Cell, to: Cell, time: u32) -> bool
+        requires { time < most_bound }
+        ensures { IsTrue result ↔ MayGo self.now time from to }
+    {
+        self.is_quiet(time) || (self.allows(from, to, time, false) && self.allows_at(to, time + 1))
     }
 
     /// Whether no constraint forbids to be on `from` at this time step and to step from there to `to`. `quiet` says that none is

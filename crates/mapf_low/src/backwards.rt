@@ -10,6 +10,7 @@ ghost use Rattle.mapf_plan.specs.Plan.{most_bound};
 
 use crate::backward_query::BackwardQuery;
 use crate::dead_ends::DeadEnds;
+use crate::earliest::earliest_arrivals;
 use crate::{Constraints, Distances};
 use mapf_grid::{Cell, Map, NoMemory};
 use mapf_plan::Path;
@@ -112,9 +113,10 @@ fn own_path(
 /// step to the start at time 0. Where it meets no dead end it visits one state a time step.
 ///
 /// `from_start` are the distances to the start on this map, and no path that the agent may take costs less than `least`. A
-/// dead end is a cell at a time step from which the search had to turn back. `None` says that it met more than `budget` dead
-/// ends, and nothing of paths; `Some(None)` that there is no path that the agent may take; `Some(Some(path))` is its own path.
-/// Only `NoMemory` is an error.
+/// dead end is a cell at a time step from which the search had to turn back. Where it meets more than `budget` of them it
+/// begins again, by when the agent can be on each cell at the earliest under its constraints, in place of the distances.
+/// `None` says that it met too many dead ends then, too, and nothing of paths; `Some(None)` that there is no path that the
+/// agent may take; `Some(Some(path))` is its own path. Only `NoMemory` is an error.
 pub fn cheapest_backwards(
     alloc: Global,
     map: &Map,
@@ -146,5 +148,10 @@ pub fn cheapest_backwards(
         constraints,
         bound,
     )?;
-    own_path(alloc, &by_distance, least, budget)
+    if let Some(answer) = own_path(alloc, &by_distance, least, budget)? {
+        return Ok(Some(answer));
+    }
+    let arrivals = earliest_arrivals(alloc, &by_distance)?;
+    let by_arrival = BackwardQuery::new(alloc, map, &arrivals, start, goal, constraints, bound)?;
+    own_path(alloc, &by_arrival, least, budget)
 }

@@ -12,6 +12,7 @@ mod constraint;
 mod constraints;
 mod dead_ends;
 mod distances;
+mod earliest;
 mod entry;
 mod expansion;
 pub mod laws;

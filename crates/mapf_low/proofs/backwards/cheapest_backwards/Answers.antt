@@ -1,6 +1,7 @@
 use Rattle.std.proofs.Common.{subst, sym}
 use Rattle.mapf_low.specs.Earliest.{AreEarliest}
 use Rattle.mapf_low.specs.Query.{Query}
+use Rattle.mapf_low.proofs.Advancing.{earliest_by}
 use Rattle.mapf_low.proofs.OutOfReach.{distances_earliest}
 use Rattle.mapf_low.proofs.backwards.cheapest_backwards.Goals as goal
 
@@ -16,3 +17,10 @@ new-requires-clause-earliest c =
     } in
     subst (AreEarliest query) (sym c.entries.ensures)
     (distances_earliest query c.args.from_start.now c.width-width.ensures.sizes c.requires.start c.requires.from_start)
+
+pub new-requires-2-clause-earliest : goal.new-requires-2-clause-earliest
+new-requires-2-clause-earliest c =
+    let arrivals = c.deref.result.now in
+    let earliest : AreEarliest c.in_ok-by_distance.by_distance arrivals = subst (AreEarliest c.in_ok-by_distance.by_distance) (sym c.deref.ensures.value) c.in_ok-arrivals.ensures in
+    earliest_by c.args.map.now c.args.constraints.now c.args.start c.args.goal c.args.bound c.entries.result.now arrivals arrivals
+    (subst (λ q. AreEarliest q arrivals) c.in_ok-by_distance.ensures.asks earliest)

@@ -1,4 +1,4 @@
-use Rattle.std.proofs.Common.{◌≡◌, Some, None, subst, sym, ap, ◌∙◌}
+use Rattle.std.proofs.Common.{subst, sym, ap, ◌∙◌}
 use Rattle.mapf_low.specs.Backwards.{HasNoneBefore}
 use Rattle.mapf_low.specs.Walk.{distance_at}
 use Rattle.mapf_low.proofs.BackwardCosts.{none_before, none_far}
