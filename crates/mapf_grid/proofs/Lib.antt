@@ -22,6 +22,7 @@ mod RowNames
 mod MapFaultRanks
 mod ScenFaultRanks
 mod InstanceFaultRanks
+pub mod RowStarts
 pub mod Unique
 pub mod DigitWords
 pub mod Asked

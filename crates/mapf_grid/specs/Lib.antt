@@ -1,6 +1,7 @@
 pub mod Least
 pub mod Grid
 pub mod Sides
+pub mod RowStarts
 pub mod Lines
 pub mod Cuts
 pub mod MapFile

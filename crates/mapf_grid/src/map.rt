@@ -4,10 +4,12 @@ ghost use Rattle.smallvec.specs.SmallVec.{HasRoomFor};
 
 mod header;
 mod reader;
+mod row_starts;
 mod sides;
 mod steps;
 
 use crate::Cell;
+use crate::map::row_starts::RowStarts;
 use smallvec::SmallVec;
 use std::marker::Model;
 
@@ -17,16 +19,18 @@ pub struct Map {
     width: u32,
     height: u32,
     free: Vec<bool>,
+    row_starts: RowStarts,
 }
 
 impl Model for Map {
+    ghost use Rattle.std.specs.Prelude.{◌≡◌};
     ghost use Rattle.mapf_grid.specs.Grid.{Grid, HasSizes};
 
     ghost Value = { Grid };
 
     ghost view = { λ m. record { width = m.width; height = m.height; free = m.free.items } };
 
-    ghost invariant = { λ m. HasSizes (record { width = m.width; height = m.height; free = m.free.items }) };
+    ghost invariant = { λ m. HasSizes (record { width = m.width; height = m.height; free = m.free.items }) × (m.row_starts ≡ m.width) };
 }
 
 impl Map {
@@ -113,10 +117,10 @@ impl Map {
         ensures { (v : ℕ) → (result ≡ Some v) ↔ ((cell ≡ v + 1) × (cell / self.now.width ≡ v / self.now.width)) }
     {
         let number = cell.number();
-        if 0 < number % self.width {
-            Some(Cell::of(number - 1))
-        } else {
+        if self.row_starts.has(number) {
             None
+        } else {
+            Some(Cell::of(number - 1))
         }
     }
 
@@ -125,11 +129,12 @@ impl Map {
         requires { cell < cells self.now }
         ensures { (v : ℕ) → (result ≡ Some v) ↔ ((v ≡ cell + 1) × (v / self.now.width ≡ cell / self.now.width)) }
     {
-        let number = cell.number();
-        if number % self.width + 1 < self.width {
-            Some(Cell::of(number + 1))
-        } else {
+        let row_starts = &self.row_starts;
+        let next = cell.number() + 1;
+        if row_starts.has(next) {
             None
+        } else {
+            Some(Cell::of(next))
         }
     }
 

@@ -8,6 +8,7 @@ ghost use Rattle.mapf_grid.specs.MapReading.{IsHeader, HasRead, AreCellBytes, Is
 
 use super::Map;
 use super::header::read_header;
+use super::row_starts::RowStarts;
 use crate::MapFault;
 use crate::lines::{first_line, is_blank_line};
 use std::alloc::Global;
@@ -41,10 +42,14 @@ impl Map {
             }
             rest = after;
         }
+        let row_starts = RowStarts::of(alloc, rows.width, rows.height).map_err(
+            |_| MapFault::NoMemory,
+        )?;
         Ok(Map {
             width: rows.width,
             height: rows.height,
             free: rows.free,
+            row_starts,
         })
     }
 }

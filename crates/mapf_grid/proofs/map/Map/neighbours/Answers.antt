@@ -5,7 +5,7 @@ use Rattle.mapf_grid.proofs.Neighbours.{Holds, sides_of_cell, sides_are_steps}
 use Rattle.mapf_grid.proofs.map.Map.neighbours.Goals as goal
 
 wide : (c : goal.After-push_free-4) → 0 < c.args.self.now.width
-wide c = subst (λ (g : Grid). 0 < g.width) c.self.view_is c.self.invariant.some_width
+wide c = subst (λ (g : Grid). 0 < g.width) c.self.view_is c.self.invariant.0.some_width
 
 held : (c : goal.After-push_free-4) → Holds (λ v. IsFree c.args.self.now v × IsBeside c.args.self.now c.args.cell v) c.push_free-4.new.sides.items
 held c = sides_of_cell c.args.self.now c.args.cell c.above.result c.at_left.result c.at_right.result c.below.result
