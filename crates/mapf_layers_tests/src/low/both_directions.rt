@@ -1,5 +1,5 @@
 //! The search backwards gives the same path as the search from the start: on small maps for each start, goal and constraint,
-//! and where an agent is held at its start.
+//! and where an agent is held at its start, or has to pass a cell that is forbidden for long.
 
 use super::agreement::{free_places, is_same};
 use super::map_files::{LINE, OPEN, RING, ROOM, SQUARE, cell_at};
@@ -16,7 +16,7 @@ const BOUND: u32 = 8;
 /// How many dead ends a search backwards may meet here: more than there are.
 const BUDGET: usize = 1_000;
 
-/// Asserts that both give the same between two cells under a set of constraints.
+/// Asserts that both give the same between two cells under a set of constraints, where so many dead ends may be met.
 fn assert_same(
     rt: &impl Abort,
     alloc: Global,
@@ -24,13 +24,14 @@ fn assert_same(
     start: Cell,
     goal: Cell,
     set: &Constraints,
+    budget: usize,
 ) -> Result<(), Fail> {
     assert!(rt; map.is_free(start));
     assert!(rt; map.is_free(goal));
     let distances = Distances::to(alloc, map, goal)?;
     let from_start = Distances::to(alloc, map, start)?;
     let one = cheapest(alloc, map, &distances, start, goal, set, BOUND)?;
-    let other = cheapest_backwards(alloc, map, &from_start, start, goal, set, 0, BOUND, BUDGET)?;
+    let other = cheapest_backwards(alloc, map, &from_start, start, goal, set, 0, BOUND, budget)?;
     let cells = one.as_ref().map(|path| path.cells());
     let back = other.ok_or("too many dead ends")?;
     assert!(rt;
@@ -48,7 +49,7 @@ fn assert_same_on(rt: &impl Abort, alloc: Global, file: &[u8]) -> Result<(), Fai
         let set = set_of(alloc, *constraint)?;
         for (_, start) in &places {
             for (_, goal) in &places {
-                assert_same(rt, alloc, &map, *start, *goal, &set)?;
+                assert_same(rt, alloc, &map, *start, *goal, &set, BUDGET)?;
             }
         }
     }
@@ -72,12 +73,12 @@ fn both_directions_agree_on_smaller_maps(rt: HostRuntime) -> Result<(), Fail> {
     assert_same_on(&rt, rt.alloc(), SQUARE)
 }
 
-/// The sides of the upper left corner of a map of three columns, forbidden from time 1 up to this time.
-fn holding(alloc: Global, last: u32) -> Result<Constraints, Fail> {
+/// These cells, forbidden from time 1 up to this time.
+fn forbidding(alloc: Global, cells: &[u32], last: u32) -> Result<Constraints, Fail> {
     let mut set = Constraints::new(alloc);
     for time in 1..=last {
-        for side in [1, 3] {
-            let cell = Cell::of(side);
+        for number in cells {
+            let cell = Cell::of(*number);
             set = set.and(Constraint::Vertex { cell, time })?;
         }
     }
@@ -91,7 +92,25 @@ fn both_directions_agree_where_the_start_is_held(rt: HostRuntime) -> Result<(), 
     let start = cell_at(&map, (0, 0))?;
     let goal = cell_at(&map, (2, 2))?;
     for last in 0..=5 {
-        assert_same(&rt, alloc, &map, start, goal, &holding(alloc, last)?)?;
+        // Both sides of the upper left corner.
+        let set = forbidding(alloc, &[1, 3], last)?;
+        assert_same(&rt, alloc, &map, start, goal, &set, BUDGET)?;
+        assert_same(&rt, alloc, &map, start, goal, &set, 0)?;
+    }
+    Ok(())
+}
+
+#[test]
+fn both_directions_agree_where_the_only_way_is_closed_for_long(
+    rt: HostRuntime,
+) -> Result<(), Fail> {
+    let alloc = rt.alloc();
+    let map = Map::read(alloc, LINE)?;
+    let start = cell_at(&map, (0, 0))?;
+    let goal = cell_at(&map, (2, 0))?;
+    for last in 0..=7 {
+        let set = forbidding(alloc, &[1], last)?;
+        assert_same(&rt, alloc, &map, start, goal, &set, 0)?;
     }
     Ok(())
 }
@@ -111,8 +130,18 @@ fn a_dead_end_over_the_budget_ends_the_search_backwards(rt: HostRuntime) -> Resu
         cell: between,
         time: 1,
     })?;
-    // Only the goal at time 2 is a dead end: the cell between is forbidden at time 1.
-    for (set, budget, cost) in [(&free, 0, Some(2)), (&held, 0, None), (&held, 1, Some(3))] {
+    let mut lost = Constraints::new(alloc);
+    for cell in [start, between, goal] {
+        lost = lost.and(Constraint::Vertex { cell, time: 2 })?;
+    }
+    // By the distances the goal at time 2 is a dead end, since the cell between is forbidden at time 1, and by the earliest
+    // arrivals nothing is. That at time 2 there is no cell to be on is found by dead ends alone.
+    for (set, budget, cost) in [
+        (&free, 0, Some(2)),
+        (&held, 0, Some(3)),
+        (&held, 1, Some(3)),
+        (&lost, 0, None),
+    ] {
         let found = cheapest_backwards(
             alloc,
             &map,
