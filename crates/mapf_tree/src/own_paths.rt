@@ -226,7 +226,8 @@ impl<'p> OwnPaths<'p> {
 
     /// The distances from the start of the agent on a side of a node's conflict, which are made where a search for it first wants
     /// them: on a map of at most 65,536 cells each does, but for an agent's first ones where there are at most 4,096, and on a
-    /// larger one where the agent's goal is forbidden late. Without a table before, or where memory ran out.
+    /// larger one where the agent's goal is forbidden late, or the agent comes late by many time steps. Without a table before, or
+    /// where memory ran out.
     pub fn from_start(&mut self, node: &Node, side: Side) -> FromStart
         requires { IsBranching self.old node.now }
         ensures problem { self.new ≡ self.old }

@@ -125,7 +125,7 @@ impl<'p> SideQuery<'p> {
 
     /// Whether a table of the distances from its agent's start is worth its cost, after so many searches for that agent without one:
     /// on a map of at most 65,536 cells, but where there are at most 4,096 only once those searches cost as much; and on each that
-    /// has fewer cells than a search forwards may take states.
+    /// has fewer cells than a search forwards likely takes states.
     pub(crate) fn wants_from_start(&self, searched: u32) -> bool {
         let map = self.problem.instance().map();
         let cells = map.height() * map.width();
@@ -134,22 +134,24 @@ impl<'p> SideQuery<'p> {
         } else {
             cells <= MOST_CELLS
         };
-        pays || u64::from(cells) < self.late_states()
+        pays || u64::from(cells) < self.spare_states()
     }
 
-    /// How many states a search forwards may take since the goal is forbidden late: about half the square of the time steps that
-    /// the agent has to spare until then. None where its newest constraint doesn't forbid the goal.
-    fn late_states(&self) -> u64 {
+    /// How many states a search forwards likely takes at least, since the agent has time steps to spare: about half the square of
+    /// those until its newest constraint forbids its goal, and about half of the cells on its way as often as its path at the node
+    /// waits or turns aside.
+    fn spare_states(&self) -> u64 {
         let instance = self.problem.instance();
         let start = instance.start(self.agent);
-        match self.constraint {
+        let nearest = self.problem.distances(self.agent).get(start).unwrap_or(0);
+        let until_forbidden = match self.constraint {
             Constraint::Vertex { cell, time } if cell == instance.goal(self.agent) => {
-                let nearest = self.problem.distances(self.agent).get(start).unwrap_or(0);
-                let spare = u64::from(time.min(self.limit).saturating_sub(nearest));
-                spare * spare / 2
+                u64::from(time.min(self.limit).saturating_sub(nearest))
             }
             _ => 0,
-        }
+        };
+        let late = u64::from(self.least.saturating_sub(nearest));
+        (until_forbidden * until_forbidden / 2).max(late * u64::from(nearest) / 2)
     }
 
     /// The own path that it asks for; none where there is none.
