@@ -1,6 +1,7 @@
 //! The changes that lead from the root to a node.
 
-ghost use Rattle.std.specs.Prelude.{◌≡◌, ◌≢◌, ◌↔◌, ◌<◌, ◌≤◌, ℕ, ◌⊎◌, [], ◌∷◌, ◌++◌, All, length, map, replicate, slice_get, slice_index_or, option_map, List, Some, IfOk, OnOk, Contains, MatchOption};
+ghost use Rattle.std.specs.Prelude.{◌≡◌, ◌≢◌, ◌↔◌, ◌<◌, ◌≤◌, ℕ, ◌⊎◌, [], ◌∷◌, ◌++◌, All, length, map, replicate, slice_get, slice_index_or, option_map, List, Some, IfOk, Contains, MatchOption, IfSome};
+ghost use Rattle.std.specs.List.{flat_map};
 ghost use Rattle.std.specs.Arc.{arc_value};
 ghost use Rattle.mapf_plan.specs.Plan.{path_of};
 ghost use Rattle.mapf_low.specs.declared.constraint.Constraint.{Constraint};
@@ -8,6 +9,8 @@ ghost use Rattle.mapf_tree.specs.Nodes.{Changed, IsTurnedTo, IsSameSet, changed_
 
 use crate::change::Change;
 use crate::current_paths::CurrentPaths;
+use crate::four_changes::FourChanges;
+use crate::older_changes::OlderChanges;
 use crate::own_changes::OwnChanges;
 use mapf_grid::NoMemory;
 use mapf_low::Constraints;
@@ -21,18 +24,17 @@ use std::sync::Arc;
 /// The older ones are one list that nodes share, so a child's chain copies no more than a few of its parent's pointers.
 #[derive(Drop)]
 pub(crate) struct Chain {
-    older: Arc<Vec<Arc<Change>>>,
+    older: OlderChanges,
     own: OwnChanges,
 }
 
 impl Model for Chain {
-    ghost use Rattle.std.specs.Prelude.{List, ◌++◌, map};
-    ghost use Rattle.std.specs.Arc.{arc_value};
+    ghost use Rattle.std.specs.Prelude.{List, ◌++◌};
     ghost use Rattle.mapf_tree.specs.Nodes.{Changed};
 
     ghost Value = { List Changed };
 
-    ghost view = { λ c. map arc_value c.older.value.items ++ c.own };
+    ghost view = { λ c. c.older ++ c.own };
 }
 
 impl Chain {
@@ -41,33 +43,36 @@ impl Chain {
         ensures { IfOk result (λ chain. chain ≡ []) }
     {
         Ok(Chain {
-            older: Arc::new(alloc, Vec::new(alloc))?,
+            older: OlderChanges::none(alloc)?,
             own: OwnChanges::none(),
         })
     }
 
     /// Where its memory is from.
     pub(crate) fn allocator(&self) -> Global {
-        *self.older.allocator()
+        self.older.allocator()
     }
 
     /// What a turn changed, turns from 0.
     pub(crate) fn get(&self, turn: usize) -> Option<&Change>
         ensures { MatchOption result (length self.now ≤ turn) (λ change. slice_get self.now turn ≡ Some change.now) }
     {
-        let older = self.older.len();
-        if turn < older {
-            Some(&self.older[turn])
-        } else {
-            Some(self.own.as_slice().get(turn - older)?)
+        let mut left = turn;
+        for four in self.older.fours() {
+            let changes = four.as_slice();
+            if left < changes.len() {
+                return Some(&changes[left]);
+            }
+            left -= changes.len();
         }
+        Some(self.own.as_slice().get(left)?)
     }
 
     /// The older changes, and the rest.
-    pub(crate) fn parts(&self) -> (&[Arc<Change>], &[Arc<Change>])
-        ensures { map arc_value result.0.now ++ map arc_value result.1.now ≡ self.now }
+    pub(crate) fn parts(&self) -> (&OlderChanges, &OwnChanges)
+        ensures { result.0.now ++ result.1.now ≡ self.now }
     {
-        (&self.older, self.own.as_slice())
+        (&self.older, &self.own)
     }
 
     /// The chain with one change more. Where it has as many by itself as may be, those are shared with all nodes below it.
@@ -76,11 +81,11 @@ impl Chain {
     {
         match self.own.with(change)? {
             Ok(own) => Ok(Chain {
-                older: Arc::try_clone(&self.older)?,
+                older: self.older.copy()?,
                 own,
             }),
-            Err(change) => Ok(Chain {
-                older: self.shared(alloc)?,
+            Err((four, change)) => Ok(Chain {
+                older: self.older.with(alloc, four)?,
                 own: OwnChanges::one(change),
             }),
         }
@@ -91,23 +96,20 @@ impl Chain {
     pub(crate) fn settle(&mut self)
         ensures { self.new ≡ self.old }
     {
-        if self.own.is_full() {
-            if let Ok(older) = self.shared(self.allocator()) {
-                self.older = older;
-                self.own = OwnChanges::none();
-            }
+        if let Ok(Some(older)) = self.shared(self.allocator()) {
+            self.older = older;
+            self.own = OwnChanges::none();
         }
     }
 
-    /// All changes as one list that nodes can share.
-    fn shared(&self, alloc: Global) -> Result<Arc<Vec<Arc<Change>>>, NoMemory>
-        ensures { IfOk result (λ all. map arc_value all.value.items ≡ self.now) }
+    /// All changes as one list that nodes can share, where it has as many by itself as may be; else none.
+    fn shared(&self, alloc: Global) -> Result<Option<OlderChanges>, NoMemory>
+        ensures { IfOk result (λ shared. IfSome shared (λ all. all ≡ self.now)) }
     {
-        let own = self.own.as_slice();
-        let mut all = Vec::with_capacity(alloc, self.older.len() + own.len())?;
-        share_all(&mut all, &self.older)?;
-        share_all(&mut all, own)?;
-        Ok(Arc::new(alloc, all)?)
+        match self.own.full()? {
+            Some(four) => Ok(Some(self.older.with(alloc, four)?)),
+            None => Ok(None),
+        }
     }
 
     /// An equal chain.
@@ -115,7 +117,7 @@ impl Chain {
         ensures { IfOk result (λ other. other ≡ self.now) }
     {
         Ok(Chain {
-            older: Arc::try_clone(&self.older)?,
+            older: self.older.copy()?,
             own: self.own.copy()?,
         })
     }
@@ -124,7 +126,7 @@ impl Chain {
     pub(crate) fn turned_path(&self, agent: usize) -> Option<&Arc<Path>>
         ensures { (root : List (List ℕ)) → agent < length root → IsTurnedTo root self.now agent (option_map (λ p. arc_value p.now) result) }
     {
-        let older = turned_after(None, &self.older, agent);
+        let older = turned_after_fours(None, self.older.fours(), agent);
         turned_after(older, self.own.as_slice(), agent)
     }
 
@@ -149,7 +151,7 @@ impl Chain {
         ensures { IfOk result (λ paths. paths ≡ changed_plan root.now self.now) }
     {
         let mut paths = CurrentPaths::of(alloc, root)?;
-        change_all(&mut paths, &self.older);
+        change_fours(&mut paths, self.older.fours());
         change_all(&mut paths, self.own.as_slice());
         Ok(paths)
     }
@@ -158,19 +160,26 @@ impl Chain {
     pub(crate) fn constraints(&self, alloc: Global, agent: usize) -> Result<Constraints, NoMemory>
         ensures { IfOk result (λ set. (agents : ℕ) → agent < agents → IsSameSet set (slice_index_or (changed_sets (replicate agents []) self.now) agent [])) }
     {
-        let older = constraints_after(Constraints::new(alloc), &self.older, agent)?;
+        let fours = self.older.fours();
+        let older = constraints_after_fours(Constraints::new(alloc), fours, agent)?;
         constraints_after(older, self.own.as_slice(), agent)
     }
 }
 
-/// Puts these changes behind others, and shares them.
-fn share_all(all: &mut Vec<Arc<Change>>, changes: &[Arc<Change>]) -> Result<(), NoMemory>
-    ensures { OnOk result (map arc_value all.new.items ≡ map arc_value all.old.items ++ map arc_value changes.now) }
+/// An agent's path after some fours of changes, from its path before them; none where it has the root's.
+fn turned_after_fours<'a>(
+    before: Option<&'a Arc<Path>>,
+    fours: &'a [Arc<FourChanges>],
+    agent: usize,
+) -> Option<&'a Arc<Path>>
+    ensures { (root : List (List ℕ)) (old : List Changed) → agent < length root → IsTurnedTo root old agent (option_map (λ p. arc_value p.now) before.entry)
+        → IsTurnedTo root (old ++ flat_map arc_value fours.now) agent (option_map (λ p. arc_value p.now) result) }
 {
-    for change in changes {
-        all.push(Arc::try_clone(change)?)?;
+    let mut path = before;
+    for four in fours {
+        path = turned_after(path, four.as_slice(), agent);
     }
-    Ok(())
+    path
 }
 
 /// An agent's path after some changes, from its path before them; none where it has the root's.
@@ -205,6 +214,16 @@ fn turned_once<'a>(
     }
 }
 
+/// Each agent of some fours of changes has another path.
+fn change_fours<'a>(paths: &mut CurrentPaths<'a>, fours: &'a [Arc<FourChanges>])
+    requires { All (λ x. x.agent < length paths.old) (flat_map arc_value fours.now) }
+    ensures { paths.new ≡ changed_plan paths.old (flat_map arc_value fours.now) }
+{
+    for four in fours {
+        change_all(paths, four.as_slice());
+    }
+}
+
 /// Each change's agent has another path.
 fn change_all<'a>(paths: &mut CurrentPaths<'a>, changes: &'a [Arc<Change>])
     requires { All (λ x. x.agent < length paths.old) (map arc_value changes.now) }
@@ -213,6 +232,22 @@ fn change_all<'a>(paths: &mut CurrentPaths<'a>, changes: &'a [Arc<Change>])
     for change in changes {
         paths.change(change);
     }
+}
+
+/// What an agent is forbidden after some fours of changes, from what it was before them.
+fn constraints_after_fours(
+    before: Constraints,
+    fours: &[Arc<FourChanges>],
+    agent: usize,
+) -> Result<Constraints, NoMemory>
+    ensures { IfOk result (λ set. (sets : List (List Constraint)) → agent < length sets → IsSameSet before (slice_index_or sets agent [])
+        → IsSameSet set (slice_index_or (changed_sets sets (flat_map arc_value fours.now)) agent [])) }
+{
+    let mut constraints = before;
+    for four in fours {
+        constraints = constraints_after(constraints, four.as_slice(), agent)?;
+    }
+    Ok(constraints)
 }
 
 /// What an agent is forbidden after some changes, from what it was before them.

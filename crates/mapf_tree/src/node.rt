@@ -1,4 +1,4 @@
-ghost use Rattle.std.specs.Prelude.{◌≡◌, ◌↔◌, ◌+◌, ◌<◌, ◌≤◌, [], ◌∷◌, ◌++◌, length, replicate, slice_get, slice_set, slice_index_or, map, Some, IfOk, IfSome, IsSome, IsTrue, MatchOption, Contains};
+ghost use Rattle.std.specs.Prelude.{◌≡◌, ◌↔◌, ◌+◌, ◌<◌, ◌≤◌, [], ◌∷◌, ◌++◌, length, replicate, slice_get, slice_set, slice_index_or, Some, IfOk, IfSome, IsSome, IsTrue, MatchOption, Contains};
 ghost use Rattle.std.specs.Arc.{arc_value};
 ghost use Rattle.mapf_grid.specs.Instance.{most_agents};
 ghost use Rattle.mapf_plan.specs.Path.{cost};
@@ -8,6 +8,8 @@ ghost use Rattle.mapf_tree.specs.Nodes.{changed_sets};
 use crate::chain::Chain;
 use crate::change::Change;
 use crate::current_paths::CurrentPaths;
+use crate::older_changes::OlderChanges;
+use crate::own_changes::OwnChanges;
 use crate::side_extensions::SideExtensions;
 use crate::{Key, Name, Side};
 use mapf_grid::NoMemory;
@@ -254,8 +256,8 @@ impl Node {
     }
 
     /// What the turns of its name changed: first what it shares with the nodes below it, then the rest.
-    pub(crate) fn changes(&self) -> (&[Arc<Change>], &[Arc<Change>])
-        ensures changes { map arc_value result.0.now ++ map arc_value result.1.now ≡ self.now.changes }
+    pub(crate) fn changes(&self) -> (&OlderChanges, &OwnChanges)
+        ensures changes { result.0.now ++ result.1.now ≡ self.now.changes }
         ensures constraints { self.now.constraints ≡ changed_sets (replicate (length self.now.plan) []) self.now.changes }
     {
         self.body.changes.parts()

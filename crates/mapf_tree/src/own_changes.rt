@@ -1,9 +1,10 @@
 //! The changes of a chain that a node has by itself.
 
-ghost use Rattle.std.specs.Prelude.{◌≡◌, [], ◌∷◌, ◌++◌, map, IfOk, IfErr};
+ghost use Rattle.std.specs.Prelude.{◌≡◌, [], ◌∷◌, ◌++◌, map, IfOk, IfErr, IfSome};
 ghost use Rattle.std.specs.Arc.{arc_value};
 
 use crate::change::Change;
+use crate::four_changes::FourChanges;
 use mapf_grid::NoMemory;
 use std::marker::Model;
 use std::sync::Arc;
@@ -15,7 +16,7 @@ enum Held {
     One([Arc<Change>; 1]),
     Two([Arc<Change>; 2]),
     Three([Arc<Change>; 3]),
-    Four([Arc<Change>; 4]),
+    Four(FourChanges),
 }
 
 /// The changes of a chain that a node has by itself, at most four.
@@ -55,9 +56,14 @@ impl OwnChanges {
         }
     }
 
-    /// Whether there are as many as may be.
-    pub(crate) fn is_full(&self) -> bool {
-        matches!(self.held, Held::Four(_))
+    /// The changes, shared once more, where there are as many as may be; else none.
+    pub(crate) fn full(&self) -> Result<Option<FourChanges>, NoMemory>
+        ensures { IfOk result (λ full. IfSome full (λ four. four ≡ self.now)) }
+    {
+        match &self.held {
+            Held::Four(four) => Ok(Some(four.copy()?)),
+            _ => Ok(None),
+        }
     }
 
     /// The changes.
@@ -69,31 +75,32 @@ impl OwnChanges {
             Held::One(changes) => changes,
             Held::Two(changes) => changes,
             Held::Three(changes) => changes,
-            Held::Four(changes) => changes,
+            Held::Four(four) => four.as_slice(),
         }
     }
 
-    /// The same changes, shared once more, and another one, which comes back where there are as many as may be.
+    /// The same changes, shared once more, and another one. Where there are as many as may be, both come back apart.
     pub(crate) fn with(
         &self,
         change: Arc<Change>,
-    ) -> Result<Result<OwnChanges, Arc<Change>>, NoMemory>
+    ) -> Result<Result<OwnChanges, (FourChanges, Arc<Change>)>, NoMemory>
         ensures own { IfOk result (λ more. IfOk more (λ own. own ≡ self.now ++ change.value ∷ [])) }
-        ensures back { IfOk result (λ more. IfErr more (λ back. back ≡ change)) }
+        ensures four { IfOk result (λ more. IfErr more (λ back. back.0 ≡ self.now)) }
+        ensures back { IfOk result (λ more. IfErr more (λ back. back.1 ≡ change)) }
     {
         let held = match &self.held {
             Held::Nothing => Held::One([change]),
             Held::One([a]) => Held::Two([Arc::try_clone(a)?, change]),
             Held::Two([a, b]) => Held::Three([Arc::try_clone(a)?, Arc::try_clone(b)?, change]),
             Held::Three([a, b, c]) => {
-                Held::Four([
+                Held::Four(FourChanges::of([
                     Arc::try_clone(a)?,
                     Arc::try_clone(b)?,
                     Arc::try_clone(c)?,
                     change,
-                ])
+                ]))
             }
-            Held::Four(_) => return Ok(Err(change)),
+            Held::Four(four) => return Ok(Err((four.copy()?, change))),
         };
         Ok(Ok(OwnChanges { held }))
     }
@@ -109,12 +116,7 @@ impl OwnChanges {
             Held::Three([a, b, c]) => {
                 Held::Three([Arc::try_clone(a)?, Arc::try_clone(b)?, Arc::try_clone(c)?])
             }
-            Held::Four([a, b, c, d]) => Held::Four([
-                Arc::try_clone(a)?,
-                Arc::try_clone(b)?,
-                Arc::try_clone(c)?,
-                Arc::try_clone(d)?,
-            ]),
+            Held::Four(four) => Held::Four(four.copy()?),
         };
         Ok(OwnChanges { held })
     }

@@ -1,6 +1,7 @@
 //! What is known at a node: each agent's set of constraints and its path, by number.
 
 ghost use Rattle.std.specs.Prelude.{◌≡◌, ◌≢◌, ℕ, ◌<◌, List, [], ◌∷◌, length, map, slice_index, slice_set, IfSome, IfOk, OnOk, IsTrue};
+ghost use Rattle.std.specs.List.{flat_map};
 ghost use Rattle.std.specs.Arc.{arc_value};
 ghost use Rattle.mapf_plan.specs.KnownPaths.{IsKnownPlan};
 ghost use Rattle.mapf_low.specs.declared.constraint.Constraint.{Constraint};
@@ -11,6 +12,7 @@ ghost use Rattle.mapf_tree.specs.Book.{HasOwnPath, AreOwnPaths, AreSetsOf, ArePa
 use crate::Node;
 use crate::book::Book;
 use crate::change::Change;
+use crate::four_changes::FourChanges;
 use crate::known_sets::{KnownOwn, KnownSets};
 use mapf_grid::NoMemory;
 use mapf_plan::{KnownPaths, KnownPlan};
@@ -180,10 +182,10 @@ impl<'p> Book<'p> {
         sets.clear();
         sets.extend_from_slice(&self.firsts)?;
         let (older, own) = node.changes();
-        if !turn_all(&self.sets, &mut sets, older) {
+        if !turn_fours(&self.sets, &mut sets, older.fours()) {
             return Ok(None);
         }
-        if !turn_all(&self.sets, &mut sets, own) {
+        if !turn_all(&self.sets, &mut sets, own.as_slice()) {
             return Ok(None);
         }
         Ok(Some(sets))
@@ -242,6 +244,18 @@ fn turn_to(
         paths.turn(plan, agent, number)?;
     }
     Ok(())
+}
+
+/// Each agent's set after some fours of changes more; false where one isn't known.
+fn turn_fours(known: &KnownSets, sets: &mut Vec<usize>, fours: &[Arc<FourChanges>]) -> bool
+    ensures { IsTrue result → (cs : List (List Constraint)) → AreSetsOf known.now sets.old.items cs → AreSetsOf known.now sets.new.items (changed_sets cs (flat_map arc_value fours.now)) }
+{
+    for four in fours {
+        if !turn_all(known, sets, four.as_slice()) {
+            return false;
+        }
+    }
+    true
 }
 
 /// Each agent's set after some changes more; false where one isn't known.
