@@ -73,6 +73,11 @@ impl<'p> Book<'p> {
         }
     }
 
+    /// Whether no agent's set is known, and so no path.
+    pub(crate) fn is_empty(&self) -> bool {
+        self.sets.is_empty()
+    }
+
     /// The child of a node on one side of its conflict, where its path is known: none exactly where it isn't in the tree. None
     /// where nothing is known.
     pub(crate) fn child(

@@ -74,6 +74,11 @@ impl KnownSets {
         }
     }
 
+    /// Whether no set was met yet.
+    pub(crate) fn is_empty(&self) -> bool {
+        self.sets.is_empty()
+    }
+
     /// The set of a number. None where there is none.
     pub(crate) fn get(&self, set: usize) -> Option<&KnownSet>
         ensures { IfSome result (λ s. slice_get self.now set ≡ Some s.now) }

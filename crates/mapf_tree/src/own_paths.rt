@@ -126,6 +126,19 @@ impl<'p> OwnPaths<'p> {
         Ok((left, right))
     }
 
+    /// The same ahead of the node's turn: the node isn't looked at where nothing was searched yet, as nothing is known then.
+    pub fn known_ahead(&mut self, node: &Node) -> Result<KnownChildren, NoMemory>
+        requires { IsBranching self.old node.now }
+        ensures problem { self.new ≡ self.old }
+        ensures left { IfOk result (λ sides. IfSome sides.0 (IsChildOf self.old node.now Side.Left)) }
+        ensures right { IfOk result (λ sides. IfSome sides.1 (IsChildOf self.old node.now Side.Right)) }
+    {
+        if self.book.is_empty() {
+            return Ok((None, None));
+        }
+        self.known_children(node)
+    }
+
     /// The child of a node of the tree on one side of its conflict, where its path and all paths of the node are known by
     /// number: none exactly where it isn't in the tree. None where they aren't.
     pub fn numbered_child(

@@ -73,7 +73,7 @@ impl<'p> Ready<'p> {
         ensures left { IfOk result (λ sides. IfSome sides.0 (IsChildOf self.old node.now Side.Left)) }
         ensures right { IfOk result (λ sides. IfSome sides.1 (IsChildOf self.old node.now Side.Right)) }
     {
-        self.own_paths.known_children(node)
+        self.own_paths.known_ahead(node)
     }
 
     /// The distances from the start of the agent on a side of a node's conflict; without a table where none is to be had.
