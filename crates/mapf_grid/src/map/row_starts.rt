@@ -6,8 +6,12 @@ ghost use Rattle.mapf_grid.specs.RowStarts.{AreRowStarts};
 use std::alloc::{AllocError, Global};
 use std::marker::Model;
 
-/// Which cells of a map begin a row, of which all have so many cells. It is looked up, since a division takes several times as
-/// long.
+/// The most cells of a map of which it is kept where rows begin. On a larger one the look would reach for memory that isn't near
+/// the processor, and a division takes less time.
+const MOST_KEPT: usize = 262_144;
+
+/// Which cells of a map begin a row, of which all have so many cells. It is looked up where that is kept, since a division takes
+/// several times as long.
 #[derive(Drop)]
 pub(crate) struct RowStarts {
     width: u32,
@@ -26,19 +30,22 @@ impl Model for RowStarts {
 }
 
 impl RowStarts {
-    /// The cells that begin so many rows of this width.
+    /// The cells that begin so many rows of this width; they are kept on maps of at most 262,144 cells.
     pub(crate) fn of(alloc: Global, width: u32, height: u32) -> Result<RowStarts, AllocError>
         requires { 0 < width }
         ensures { IfOk result (λ r. r ≡ width) }
     {
-        let mut starts = Vec::with_capacity(alloc, width as usize * height as usize)?;
-        for _row in 0..height {
+        let cells = width as usize * height as usize;
+        let rows = if cells <= MOST_KEPT { height } else { 0 };
+        let mut starts = Vec::with_capacity(alloc, width as usize * rows as usize)?;
+        for _row in 0..rows {
             add_row(width, &mut starts)?;
         }
         Ok(RowStarts { width, starts })
     }
 
-    /// Whether the cell of this number begins a row; behind the last row, too, where rows would go on.
+    /// Whether the cell of this number begins a row; behind the last row, too, where rows would go on. Where it isn't kept, a
+    /// division tells.
     #[inline]
     pub(crate) fn has(&self, number: u32) -> bool
         ensures { IsTrue result ↔ (number % self.now ≡ 0) }
