@@ -1,5 +1,5 @@
-ghost use Rattle.std.specs.Prelude.{◌≡◌, ◌↔◌, IsTrue};
-ghost use Rattle.mapf_grid.specs.Grid.{IsRightOrBelow, Next};
+ghost use Rattle.std.specs.Prelude.{◌≡◌, ◌↔◌, IsTrue, Some};
+ghost use Rattle.mapf_grid.specs.Grid.{IsRightOrBelow, IsBeside, Next};
 
 use crate::{Cell, Map};
 
@@ -9,18 +9,35 @@ impl Map {
     pub fn is_step(&self, from: Cell, to: Cell) -> bool
         ensures { IsTrue result ↔ Next self.now from to }
     {
-        self.is_free(from)
-            && self.is_free(to)
-            && (from == to || self.is_right_or_below(from, to) || self.is_right_or_below(to, from))
+        self.is_free(from) && self.is_free(to) && (from == to || self.is_beside(from, to))
+    }
+
+    /// Whether one number is that of a cell above, at the left, at the right or below the other, the grid's rows going on behind
+    /// the last one.
+    pub fn is_beside(&self, one: Cell, other: Cell) -> bool
+        ensures { IsTrue result ↔ IsBeside self.now one other }
+    {
+        if one < other {
+            self.is_right_or_below(one, other)
+        } else {
+            self.is_right_or_below(other, one)
+        }
     }
 
     /// Whether the second cell is at the right of the first in the same row, or below it.
     fn is_right_or_below(&self, first: Cell, second: Cell) -> bool
         ensures { IsTrue result ↔ IsRightOrBelow self.now first second }
     {
-        let width = self.width();
-        let (first, second) = (first.number(), second.number());
-        first < second
-            && (second - first == width || second - first == 1 && second / width == first / width)
+        is_side(self.above(second), first) || is_side(self.at_left(second), first)
+    }
+}
+
+/// Whether there is a cell at this side, and it is the given one.
+fn is_side(side: Option<Cell>, cell: Cell) -> bool
+    ensures { IsTrue result ↔ (side ≡ Some cell) }
+{
+    match side {
+        Some(side) => side == cell,
+        None => false,
     }
 }
