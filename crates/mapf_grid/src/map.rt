@@ -85,6 +85,14 @@ impl Map {
             .unwrap_or(false)
     }
 
+    /// Of each cell, in order of number, whether an agent may stand on it.
+    pub fn free_cells(&self) -> &[bool]
+        ensures free { result.now ≡ self.now.free }
+        ensures sizes { HasSizes self.now }
+    {
+        &self.free
+    }
+
     /// The free cells at the four sides of a cell of the map, numbers rising. No memory is taken.
     pub fn neighbours(&self, cell: Cell) -> SmallVec<Cell, 4>
         requires { cell < cells self.now }
@@ -101,7 +109,7 @@ impl Map {
     }
 
     /// The cell above, where there is one.
-    fn above(&self, cell: Cell) -> Option<Cell>
+    pub fn above(&self, cell: Cell) -> Option<Cell>
         ensures { (v : ℕ) → (result ≡ Some v) ↔ (cell ≡ v + self.now.width) }
     {
         let number = cell.number();
@@ -113,7 +121,7 @@ impl Map {
     }
 
     /// The cell at the left in the same row, where there is one.
-    fn at_left(&self, cell: Cell) -> Option<Cell>
+    pub fn at_left(&self, cell: Cell) -> Option<Cell>
         ensures { (v : ℕ) → (result ≡ Some v) ↔ ((cell ≡ v + 1) × (cell / self.now.width ≡ v / self.now.width)) }
     {
         let number = cell.number();
@@ -125,7 +133,7 @@ impl Map {
     }
 
     /// The cell at the right in the same row, where there is one.
-    fn at_right(&self, cell: Cell) -> Option<Cell>
+    pub fn at_right(&self, cell: Cell) -> Option<Cell>
         requires { cell < cells self.now }
         ensures { (v : ℕ) → (result ≡ Some v) ↔ ((v ≡ cell + 1) × (v / self.now.width ≡ cell / self.now.width)) }
     {
@@ -139,7 +147,7 @@ impl Map {
     }
 
     /// The number of the cell below, which may lie outside the map.
-    fn below(&self, cell: Cell) -> Option<Cell>
+    pub fn below(&self, cell: Cell) -> Option<Cell>
         requires { cell < cells self.now }
         ensures { (v : ℕ) → (result ≡ Some v) ↔ (v ≡ cell + self.now.width) }
     {

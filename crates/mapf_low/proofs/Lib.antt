@@ -33,3 +33,4 @@ mod AscendingSides
 mod Advancing
 mod Taking
 pub mod Sets
+pub mod Telling

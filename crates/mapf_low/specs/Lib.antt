@@ -1,6 +1,6 @@
 pub mod Walk
 pub mod Levels
-pub mod Entry
+pub mod Mark
 pub mod Constraints
 pub mod Kept
 pub mod OwnPath

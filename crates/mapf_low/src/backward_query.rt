@@ -14,7 +14,7 @@ ghost use Rattle.mapf_plan.specs.Plan.{most_bound};
 use crate::Constraints;
 use crate::busy::{busy_times, is_busy};
 use crate::dead_ends::DeadEnds;
-use crate::entry::Entry;
+use crate::table::Table;
 use crate::time::is_past;
 use mapf_grid::{Cell, Map, NoMemory};
 use smallvec::SmallVec;
@@ -26,7 +26,7 @@ use std::marker::Model;
 #[derive(Drop)]
 pub struct BackwardQuery<'a> {
     map: &'a Map,
-    earliest: &'a [Entry],
+    earliest: &'a Table,
     constraints: &'a Constraints,
     start: Cell,
     goal: Cell,
@@ -53,7 +53,7 @@ impl<'a> BackwardQuery<'a> {
     pub fn new(
         alloc: Global,
         map: &'a Map,
-        earliest: &'a [Entry],
+        earliest: &'a Table,
         start: Cell,
         goal: Cell,
         constraints: &'a Constraints,
@@ -142,7 +142,7 @@ impl<'a> BackwardQuery<'a> {
     pub fn earliest(&self, cell: Cell) -> Option<u32>
         ensures { result ≡ distance_at self.now.table cell }
     {
-        self.earliest.get(cell.number() as usize)?.distance()
+        self.earliest.get(cell)
     }
 
     /// Whether the agent may be on the cell at this time step, by the table.

@@ -142,7 +142,7 @@ pub fn cheapest_backwards(
     let by_distance = BackwardQuery::new(
         alloc,
         map,
-        from_start.entries(),
+        from_start.table(),
         start,
         goal,
         constraints,

@@ -4,7 +4,7 @@ ghost use Rattle.mapf_low.specs.Earliest.{AreEarliest, MayGo, HasEntry, Advances
 ghost use Rattle.mapf_plan.specs.Plan.{most_bound};
 
 use crate::backward_query::BackwardQuery;
-use crate::entry::Entry;
+use crate::table::Table;
 use mapf_grid::{Cell, NoMemory};
 use std::alloc::Global;
 use std::mem::swap;
@@ -14,10 +14,10 @@ use std::mem::swap;
 ///
 /// Time step by time step the agent goes on from the cells that it may have reached to their sides. A cell that was reached
 /// counts as reached for good, though it may be forbidden later, so an entry may be too low.
-pub fn earliest_arrivals(alloc: Global, query: &BackwardQuery) -> Result<Vec<Entry>, NoMemory>
-    ensures { IfOk result (λ table. AreEarliest query.now table.items) }
+pub fn earliest_arrivals(alloc: Global, query: &BackwardQuery) -> Result<Table, NoMemory>
+    ensures { IfOk result (AreEarliest query.now) }
 {
-    let mut table = vec![in alloc; Entry::none(); query.cells() as usize]?;
+    let mut table = Table::none(alloc, query.cells())?;
     let mut frontier = Vec::new(alloc);
     let mut next = Vec::new(alloc);
     begin(query, &mut table, &mut frontier)?;
@@ -33,11 +33,7 @@ pub fn earliest_arrivals(alloc: Global, query: &BackwardQuery) -> Result<Vec<Ent
 }
 
 /// Gives the start the time step 0, if it isn't forbidden then.
-fn begin(
-    query: &BackwardQuery,
-    table: &mut [Entry],
-    frontier: &mut Vec<Cell>,
-) -> Result<(), NoMemory>
+fn begin(query: &BackwardQuery, table: &mut Table, frontier: &mut Vec<Cell>) -> Result<(), NoMemory>
     requires table { table.old ≡ replicate (length query.now.grid.free) None }
     requires frontier { frontier.old.items ≡ [] }
     ensures { OnOk result (IsAdvanced query.now 0 table.new frontier.new.items) }
@@ -45,7 +41,7 @@ fn begin(
     let start = query.start();
     if query.allows_at(start, 0) {
         frontier.push(start)?;
-        table[start.number() as usize] = Entry::of(0);
+        table.set(start, 0);
     }
     Ok(())
 }
@@ -55,7 +51,7 @@ fn advance(
     query: &BackwardQuery,
     frontier: &[Cell],
     time: u32,
-    table: &mut [Entry],
+    table: &mut Table,
     next: &mut Vec<Cell>,
 ) -> Result<(), NoMemory>
     requires early { time < most_bound }
@@ -76,7 +72,7 @@ fn advance_from(
     query: &BackwardQuery,
     from: Cell,
     time: u32,
-    table: &mut [Entry],
+    table: &mut Table,
     next: &mut Vec<Cell>,
 ) -> Result<(), NoMemory>
     requires early { time < most_bound }
@@ -102,7 +98,7 @@ fn enter(
     from: Cell,
     to: Cell,
     time: u32,
-    table: &mut [Entry],
+    table: &mut Table,
     next: &mut Vec<Cell>,
 ) -> Result<bool, NoMemory>
     requires early { time < most_bound }
@@ -112,14 +108,13 @@ fn enter(
     ensures entered { OnOk result (MayGo query.now time from to → HasEntry table.new to) }
     ensures tells { IfOk result (λ entered. IsTrue entered → HasEntry table.new to) }
 {
-    let place = to.number() as usize;
-    if table[place].distance().is_some() {
+    if table.get(to).is_some() {
         return Ok(true);
     }
     if !query.may_go(from, to, time) {
         return Ok(false);
     }
     next.push(to)?;
-    table[place] = Entry::of(time + 1);
+    table.set(to, time + 1);
     Ok(true)
 }

@@ -14,7 +14,7 @@ impl Map {
 
     /// Whether one number is that of a cell above, at the left, at the right or below the other, the grid's rows going on behind
     /// the last one.
-    pub fn is_beside(&self, one: Cell, other: Cell) -> bool
+    fn is_beside(&self, one: Cell, other: Cell) -> bool
         ensures { IsTrue result ↔ IsBeside self.now one other }
     {
         if one < other {

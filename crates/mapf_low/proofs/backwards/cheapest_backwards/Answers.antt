@@ -9,18 +9,18 @@ pub new-requires-clause-earliest : goal.new-requires-clause-earliest
 new-requires-clause-earliest c =
     let query : Query = record {
       grid = c.args.map.now;
-      table = c.entries.result.now;
+      table = c.table.result.now;
       constraints = c.args.constraints.now;
       start = c.args.start;
       goal = c.args.goal;
       limit = c.args.bound;
     } in
-    subst (AreEarliest query) (sym c.entries.ensures)
+    subst (AreEarliest query) (sym c.table.ensures)
     (distances_earliest query c.args.from_start.now c.width-width.ensures.sizes c.requires.start c.requires.from_start)
 
 pub new-requires-2-clause-earliest : goal.new-requires-2-clause-earliest
 new-requires-2-clause-earliest c =
-    let arrivals = c.deref.result.now in
-    let earliest : AreEarliest c.in_ok-by_distance.by_distance arrivals = subst (AreEarliest c.in_ok-by_distance.by_distance) (sym c.deref.ensures.value) c.in_ok-arrivals.ensures in
-    earliest_by c.args.map.now c.args.constraints.now c.args.start c.args.goal c.args.bound c.entries.result.now arrivals arrivals
+    let arrivals = c.in_ok-arrivals.arrivals in
+    let earliest : AreEarliest c.in_ok-by_distance.by_distance arrivals = c.in_ok-arrivals.ensures in
+    earliest_by c.args.map.now c.args.constraints.now c.args.start c.args.goal c.args.bound c.table.result.now arrivals arrivals
     (subst (λ q. AreEarliest q arrivals) c.in_ok-by_distance.ensures.asks earliest)

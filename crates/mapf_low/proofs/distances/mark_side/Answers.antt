@@ -1,27 +1,25 @@
-use Rattle.std.proofs.Common.{◌≡◌, ℕ, Option, Some, None, true, get_or, refl, sym, ◌∙◌, subst, arith}
-use Rattle.std.proofs.lemmas.Option.{slice_get_within}
-use Rattle.mapf_low.specs.Levels.{IsFreeSide}
-use Rattle.mapf_low.proofs.Marking.{Marks-first, Marks-known, Marks-same}
+use Rattle.std.proofs.Common.{◌≡◌, ℕ, Some, sym, ◌∙◌, ap, subst}
+use Rattle.mapf_grid.specs.Grid.{IsFree}
+use Rattle.mapf_low.specs.Levels.{IsUnseen, distances_of}
+use Rattle.mapf_low.proofs.Marking.{Marks-same, Marks-known}
+use Rattle.mapf_low.proofs.Telling.{marked_or}
 use Rattle.mapf_low.proofs.distances.mark_side.Goals as goal
 
-pub returns-in_ok-push : goal.returns-in_ok-push
-returns-in_ok-push c =
-    let is_open : (get_or c.args.table.now c.args.number None ≡ None) × IsFreeSide c.args.map.now c.args.from c.args.number =
-    subst (λ k. (get_or c.args.table.now k None ≡ None) × IsFreeSide c.args.map.now c.args.from k) c.of-side.ensures (c.is_open.ensures.0 c.if-is_open.true) in
-    let inside = slice_get_within c.args.map.now.free c.args.number true is_open.1.0 in
-    rw (c.in_ok-push.ensures.items, c.of-side.ensures, c.of.ensures)
-    (Marks-same (◌≡◌ c.args.number) (λ v. (c.args.number ≡ v) × IsFreeSide c.args.map.now c.args.from v) c.args.distance c.args.table.now _ c.args.next.now.items _
-    (λ v. (λ e. (e, subst (IsFreeSide c.args.map.now c.args.from) e is_open.1), λ h. h.0))
-    (Marks-first c.args.number c.args.distance c.args.table.now c.args.next.now.items (omega (arith, inside, c.requires.table)) is_open.0))
+pub returns-in_ok-mark-clause-marks : goal.returns-in_ok-mark-clause-marks
+returns-in_ok-mark-clause-marks c = λ g tell.
+    let cell = c.in-Some.cell in
+    let free = ((tell cell).0 (c.is_unseen.ensures.0 c.if-is_unseen.true)).0 in
+    Marks-same (◌≡◌ cell) (λ v. (c.args.side ≡ Some v) × IsFree g v) c.args.distance (distances_of c.args.marks.now) (distances_of c.mark.new.marks)
+    c.args.next.now.items c.mark.new.next.items
+    (λ v. (λ e. (c.in-Some.is ∙ ap Some e, subst (IsFree g) e free), λ h. cc (c.in-Some.is, h.0))) c.in_ok-mark.ensures.marks
 
-pub returns-else-is_open : goal.returns-else-is_open
-returns-else-is_open c =
-    Marks-known (λ v. (c.args.number ≡ v) × IsFreeSide c.args.map.now c.args.from v) c.args.distance c.args.table.now c.args.next.now.items
-    (λ v h. known v h (get_or c.args.table.now v None) refl)
+pub returns-else-is_unseen-clause-marks : goal.returns-else-is_unseen-clause-marks
+returns-else-is_unseen-clause-marks c = λ g tell.
+    Marks-known (λ v. (c.args.side ≡ Some v) × IsFree g v) c.args.distance (distances_of c.args.marks.now) c.args.next.now.items
+    (λ v h. marked_or g c.args.marks.now v tell h.1 (not_unseen v h.0))
   where
-    known : (v : ℕ) → (c.args.number ≡ v) × IsFreeSide c.args.map.now c.args.from v → (o : Option ℕ) → get_or c.args.table.now v None ≡ o →
-        (m : ℕ) × (get_or c.args.table.now v None ≡ Some m)
-    known v h (Some m) is = (m, is)
-    known v h None is =
-        let is_open = c.is_open.ensures.1 (subst (λ k. (get_or c.args.table.now k None ≡ None) × IsFreeSide c.args.map.now c.args.from k) (sym (c.of-side.ensures ∙ h.0)) (is, h.1)) in
-        absurd (cc (is_open, c.if-is_open.false))
+    not_unseen : (v : ℕ) → c.args.side ≡ Some v → IsUnseen c.args.marks.now v → ⊥
+    not_unseen v e u =
+        let same : c.in-Some.cell ≡ v = cc (c.in-Some.is, e) in
+        let yes = c.is_unseen.ensures.1 (subst (IsUnseen c.args.marks.now) (sym same) u) in
+        cc (yes, c.if-is_unseen.false)

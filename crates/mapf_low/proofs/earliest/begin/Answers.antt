@@ -7,5 +7,5 @@ pub returns-in_ok-push : goal.returns-in_ok-push
 returns-in_ok-push c =
     let query = c.args.query.now in
     let posed = c.start-start.ensures.posed in
-    rw (c.in_ok-push.ensures.items, c.number.ensures, c.of.ensures, c.requires.frontier, c.start-start.ensures.start)
+    rw (c.in_ok-push.ensures.items, c.set.ensures, c.requires.frontier, c.start-start.ensures.start)
     (advanced_first query c.args.table.now posed.start (slice_get_within query.grid.free query.start true posed.start) c.requires.table)

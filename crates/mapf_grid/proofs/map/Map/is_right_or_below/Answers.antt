@@ -1,4 +1,4 @@
-use Rattle.std.proofs.Common.{◌≡◌, ◌⊎◌, ℕ, ◌+◌, ◌/◌, IsTrue, Some, inl, inr}
+use Rattle.std.proofs.Common.{IsTrue, inl, inr}
 use Rattle.mapf_grid.specs.Grid.{IsRightOrBelow}
 use Rattle.mapf_grid.proofs.map.Map.is_right_or_below.Goals as goal
 
