@@ -13,6 +13,9 @@ use std::alloc::Global;
 /// Of paths of this number or a larger one no times are kept, so that a table has a bound.
 const MOST_KEPT: usize = 2_048;
 
+/// A row has room for so many paths from the first one on: the agents of a usual instance have about so many at the root.
+const FIRST_ROOM: usize = 32;
+
 /// What is known of when agents on two paths have their first conflict.
 #[derive(Clone, Copy)]
 pub(crate) enum FirstTime {
@@ -103,6 +106,9 @@ fn reach_time(row: &mut Vec<FirstTime>, other: usize) -> Result<(), NoMemory>
     ensures entry { OnOk result (other < length row.new.items) }
     ensures same { (j : ℕ) → time_in row.new.items j ≡ time_in row.old.items j }
 {
+    if row.is_empty() {
+        row.reserve(FIRST_ROOM)?;
+    }
     for _entry in row.len()..other + 1 {
         row.push(FirstTime::Unknown)?;
     }
