@@ -34,8 +34,8 @@ pub struct SideQuery<'p> {
 /// The most cells of a map on which an agent's first paths are looked for forwards: many agents are searched for but once or twice.
 const FEW_CELLS: u32 = 4_096;
 
-/// For about so many cells of such a map a table of distances costs what a search forwards does.
-const CELLS_A_SEARCH: u32 = 2_048;
+/// So many searches forwards cost about what a table of distances of such a map does.
+const SEARCHES_A_TABLE: u32 = 2;
 
 /// The most cells of a map on which paths are always looked for backwards: on a larger one a table of distances mostly costs
 /// more than the searches that it helps.
@@ -130,7 +130,7 @@ impl<'p> SideQuery<'p> {
         let map = self.problem.instance().map();
         let cells = map.height() * map.width();
         let pays = if cells <= FEW_CELLS {
-            cells <= searched.saturating_mul(CELLS_A_SEARCH)
+            searched >= SEARCHES_A_TABLE
         } else {
             cells <= MOST_CELLS
         };
