@@ -24,16 +24,16 @@ use std::sync::Arc;
 ///
 /// It keeps the root's plan and what each turn of its name changed, and shares both with the nodes beside and above it.
 pub struct Node {
-    pub(crate) key: Key,
     /// Boxed, since nodes are moved often.
     body: Box<Body>,
 }
 
-/// What a node is beside its key.
+/// What a node is.
 ///
 /// The small fields stand last, as fields lie in their order and each node that waits has a body.
 #[derive(Drop)]
 struct Body {
+    key: Key,
     root: Arc<Plan>,
     changes: Chain,
     conflict: Option<Conflict>,
@@ -45,7 +45,7 @@ struct Body {
 // By hand, so that a proof about what holds a node sees a call where it is dropped, and not what a node consists of.
 impl Drop for Node {
     fn drop(self) {
-        let Node { key: _, body: _ } = self;
+        let Node { body: _ } = self;
     }
 }
 
@@ -54,9 +54,9 @@ impl Model for Node {
 
     ghost Value = { Node };
 
-    ghost view = { λ n. node_of n.key.name n.body.value.root.value n.body.value.changes n.body.value.rule n.body.value.conflict };
+    ghost view = { λ n. node_of n.body.value.key.name n.body.value.root.value n.body.value.changes n.body.value.rule n.body.value.conflict };
 
-    ghost invariant = { λ n. AgreesWith n.key.cost n.key.depth (node_of n.key.name n.body.value.root.value n.body.value.changes n.body.value.rule n.body.value.conflict) };
+    ghost invariant = { λ n. AgreesWith n.body.value.key.cost n.body.value.key.depth (node_of n.body.value.key.name n.body.value.root.value n.body.value.changes n.body.value.rule n.body.value.conflict) };
 }
 
 impl Node {
@@ -79,23 +79,24 @@ impl Node {
             name: Name::root(),
         };
         let body = Body {
+            key,
             rule,
             root: Arc::new(alloc, plan)?,
             changes: Chain::new(alloc)?,
             conflict,
             extensions: None,
         };
-        Node::of(alloc, key, body)
+        Node::of(alloc, body)
     }
 
-    /// The node of this key and all else.
+    /// The node of this body.
     #[inline(always)]
-    fn of(alloc: Global, key: Key, body: Body) -> Result<Node, NoMemory>
-        requires { AgreesWith key.cost key.depth (node_of key.name body.root.value body.changes body.rule body.conflict) }
-        ensures { IfOk result (λ n. n ≡ node_of key.name body.root.value body.changes body.rule body.conflict) }
+    fn of(alloc: Global, body: Body) -> Result<Node, NoMemory>
+        requires { AgreesWith body.key.cost body.key.depth (node_of body.key.name body.root.value body.changes body.rule body.conflict) }
+        ensures { IfOk result (λ n. n ≡ node_of body.key.name body.root.value body.changes body.rule body.conflict) }
     {
         match Box::new(alloc, body) {
-            Ok(body) => Ok(Node { key, body }),
+            Ok(body) => Ok(Node { body }),
             Err(_refused) => Err(NoMemory),
         }
     }
@@ -137,31 +138,32 @@ impl Node {
     {
         let key = self.key_with(alloc, side, change.agent, old, &change.path)?;
         let body = Body {
+            key,
             rule: self.body.rule,
             root: Arc::try_clone(&self.body.root)?,
             changes: self.body.changes.with(alloc, change)?,
             conflict,
             extensions: None,
         };
-        Node::of(alloc, key, body)
+        Node::of(alloc, body)
     }
 
     /// The same node, of whose two sides this is known; nothing rests on it.
     pub(crate) fn knowing(self, extensions: Option<SideExtensions>) -> Node
         ensures { result ≡ self }
     {
-        let Node { key, mut body } = self;
+        let Node { mut body } = self;
         body.extensions = extensions;
-        Node { key, body }
+        Node { body }
     }
 
     /// The same node, whose changes stand in one list for the nodes below it, where it has as many of its own as may be.
     pub(crate) fn settled(self) -> Node
         ensures { result ≡ self }
     {
-        let Node { key, mut body } = self;
+        let Node { mut body } = self;
         body.changes.settle();
-        Node { key, body }
+        Node { body }
     }
 
     /// Whether the paths of both its children were known when it was made. No answer depends on it.
@@ -190,8 +192,8 @@ impl Node {
         ensures depth { IfOk result (λ key. key.depth ≡ length self.now.name + 1) }
         ensures name { IfOk result (λ key. key.name ≡ self.now.name ++ side ∷ []) }
     {
-        let name = self.key.name.with(alloc, side)?;
-        let others = self.key.cost - u64::from(old);
+        let name = self.body.key.name.with(alloc, side)?;
+        let others = self.body.key.cost - u64::from(old);
         Ok(Key {
             cost: others + u64::from(path.cost()),
             depth: name.len(),
@@ -224,7 +226,7 @@ impl Node {
         ensures rank { key_rank result.now ≡ node_key self.now }
         ensures name { result.now.name ≡ self.now.name }
     {
-        &self.key
+        &self.body.key
     }
 
     /// Its key.
@@ -232,7 +234,15 @@ impl Node {
         ensures rank { key_rank result ≡ node_key self }
         ensures cost { result.cost ≡ plan_cost self.plan }
     {
-        let Node { key, body: _ } = self;
+        let Node { body } = self;
+        let Body {
+            key,
+            root: _,
+            changes: _,
+            conflict: _,
+            extensions: _,
+            rule: _,
+        } = Box::into_inner(body);
         key
     }
 
@@ -267,7 +277,7 @@ impl Node {
     pub(crate) fn is_root(&self) -> bool
         ensures { IsTrue result → self.now.constraints ≡ replicate (length self.now.plan) [] }
     {
-        self.key.depth == 0
+        self.body.key.depth == 0
     }
 
     /// How many agents there are.
@@ -327,17 +337,18 @@ impl Node {
         ensures { IfOk result (λ other. other ≡ self.now) }
     {
         let key = Key {
-            cost: self.key.cost,
-            depth: self.key.depth,
-            name: self.key.name.copy(alloc)?,
+            cost: self.body.key.cost,
+            depth: self.body.key.depth,
+            name: self.body.key.name.copy(alloc)?,
         };
         let body = Body {
+            key,
             rule: self.body.rule,
             root: Arc::try_clone(&self.body.root)?,
             changes: self.body.changes.copy()?,
             conflict: self.body.conflict,
             extensions: self.body.extensions,
         };
-        Node::of(alloc, key, body)
+        Node::of(alloc, body)
     }
 }

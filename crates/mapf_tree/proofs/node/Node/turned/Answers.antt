@@ -10,7 +10,7 @@ of-requires c =
     agrees_turned _ _ _ _ _ c.args.self.now c.self.view_is c.in_ok-try_clone.field-0.value c.in_ok-with.field-0 c.args.change.value
     (c.in_ok-try_clone.ensures ∙ ap (λ (b : Body). b.root.value) c.deref-5.ensures)
     (c.in_ok-with.ensures ∙ ap (λ (b : Body). b.changes ++ c.args.change.value ∷ []) c.deref-6.ensures)
-    c.self.inside.key.cost c.self.inside.key.depth c.in_ok-key.key.cost c.in_ok-key.key.depth c.in_ok-key.key.name c.args.side c.deref-4.result.now.rule c.args.conflict c.self.invariant c.requires.agent
+    c.self.inside.body.value.key.cost c.self.inside.body.value.key.depth c.in_ok-key.key.cost c.in_ok-key.key.depth c.in_ok-key.key.name c.args.side c.deref-4.result.now.rule c.args.conflict c.self.invariant c.requires.agent
     (ap (λ (b : Body). b.rule) c.deref-4.ensures ∙ ap (λ (n : Node). n.rule) c.self.view_is)
     (c.in_ok-key.ensures.cost ∙ ap₂ (λ agent path. plan_cost (set c.args.self.now.plan agent path)) (ap (λ (x : Changed). x.agent) (c.behind-change.view_is ∙ c.deref.ensures)) (c.deref-3.ensures ∙ ap (λ (x : Changed). x.path) (c.behind-change-2.view_is ∙ c.deref-2.ensures))) c.in_ok-key.ensures.depth c.in_ok-key.ensures.name
     c.requires.conflict
