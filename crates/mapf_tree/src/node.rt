@@ -235,15 +235,7 @@ impl Node {
         ensures cost { result.cost ≡ plan_cost self.plan }
     {
         let Node { body } = self;
-        let Body {
-            key,
-            root: _,
-            changes: _,
-            conflict: _,
-            extensions: _,
-            rule: _,
-        } = Box::into_inner(body);
-        key
+        Box::into_inner(body).key
     }
 
     /// The first conflict of the node's plan by the rule of its tree; none where the plan has no conflict.
