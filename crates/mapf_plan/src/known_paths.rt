@@ -27,7 +27,6 @@ use std::sync::Arc;
 const MIXER: u64 = 11_400_714_819_323_198_485;
 
 /// Paths by number, and for each two of them when agents on them have their first conflict, which is looked for once.
-#[derive(Drop)]
 pub struct KnownPaths {
     alloc: Global,
     rule: Rule,
@@ -40,6 +39,21 @@ pub struct KnownPaths {
     times_by_later: Vec<Vec<FirstTime>>,
     /// Room for the next list of meetings.
     spare: Vec<Meeting>,
+}
+
+// By hand, so that a proof about what holds one sees a call where it is dropped, and not its fields.
+impl Drop for KnownPaths {
+    fn drop(self) {
+        let KnownPaths {
+            alloc: _,
+            rule: _,
+            paths: _,
+            places: _,
+            times: _,
+            times_by_later: _,
+            spare: _,
+        } = self;
+    }
 }
 
 impl Model for KnownPaths {

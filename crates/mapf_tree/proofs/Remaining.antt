@@ -66,13 +66,13 @@ still_reached (Some a) None x m n r k = absurd r
 still_reached (Some a) (Some b) x m n r k =
     λ l. n (λ h. k (transitive a (key x) (key m) h (le_before (key x) b (key m) r l)))
 
--- the count falls with each node that is taken
-pub remaining_falls : (p q : Problem) (from to : Option (List ℕ)) → q ≡ p → TakesBetween q from to 1 → remaining q to < remaining p from
+-- the count falls where nodes are taken
+pub remaining_falls : (p q : Problem) (from to : Option (List ℕ)) (n : ℕ) → q ≡ p → 1 ≤ n → TakesBetween q from to n → remaining q to < remaining p from
 unfolding remaining
-remaining_falls p q from to e t = subst (λ r. remaining q to < remaining r from) e (falls t.0 t.2 t.3)
+remaining_falls p q from to n e some t = subst (λ r. remaining q to < remaining r from) e (falls t.0 t.2 t.3)
   where
-    falls : (taken : List PlannedNode) → length taken ≡ 1 → ((m : PlannedNode) → Contains taken m ↔ (IsMember q m × IsReached to m × ¬ IsReached from m)) → remaining q to < remaining q from
-    falls [] l is = absurd (omega (arith, l))
+    falls : (taken : List PlannedNode) → length taken ≡ n → ((m : PlannedNode) → Contains taken m ↔ (IsMember q m × IsReached to m × ¬ IsReached from m)) → remaining q to < remaining q from
+    falls [] l is = absurd (omega (arith, l, some))
     falls (x ∷ xs) l is =
         let h = (is x).0 (here xs refl) in
         count_lt q from to (members q).0 x (λ m. still_reached from to x m h.2 h.1) ((members q).2 x h.0) h.2 h.1

@@ -12,7 +12,7 @@ mod at_node;
 mod finding;
 mod learning;
 
-use crate::book::at_node::AtNode;
+pub(crate) use crate::book::at_node::AtNode;
 use crate::change::Change;
 use crate::known_sets::KnownSets;
 use crate::shared_changes::{SharedChange, keep_shared, shared_change};
@@ -27,7 +27,6 @@ use std::marker::Model;
 use std::sync::Arc;
 
 /// Own paths that were searched before, by the sets of constraints of their agents.
-#[derive(Drop)]
 pub(crate) struct Book<'p> {
     alloc: Global,
     problem: &'p Problem,
@@ -43,6 +42,23 @@ pub(crate) struct Book<'p> {
     spare: Vec<usize>,
     /// The changes that nodes share, by the numbers of their extensions.
     changes: Vec<Option<SharedChange>>,
+}
+
+// By hand, so that a proof about what holds one sees a call where it is dropped, and not its fields.
+impl<'p> Drop for Book<'p> {
+    fn drop(self) {
+        let Book {
+            alloc: _,
+            problem: _,
+            sets: _,
+            paths: _,
+            firsts: _,
+            looked: _,
+            latest: _,
+            spare: _,
+            changes: _,
+        } = self;
+    }
 }
 
 impl<'p> Model for Book<'p> {
@@ -71,11 +87,6 @@ impl<'p> Book<'p> {
             spare: Vec::new(alloc),
             changes: Vec::new(alloc),
         }
-    }
-
-    /// Whether no agent's set is known, and so no path.
-    pub(crate) fn is_empty(&self) -> bool {
-        self.sets.is_empty()
     }
 
     /// The child of a node on one side of its conflict, where its path is known: none exactly where it isn't in the tree. None

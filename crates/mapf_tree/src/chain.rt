@@ -91,6 +91,13 @@ impl Chain {
         }
     }
 
+    /// The last of the changes that it has by itself has this number for its extension, unless memory runs out.
+    pub(crate) fn number(&mut self, alloc: Global, extension: usize)
+        ensures { self.new ≡ self.old }
+    {
+        self.own.number(alloc, extension);
+    }
+
     /// All changes become one list that nodes share, if it has as many by itself as may be and memory suffices. So the chains
     /// below it share one list, and neither makes its own.
     pub(crate) fn settle(&mut self)

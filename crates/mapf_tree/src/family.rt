@@ -52,43 +52,43 @@ pub fn child(
 {
     let query = SideQuery::of(alloc, problem, node, side)?;
     let path = query.own_path(alloc)?;
-    child_from(alloc, query, node, path)
+    child_from(alloc, node, &query, path)
 }
 
-/// The same, where the child's path is looked for backwards first if there is a table of distances from its agent's start.
+/// The child of a node of the tree on the side that a query is of. Its path is looked for backwards first if there is a table
+/// of distances from its agent's start.
 pub fn child_with(
     alloc: Global,
-    problem: &Problem,
     node: &Node,
-    side: Side,
+    query: &SideQuery<'_>,
     from_start: &FromStart,
 ) -> Result<Option<Node>, NoMemory>
-    requires node { IsBranching problem.now node.now }
-    requires from_start { IsFromStart problem.now from_start.now }
-    ensures { IfOk result (IsChildOf problem.now node.now side) }
+    requires node { IsBranching query.now.problem node.now }
+    requires query { IsQueryOf node.now query.now }
+    requires from_start { IsFromStart query.now.problem from_start.now }
+    ensures { IfOk result (IsChildOf query.now.problem node.now query.now.side) }
 {
-    let query = SideQuery::of(alloc, problem, node, side)?;
     let path = query.own_path_with(alloc, from_start)?;
-    child_from(alloc, query, node, path)
+    child_from(alloc, node, query, path)
 }
 
 /// The child that a query is for, from the own path that it asks for.
 fn child_from(
     alloc: Global,
-    query: SideQuery<'_>,
     node: &Node,
+    query: &SideQuery<'_>,
     path: Option<Path>,
 ) -> Result<Option<Node>, NoMemory>
-    requires node { IsBranching query.problem node.now }
-    requires query { IsQueryOf node.now query }
-    requires path { IsFoundBy query path }
-    ensures { IfOk result (IsChildOf query.entry.problem node.now query.entry.side) }
+    requires node { IsBranching query.now.problem node.now }
+    requires query { IsQueryOf node.now query.now }
+    requires path { IsFoundBy query.now path }
+    ensures { IfOk result (IsChildOf query.now.problem node.now query.now.side) }
 {
     let path = match path {
         Some(path) => Some(Arc::new(alloc, path)?),
         None => None,
     };
-    query.child(alloc, node, path)
+    query.child(alloc, node, path, 0)
 }
 
 /// An agent's own path under no constraints; none exactly where it may take no path.

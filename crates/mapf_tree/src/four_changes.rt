@@ -3,8 +3,9 @@
 ghost use Rattle.std.specs.Prelude.{◌≡◌, map, IfOk};
 ghost use Rattle.std.specs.Arc.{arc_value};
 
-use crate::change::Change;
+use crate::change::{Change, number};
 use mapf_grid::NoMemory;
+use std::alloc::Global;
 use std::marker::Model;
 use std::sync::Arc;
 
@@ -37,6 +38,14 @@ impl FourChanges {
         ensures { map arc_value result.now ≡ self.now }
     {
         &self.changes
+    }
+
+    /// The last change has this number for its extension, unless memory runs out.
+    pub(crate) fn number(&mut self, alloc: Global, extension: usize)
+        ensures { self.new ≡ self.old }
+    {
+        let [_, _, _, last] = &mut self.changes;
+        number(alloc, last, extension);
     }
 
     /// The same changes, shared once more.

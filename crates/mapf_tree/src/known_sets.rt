@@ -39,7 +39,6 @@ pub(crate) struct Extension {
 
 /// The sets of constraints that agents have met, by number, and which of them is which other one with one constraint more. Two
 /// numbers may be those of one set.
-#[derive(Drop)]
 pub(crate) struct KnownSets {
     sets: Vec<KnownSet>,
     extensions: Vec<Extension>,
@@ -47,6 +46,18 @@ pub(crate) struct KnownSets {
     set_places: HashMap<u64, usize>,
     /// Where a set with a constraint more is looked for; nothing rests on it.
     extension_places: HashMap<u64, usize>,
+}
+
+// By hand, so that a proof about what holds one sees a call where it is dropped, and not its fields.
+impl Drop for KnownSets {
+    fn drop(self) {
+        let KnownSets {
+            sets: _,
+            extensions: _,
+            set_places: _,
+            extension_places: _,
+        } = self;
+    }
 }
 
 impl Model for KnownSets {
@@ -72,11 +83,6 @@ impl KnownSets {
             set_places: HashMap::new(alloc),
             extension_places: HashMap::new(alloc),
         }
-    }
-
-    /// Whether no set was met yet.
-    pub(crate) fn is_empty(&self) -> bool {
-        self.sets.is_empty()
     }
 
     /// The set of a number. None where there is none.

@@ -3,9 +3,10 @@
 ghost use Rattle.std.specs.Prelude.{◌≡◌, [], ◌∷◌, ◌++◌, map, IfOk, IfErr, IfSome};
 ghost use Rattle.std.specs.Arc.{arc_value};
 
-use crate::change::Change;
+use crate::change::{Change, number};
 use crate::four_changes::FourChanges;
 use mapf_grid::NoMemory;
+use std::alloc::Global;
 use std::marker::Model;
 use std::sync::Arc;
 
@@ -22,9 +23,15 @@ enum Held {
 /// The changes of a chain that a node has by itself, at most four.
 ///
 /// They stand in the node, so a node that waits takes no memory apart for them.
-#[derive(Drop)]
 pub(crate) struct OwnChanges {
     held: Held,
+}
+
+// By hand, so that a proof about what holds one sees a call where it is dropped, and not its fields.
+impl Drop for OwnChanges {
+    fn drop(self) {
+        let OwnChanges { held: _ } = self;
+    }
 }
 
 impl Model for OwnChanges {
@@ -103,6 +110,19 @@ impl OwnChanges {
             Held::Four(four) => return Ok(Err((four.copy()?, change))),
         };
         Ok(Ok(OwnChanges { held }))
+    }
+
+    /// The last change has this number for its extension, unless memory runs out.
+    pub(crate) fn number(&mut self, alloc: Global, extension: usize)
+        ensures { self.new ≡ self.old }
+    {
+        match &mut self.held {
+            Held::Nothing => {}
+            Held::One(changes) => number(alloc, &mut changes[0], extension),
+            Held::Two(changes) => number(alloc, &mut changes[1], extension),
+            Held::Three(changes) => number(alloc, &mut changes[2], extension),
+            Held::Four(four) => four.number(alloc, extension),
+        }
     }
 
     /// The same changes, shared once more.

@@ -3,10 +3,10 @@
 ghost use Rattle.std.specs.Prelude.{◌≡◌, ◌<◌, All, length, IfOk, IfSome};
 ghost use Rattle.mapf_tree.specs.Problem.{Problem};
 ghost use Rattle.mapf_tree.specs.Family.{IsBranching, IsChildOf};
-ghost use Rattle.mapf_tree.specs.SideQuery.{IsFromStart};
+ghost use Rattle.mapf_tree.specs.Book.{IsKnownAt};
+ghost use Rattle.mapf_tree.specs.SideQuery.{IsFromStart, IsQueryOf};
 
-use crate::book::Book;
-use crate::sides::agent_of;
+use crate::book::{AtNode, Book};
 use crate::{Children, FromStart, Node, OpenList, Problem, Side, SideQuery};
 use mapf_grid::NoMemory;
 use std::alloc::Global;
@@ -71,12 +71,23 @@ impl<'p> OfAgent<'p> {
 ///
 /// In a large tree an agent meets the same set of constraints again and again, in either order of the turns; its own path is
 /// then searched once. The same two paths meet in many nodes, and when they collide is looked for once.
-#[derive(Drop)]
 pub struct OwnPaths<'p> {
     alloc: Global,
     problem: &'p Problem,
     agents: Vec<OfAgent<'p>>,
     book: Book<'p>,
+}
+
+// By hand, so that a proof about what holds one sees a call where it is dropped, and not its fields.
+impl<'p> Drop for OwnPaths<'p> {
+    fn drop(self) {
+        let OwnPaths {
+            alloc: _,
+            problem: _,
+            agents: _,
+            book: _,
+        } = self;
+    }
 }
 
 impl<'p> Model for OwnPaths<'p> {
@@ -111,54 +122,6 @@ impl<'p> OwnPaths<'p> {
         })
     }
 
-    /// The children of a node of the tree on both sides of its conflict, left first, each where its path is known: none exactly
-    /// where it isn't in the tree. None where nothing is known.
-    pub fn known_children(&mut self, node: &Node) -> Result<KnownChildren, NoMemory>
-        requires { IsBranching self.old node.now }
-        ensures problem { self.new ≡ self.old }
-        ensures left { IfOk result (λ sides. IfSome sides.0 (IsChildOf self.old node.now Side.Left)) }
-        ensures right { IfOk result (λ sides. IfSome sides.1 (IsChildOf self.old node.now Side.Right)) }
-    {
-        let at = self.book.at_node(node)?;
-        let left = self.book.child(node, &at, Side::Left)?;
-        let right = self.book.child(node, &at, Side::Right)?;
-        self.book.keep(at);
-        Ok((left, right))
-    }
-
-    /// The same ahead of the node's turn: the node isn't looked at where nothing was searched yet, as nothing is known then.
-    pub fn known_ahead(&mut self, node: &Node) -> Result<KnownChildren, NoMemory>
-        requires { IsBranching self.old node.now }
-        ensures problem { self.new ≡ self.old }
-        ensures left { IfOk result (λ sides. IfSome sides.0 (IsChildOf self.old node.now Side.Left)) }
-        ensures right { IfOk result (λ sides. IfSome sides.1 (IsChildOf self.old node.now Side.Right)) }
-    {
-        if self.book.is_empty() {
-            return Ok((None, None));
-        }
-        self.known_children(node)
-    }
-
-    /// The child of a node of the tree on one side of its conflict, where its path and all paths of the node are known by
-    /// number: none exactly where it isn't in the tree. None where they aren't.
-    pub fn numbered_child(
-        &mut self,
-        node: &Node,
-        side: Side,
-    ) -> Result<Option<Option<Node>>, NoMemory>
-        requires { IsBranching self.old node.now }
-        ensures problem { self.new ≡ self.old }
-        ensures child { IfOk result (λ found. IfSome found (IsChildOf self.old node.now side)) }
-    {
-        let at = self.book.at_node(node)?;
-        if at.is_none() {
-            return Ok(None);
-        }
-        let child = self.book.child(node, &at, side)?;
-        self.book.keep(at);
-        Ok(child)
-    }
-
     /// The children of a node of the tree on both sides of its conflict, left first, each none exactly where it isn't in the
     /// tree. What is known of them already is given. A path is searched only where it isn't known.
     pub fn children_from(
@@ -174,30 +137,34 @@ impl<'p> OwnPaths<'p> {
         ensures left { IfOk result (λ sides. IsChildOf self.old node.now Side.Left sides.0) }
         ensures right { IfOk result (λ sides. IsChildOf self.old node.now Side.Right sides.1) }
     {
-        if left.is_none() && right.is_none() {
-            let (left, right) = self.known_children(node)?;
-            return self.children_or_search(node, left, right);
-        }
-        self.children_or_search(node, left, right)
+        let (left, right) = self.known_children(node, left, right)?;
+        let left = self.child_from(node, Side::Left, left)?;
+        let right = self.child_from(node, Side::Right, right)?;
+        Ok((left, right))
     }
 
-    /// The children on both sides, each of which is given or searched now.
+    /// The children on both sides, each where it is given or its path is known.
     #[inline(always)]
-    fn children_or_search(
+    fn known_children(
         &mut self,
         node: &Node,
         left: Option<Option<Node>>,
         right: Option<Option<Node>>,
-    ) -> Result<(Option<Node>, Option<Node>), NoMemory>
+    ) -> Result<KnownChildren, NoMemory>
         requires node { IsBranching self.old node.now }
         requires left { IfSome left (IsChildOf self.old node.now Side.Left) }
         requires right { IfSome right (IsChildOf self.old node.now Side.Right) }
         ensures problem { self.new ≡ self.old }
-        ensures left { IfOk result (λ sides. IsChildOf self.old node.now Side.Left sides.0) }
-        ensures right { IfOk result (λ sides. IsChildOf self.old node.now Side.Right sides.1) }
+        ensures left { IfOk result (λ sides. IfSome sides.0 (IsChildOf self.old node.now Side.Left)) }
+        ensures right { IfOk result (λ sides. IfSome sides.1 (IsChildOf self.old node.now Side.Right)) }
     {
-        let left = self.child_from(node, Side::Left, left)?;
-        let right = self.child_from(node, Side::Right, right)?;
+        if left.is_some() && right.is_some() {
+            return Ok((left, right));
+        }
+        let at = self.book.at_node(node)?;
+        let left = known_child(&mut self.book, node, &at, Side::Left, left)?;
+        let right = known_child(&mut self.book, node, &at, Side::Right, right)?;
+        self.book.keep(at);
         Ok((left, right))
     }
 
@@ -228,33 +195,39 @@ impl<'p> OwnPaths<'p> {
         ensures child { IfOk result (IsChildOf self.old node.now side) }
     {
         let query = SideQuery::of(self.alloc, self.problem, node, side)?;
-        let from_start = self.from_start_of(&query);
+        let from_start = self.from_start(&query);
         let path = match query.own_path_with(self.alloc, &from_start)? {
             Some(path) => Some(Arc::new(self.alloc, path)?),
             None => None,
         };
         let extension = self.book.learn(node, &query, path.as_ref());
-        query.child_by(self.alloc, node, path, extension)
+        query.child(self.alloc, node, path, extension)
     }
 
-    /// The distances from the start of the agent on a side of a node's conflict, which are made where a search for it first wants
-    /// them: on a map of at most 65,536 cells each does, but for an agent's first ones where there are at most 4,096, and on a
-    /// larger one where the agent's goal is forbidden late, or the agent comes late by many time steps. Without a table before, or
-    /// where memory ran out.
-    pub fn from_start(&mut self, node: &Node, side: Side) -> FromStart
+    /// The own path that a side of a node asks for, where it isn't known. None where it is.
+    pub fn unknown_query(
+        &mut self,
+        node: &Node,
+        side: Side,
+    ) -> Result<Option<SideQuery<'p>>, NoMemory>
         requires { IsBranching self.old node.now }
-        ensures problem { self.new ≡ self.old }
-        ensures start { IsFromStart self.old result }
+        ensures same { self.new ≡ self.old }
+        ensures problem { IfOk result (λ found. IfSome found (λ q. q.problem ≡ self.old)) }
+        ensures side { IfOk result (λ found. IfSome found (λ q. q.side ≡ side)) }
+        ensures query { IfOk result (λ found. IfSome found (IsQueryOf node.now)) }
     {
-        let conflict = node.conflict().unwrap();
-        match SideQuery::of(self.alloc, self.problem, node, side) {
-            Ok(query) => self.from_start_of(&query),
-            Err(_refused) => FromStart::none(agent_of(&conflict, side)),
+        self.book.begin(node)?;
+        let query = SideQuery::of(self.alloc, self.problem, node, side)?;
+        if self.book.answers(&query) {
+            return Ok(None);
         }
+        Ok(Some(query))
     }
 
-    /// The distances from the start of a query's agent.
-    fn from_start_of(&mut self, query: &SideQuery<'p>) -> FromStart
+    /// The distances from the start of a query's agent, which are made where a search for it first wants them: on a map of at most
+    /// 65,536 cells each does, but for an agent's first ones where there are at most 4,096, and on a larger one where the agent's
+    /// goal is forbidden late, or the agent comes late by many time steps. Without a table before, or where memory ran out.
+    pub fn from_start(&mut self, query: &SideQuery<'p>) -> FromStart
         requires { query.now.problem ≡ self.old }
         ensures problem { self.new ≡ self.old }
         ensures start { IsFromStart self.old result }
@@ -267,18 +240,21 @@ impl<'p> OwnPaths<'p> {
         }
     }
 
-    /// Remembers the path of a node's child on one side, or that there is no such child, where that was worked out elsewhere.
-    /// It is forgotten where memory runs out.
-    pub fn learn(&mut self, node: &Node, side: Side, child: &Option<Node>)
+    /// Remembers the path of a node's child, or that there is no such child, where that was worked out elsewhere, and gives the
+    /// child back. It is forgotten where memory runs out.
+    pub fn learn(&mut self, node: &Node, query: &SideQuery<'p>, child: Option<Node>) -> Option<Node>
         requires node { IsBranching self.old node.now }
-        requires child { IsChildOf self.old node.now side child.now }
-        ensures { self.new ≡ self.old }
+        requires problem { query.now.problem ≡ self.old }
+        requires query { IsQueryOf node.now query.now }
+        requires child { IsChildOf self.old node.now query.now.side child }
+        ensures same { self.new ≡ self.old }
+        ensures child { result ≡ child }
     {
-        if let Ok(query) = SideQuery::of(self.alloc, self.problem, node, side) {
-            if let Some(path) = query.answer_in(node, child) {
-                let _extension = self.book.learn(node, &query, path);
-            }
-        }
+        let Some(path) = query.answer_in(node, &child) else {
+            return child;
+        };
+        let extension = self.book.learn(node, query, path);
+        Some(child?.numbered(self.alloc, extension))
     }
 }
 
@@ -296,4 +272,25 @@ impl<'p> Children for OwnPaths<'p> {
     }
 
     fn ahead(&mut self, _problem: &Problem, _waiting: &OpenList) {}
+}
+
+/// The child of a node on one side, where it is given or its path is known.
+#[inline(always)]
+fn known_child(
+    book: &mut Book<'_>,
+    node: &Node,
+    at: &Option<AtNode>,
+    side: Side,
+    given: Option<Option<Node>>,
+) -> Result<Option<Option<Node>>, NoMemory>
+    requires node { IsBranching book.old.problem node.now }
+    requires at { IfSome at.now (λ at. IsKnownAt book.old node.now at.sets.items at.plan.numbers.items at.plan.meetings.items) }
+    requires given { IfSome given (IsChildOf book.old.problem node.now side) }
+    ensures same { book.new ≡ book.old }
+    ensures child { IfOk result (λ found. IfSome found (IsChildOf book.old.problem node.now side)) }
+{
+    match given {
+        Some(child) => Ok(Some(child)),
+        None => book.child(node, at, side),
+    }
 }

@@ -12,13 +12,25 @@ use std::marker::Model;
 
 /// What a search solves: an instance, each goal's distances, a bound on the sum of costs, a limit on how many nodes are
 /// taken, if there is one, and the rule by which plans have conflicts.
-#[derive(Drop)]
 pub struct Problem {
     instance: Instance,
     distances: Vec<Distances>,
     bound: u32,
     nodes: Option<u64>,
     rule: Rule,
+}
+
+// By hand, so that a proof about what holds one sees a call where it is dropped, and not its fields.
+impl Drop for Problem {
+    fn drop(self) {
+        let Problem {
+            instance: _,
+            distances: _,
+            bound: _,
+            nodes: _,
+            rule: _,
+        } = self;
+    }
 }
 
 impl Model for Problem {

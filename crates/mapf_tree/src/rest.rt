@@ -14,12 +14,18 @@ use std::collections::BTreeSet;
 use std::marker::Model;
 
 /// Nodes in the order of their keys, which came in any order; no two have one key.
-#[derive(Drop)]
 pub(crate) struct Rest {
     /// Those that came behind all of the runs with their cost and depth.
     runs: Runs,
     /// The others. A node of the runs that has the key of one of them isn't there any more.
     others: BTreeSet<ByKey>,
+}
+
+// By hand, so that a proof about what holds one sees a call where it is dropped, and not its fields.
+impl Drop for Rest {
+    fn drop(self) {
+        let Rest { runs: _, others: _ } = self;
+    }
 }
 
 impl Model for Rest {

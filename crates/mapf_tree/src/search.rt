@@ -12,7 +12,6 @@ use std::alloc::Global;
 use std::marker::Model;
 
 /// A search of the constraint tree, best first: it takes the nodes of the tree by cost, depth and name.
-#[derive(Drop)]
 pub struct Search<'p> {
     problem: &'p Problem,
     waiting: OpenList,
@@ -20,6 +19,19 @@ pub struct Search<'p> {
     /// How many nodes were taken, where there is a limit.
     taken: u64,
     outcome: Result<Option<Answer>, NoMemory>,
+}
+
+// By hand, so that a proof about what holds one sees a call where it is dropped, and not its fields.
+impl<'p> Drop for Search<'p> {
+    fn drop(self) {
+        let Search {
+            problem: _,
+            waiting: _,
+            last: _,
+            taken: _,
+            outcome: _,
+        } = self;
+    }
 }
 
 impl<'p> Model for Search<'p> {

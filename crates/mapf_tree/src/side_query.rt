@@ -87,6 +87,13 @@ impl<'p> SideQuery<'p> {
         })
     }
 
+    /// The side.
+    pub fn side(&self) -> Side
+        ensures { result ≡ self.now.side }
+    {
+        self.side
+    }
+
     /// The agent.
     pub(crate) fn agent(&self) -> usize
         ensures agent { result ≡ self.now.agent }
@@ -231,55 +238,35 @@ impl<'p> SideQuery<'p> {
     }
 
     /// The child of the node whose side it is, from the own path that it asks for; none exactly where that isn't in the tree.
-    pub fn child(
-        self,
-        alloc: Global,
-        node: &Node,
-        path: Option<Arc<Path>>,
-    ) -> Result<Option<Node>, NoMemory>
-        requires node { IsBranching self.problem node.now }
-        requires query { IsQueryOf node.now self }
-        requires path { IsFoundBy self (option_map arc_value path) }
-        ensures { IfOk result (IsChildOf self.entry.problem node.now self.entry.side) }
-    {
-        self.child_by(alloc, node, path, 0)
-    }
-
-    /// The same. The number is the one that the extension of the agent's set may have among those that are known; nothing rests
-    /// on it.
-    pub(crate) fn child_by(
-        self,
+    ///
+    /// The number is the one that the extension of the agent's set may have among those that are known; nothing rests on it.
+    pub(crate) fn child(
+        &self,
         alloc: Global,
         node: &Node,
         path: Option<Arc<Path>>,
         extension: usize,
     ) -> Result<Option<Node>, NoMemory>
-        requires node { IsBranching self.problem node.now }
-        requires query { IsQueryOf node.now self }
-        requires path { IsFoundBy self (option_map arc_value path) }
-        ensures { IfOk result (IsChildOf self.entry.problem node.now self.entry.side) }
+        requires node { IsBranching self.now.problem node.now }
+        requires query { IsQueryOf node.now self.now }
+        requires path { IsFoundBy self.now (option_map arc_value path) }
+        ensures { IfOk result (IsChildOf self.now.problem node.now self.now.side) }
     {
         let Some(path) = path else {
             return Ok(None);
         };
         let conflict = node.conflict_with(alloc, self.agent, &path)?;
         let old = node.path(self.agent).cost();
-        let SideQuery {
-            side,
-            agent,
-            constraint,
-            ..
-        } = self;
         let change = Arc::new(
             alloc,
             Change {
-                agent,
-                constraint,
+                agent: self.agent,
+                constraint: self.constraint,
                 path,
                 extension,
             },
         )?;
-        Ok(Some(node.turned(alloc, side, change, old, conflict)?))
+        Ok(Some(node.turned(alloc, self.side, change, old, conflict)?))
     }
 }
 

@@ -98,6 +98,16 @@ impl<'p> Book<'p> {
         Ok(Some(Found { extension, path }))
     }
 
+    /// Whether the own path that a query asks for is known.
+    pub(crate) fn answers(&self, query: &SideQuery<'p>) -> bool
+        requires { query.now.limit ≤ self.now.problem.bound }
+    {
+        match self.sets.find(query.agent(), query.constraints()) {
+            Some(set) => self.own_within(set, query.limit()).is_some(),
+            None => false,
+        }
+    }
+
     /// The number of the own path under a set, at a cost of at most the limit; none where there is no such path. None where
     /// that isn't known.
     pub(crate) fn own_within(&self, set: usize, limit: u32) -> Option<Option<usize>>

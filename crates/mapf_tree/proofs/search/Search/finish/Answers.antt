@@ -1,11 +1,11 @@
-use Rattle.std.proofs.Common.{Ok, ap, ◌∙◌}
+use Rattle.std.proofs.Common.{Ok, ap, ◌∙◌, arith}
 use Rattle.mapf_tree.proofs.GoingOn.{right_out, best_out}
 use Rattle.mapf_tree.proofs.Remaining.{remaining_falls}
 use Rattle.mapf_tree.proofs.search.Search.finish.Goals as goal
 
 pub loop-search-smaller : goal.loop-search-smaller
 loop-search-smaller g c =
-    remaining_falls c.loop-search.search.problem c.go.new.self.problem c.loop-search.search.last c.go.new.self.last c.in_ok-go.ensures.problem (c.in_ok-go.ensures.working (ap Ok c.in-Working.is)).1
+    remaining_falls c.loop-search.search.problem c.go.new.self.problem c.loop-search.search.last c.go.new.self.last 1 c.in_ok-go.ensures.problem (omega arith) (c.in_ok-go.ensures.working (ap Ok c.in-Working.is)).1
 
 pub returns-clause-best : goal.returns-clause-best
 returns-clause-best g c =

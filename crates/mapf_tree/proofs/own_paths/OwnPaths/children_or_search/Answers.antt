@@ -1,7 +1,0 @@
-use Rattle.std.proofs.Common.{subst}
-use Rattle.mapf_tree.specs.declared.side.Side.TheVariants.{Right}
-use Rattle.mapf_tree.specs.Family.{IsChildOf}
-use Rattle.mapf_tree.proofs.own_paths.OwnPaths.children_or_search.Goals as goal
-
-pub returns-clause-right : goal.returns-clause-right
-returns-clause-right c = subst (λ p. IsChildOf p c.args.node.now Right c.in_ok-right.right) c.in_ok-left.ensures.problem c.in_ok-right.ensures.child
