@@ -2,7 +2,7 @@
 ghost use Rattle.std.specs.Prelude.{◌≡◌, IfOk, IfErr};
 
 use crate::gate::Gate;
-use crate::supply::{AlwaysGrants, Supply};
+use crate::supply::Supply;
 use crate::work::{Pair, Work};
 
 /// Performs a job as a worker does it: between the two calls of the gate, and only where the supply grants memory for it.
@@ -25,12 +25,4 @@ pub(crate) fn perform_granted<W: Work, G: Gate, S: Supply>(
     };
     gate.leave(number);
     done
-}
-
-/// Performs a job between the two calls of the gate. The job comes back where there is no memory.
-pub fn perform_through<W: Work, G: Gate>(work: &W, gate: &G, job: W::Job) -> Result<Pair<W>, W::Job>
-    ensures ok { IfOk result (λ p. p.0 ≡ job) }
-    ensures err { IfErr result (λ back. back ≡ job) }
-{
-    perform_granted(work, gate, &AlwaysGrants, job)
 }

@@ -1,5 +1,5 @@
 //! A worker's turns at a board.
-ghost use Rattle.std.specs.Prelude.{◌≡◌};
+ghost use Rattle.std.specs.Prelude.{◌≡◌, ◌+◌, ◌≤◌};
 
 use super::Live;
 use super::left::Left;
@@ -11,7 +11,7 @@ use crate::supply::Supply;
 use crate::work::Work;
 
 impl<W: Work> Live<W> {
-    ghost use Rattle.mapf_board.specs.Workers.{IsWorkerOf, IsIdle, HoldsJob};
+    ghost use Rattle.mapf_board.specs.Workers.{IsWorkerOf, IsIdle, HoldsJob, looks_of, tries_of, shut_looks_of, record_of};
 
     /// A worker's part of the board's jobs, in so many turns at most; it ends at the first look that finds the board shut.
     ///
@@ -31,18 +31,24 @@ impl<W: Work> Live<W> {
         requires idle { IsIdle seat }
         ensures worker { IsWorkerOf self.now result }
         ensures idle { IsIdle result }
+
+        // In each turn it looks once and tries one claim, and no look comes after one that found the board shut.
+        ensures looks { looks_of result ≤ looks_of seat + turns }
+        ensures tries { tries_of result ≤ tries_of seat + turns }
+        ensures shut { shut_looks_of result ≤ shut_looks_of seat + 1 }
     {
         let mut pause = Pause::new();
         let mut slot = seat.number % self.size;
-        for _ in 0..turns {
+        for _turn in 0..turns {
             if !self.is_open(&mut seat) {
                 break;
             }
-            if self.claim(&mut seat, slot).is_ok() {
-                self.work_off(work, gate, supply, &mut seat);
-                pause.shorten();
-            } else {
-                pause.take();
+            match self.claim(&mut seat, slot) {
+                Ok(()) => {
+                    self.work_off(work, gate, supply, &mut seat);
+                    pause.shorten();
+                }
+                Err(_found) => pause.take(),
             }
             slot = (slot + 1) % self.size;
         }
@@ -62,6 +68,8 @@ impl<W: Work> Live<W> {
         requires claim { (job : W.Job) × HoldsJob seat.old job }
         ensures worker { IsWorkerOf self.now seat.new }
         ensures idle { IsIdle seat.new }
+        ensures tried { tries_of seat.new ≡ tries_of seat.old + 1 }
+        ensures same { record_of seat.new ≡ record_of seat.old }
     {
         let job = self.job_of(seat);
         match perform_granted(work, gate, supply, job) {

@@ -1,0 +1,115 @@
+//! The workers of a board, beside its owner.
+ghost use Rattle.std.specs.Prelude.{◌≡◌, All, IfOk, vec_len};
+ghost use Rattle.mapf_board.specs.Workers.{IsWorkerOf, IsIdle, workers_of};
+
+use super::Live;
+use super::worker::WorkerSeat;
+use crate::gate::Gate;
+use crate::no_memory::NoMemory;
+use crate::supply::Supply;
+use crate::work::Work;
+use std::alloc::AllocError;
+use std::thread::{Threads, join, map_vec};
+
+/// The seats of all workers of a live board, of whom none has a claim.
+#[derive(Drop)]
+pub struct Crew<'s, W: Work> {
+    live: &'s Live<W>,
+    seats: Vec<WorkerSeat<W>>,
+    ghost all: { vec_len seats ≡ workers_of live.now },
+    ghost workers: { All (IsWorkerOf live.now) seats.items },
+    ghost idle: { All IsIdle seats.items },
+}
+
+impl<'s, W: Work> Crew<'s, W> {
+    /// These are the seats of all workers of the board.
+    pub fn of(live: &'s Live<W>, seats: Vec<WorkerSeat<W>>) -> Crew<'s, W>
+        requires all { vec_len seats ≡ workers_of live.now }
+        requires workers { All (IsWorkerOf live.now) seats.items }
+        requires idle { All IsIdle seats.items }
+        ensures { result.live.now ≡ live.now }
+    {
+        Crew { live, seats }
+    }
+
+    /// The seats.
+    pub fn into_seats(self) -> Vec<WorkerSeat<W>>
+        ensures all { vec_len result ≡ workers_of self.entry.live.now }
+        ensures workers { All (IsWorkerOf self.entry.live.now) result.items }
+        ensures idle { All IsIdle result.items }
+    {
+        let Crew { seats, .. } = self;
+        seats
+    }
+}
+
+/// The seats of a crew of this board, where memory didn't run out for it.
+pub fn seats_of<W: Work>(
+    live: &Live<W>,
+    crew: Result<Crew<'_, W>, NoMemory>,
+) -> Result<Vec<WorkerSeat<W>>, NoMemory>
+    requires { IfOk crew (λ crew. crew.live.now ≡ live.now) }
+    ensures all { IfOk result (λ seats. vec_len seats ≡ workers_of live.now) }
+    ensures workers { IfOk result (λ seats. All (IsWorkerOf live.now) seats.items) }
+    ensures idle { IfOk result (λ seats. All IsIdle seats.items) }
+{
+    Ok(crew?.into_seats())
+}
+
+/// The owner's part, and beside it each worker takes its turns at the board in a thread of its own. The crew comes back; an
+/// error is that memory ran out for their threads.
+pub fn work_beside<
+    's,
+    R: Threads + Sync,
+    W: Work,
+    G: Gate,
+    S: Supply,
+    T: Send + Drop,
+    F: FnOnce() -> T + Send + Drop,
+>(
+    rt: &R,
+    crew: Crew<'s, W>,
+    work: &W,
+    turns: u64,
+    gate: &G,
+    supply: &S,
+    lead: F,
+) -> (Result<Crew<'s, W>, NoMemory>, T)
+    requires lead { F.pre lead }
+    ensures lead { F.post lead result.1 }
+    ensures live { IfOk result.0 (λ back. back.live.now ≡ crew.entry.live.now) }
+{
+    let (crew, led) = join(
+        rt,
+        || -> Result<Crew<'_, W>, AllocError>
+            ensures { IfOk result (λ back. back.live.now ≡ crew.entry.live.now) }
+        { work_all(rt, crew, work, turns, gate, supply) },
+        lead,
+    );
+    (crew.map_err(|_| NoMemory), led)
+}
+
+/// The turns of all workers, each in a thread of its own.
+fn work_all<'s, R: Threads + Sync, W: Work, G: Gate, S: Supply>(
+    rt: &R,
+    crew: Crew<'s, W>,
+    work: &W,
+    turns: u64,
+    gate: &G,
+    supply: &S,
+) -> Result<Crew<'s, W>, AllocError>
+    ensures { IfOk result (λ back. back.live.now ≡ crew.entry.live.now) }
+{
+    let Crew { live, seats } = crew;
+    let seats = map_vec(
+        rt,
+        seats,
+        &|seat|
+            requires worker { IsWorkerOf live.now seat }
+            requires idle { IsIdle seat }
+            ensures worker { IsWorkerOf live.entry.now result }
+            ensures idle { IsIdle result }
+        { live.take_turns(work, gate, supply, seat, turns) },
+    )?;
+    Ok(Crew { live, seats })
+}
