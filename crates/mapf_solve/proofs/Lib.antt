@@ -3,7 +3,7 @@ pub mod OneOut
 mod WithoutLimit
 mod Leaving
 mod WorkedAhead
+mod GoingOn
 mod WaitingNodes
 mod AgentJobs
-mod InTurn
 pub mod Boards

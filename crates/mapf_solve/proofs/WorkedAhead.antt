@@ -15,7 +15,6 @@ use Rattle.mapf_tree.specs.Nodes.{Node, StandsFor, IsConflictOf}
 use Rattle.mapf_tree.proofs.Plans.{same_plan}
 use Rattle.mapf_tree.proofs.Unique.{same_node, same_turns}
 use Rattle.mapf_tree.specs.Family.{IsBranching, IsChildOf}
-use Rattle.mapf_solve.specs.Rounds.{WantedChild, FitsSide, IsChildOfNamed}
 
 is_equal : (o : Ordering) → is_eq o ≡ true → o ≡ Equal
 is_equal Less h = cc
@@ -47,20 +46,7 @@ child_of_same_name p a b side found branching e is n c shows on =
     let yours : IsConflictOf p.rule n.1 (Some c) = subst (λ q. IsConflictOf p.rule n.1 q) on (subst (λ q. IsConflictOf p.rule q b.conflict) shows.plan shows.conflict) in
     is n c here (same_conflict p.rule n.1 a.conflict c branching.conflict mine yours)
 
--- and so is what fits a job for the one
-pub used_child : (p : Problem) (node : Node) (side : Side) (job asked : WantedChild) (found : Option Node) →
-    IsBranching job.problem job.node → FitsSide job found → job ≡ asked → asked.problem ≡ p → asked.node.name ≡ node.name → asked.side ≡ side →
-    IsChildOf p node side found
-used_child p node side job asked found branching fits is of named turn =
-    let b : IsBranching asked.problem asked.node = subst (λ (j : WantedChild). IsBranching j.problem j.node) is branching in
-    let f : IsChildOf asked.problem asked.node asked.side found = subst (λ (j : WantedChild). FitsSide j found) is fits in
-    let b' : IsBranching p asked.node = subst (λ q. IsBranching q asked.node) of b in
-    let f' : IsChildOf p asked.node asked.side found = subst (λ q. IsChildOf q asked.node asked.side found) of f in
-    subst (λ t. IsChildOf p node t found) turn (child_of_same_name p asked.node node asked.side found b' named f')
-
--- and so is a child that was made for its name
-pub made_child : (p q : Problem) (node : Node) (name : List Side) (side asked : Side) (found : Option Node) →
-    IsChildOfNamed q name side found → q ≡ p → IsBranching p node → node.name ≡ name → side ≡ asked → IsChildOf p node asked found
-made_child p q node name side asked found made of branching named turn =
-    let here : IsChildOfNamed p name side found = subst (λ r. IsChildOfNamed r name side found) of made in
-    subst (λ t. IsChildOf p node t found) turn (here node branching named)
+-- and a child of a node is one of what is the same node
+pub same_child : (p q : Problem) (a b : Node) (s t : Side) (found : Option Node) → q ≡ p → b ≡ a → t ≡ s → IsChildOf q a s found → IsChildOf p b t found
+same_child p q a b s t found of node side is =
+    subst (λ r. IsChildOf r b t found) of (subst (λ n. IsChildOf q n t found) (sym node) (subst (λ u. IsChildOf q a u found) (sym side) is))

@@ -1,5 +1,4 @@
 pub mod Out
 pub mod Run
 pub mod Rounds
-pub mod Ahead
-pub mod Jobs
+pub mod Sessions

@@ -29,6 +29,10 @@ IsWorkers ask = (0 < ask.workers) × (ask.workers ≤ most_workers)
 abbrev pub IsNodes : Ask → Type 0
 IsNodes ask = IsLimit ask.nodes
 
+-- each of the ask's own numbers may be; how many agents there are is the instance's to judge
+abbrev pub AreNumbers : Ask → Type 0
+AreNumbers ask = IsBound ask × IsWorkers ask × IsNodes ask
+
 -- a fault of the two files as a refusal
 abbrev pub of_files : FilesFault → Refusal
 of_files (files.Map fault) = refusal.Map fault
@@ -56,6 +60,12 @@ pub record IsText (map scen : List ℕ) (ask : Ask) (bytes : List ℕ) : Type 0 
   pub nodes : IsNodes ask
   pub inst : Instance
   pub asked : IsAsked map scen ask.agents inst
+  pub given : Answer
+  pub answer : IsAnswerOf (problem_of inst ask) given
+  pub spelled : bytes ≡ text inst.grid given
+
+-- the text of that answer for this instance
+pub record IsTextFor (inst : Instance) (ask : Ask) (bytes : List ℕ) : Type 0 where
   pub given : Answer
   pub answer : IsAnswerOf (problem_of inst ask) given
   pub spelled : bytes ≡ text inst.grid given

@@ -4,10 +4,10 @@ use Rattle.std.specs.List.{range_with_len}
 use Rattle.mapf_grid.specs.Grid.{Grid}
 use Rattle.mapf_grid.specs.Instance.{Instance}
 use Rattle.mapf_low.specs.Walk.{AreDistances}
-use Rattle.mapf_tree.specs.declared.side.Side.{Side}
 use Rattle.mapf_tree.specs.Problem.{Problem}
 use Rattle.mapf_tree.specs.Nodes.{Node}
-use Rattle.mapf_tree.specs.Family.{IsOwn, IsBranching, IsChildOf}
+use Rattle.mapf_tree.specs.Family.{IsOwn, IsChildOf}
+use Rattle.mapf_tree.specs.SideQuery.{SideQuery}
 
 -- the distances to a goal are wanted
 pub record WantedTable : Type 0 where
@@ -23,9 +23,8 @@ pub record WantedPath : Type 0 where
 
 -- a child of a node is wanted, on one side of its conflict
 pub record WantedChild : Type 0 where
-  pub problem : Problem
+  pub query : SideQuery
   pub node : Node
-  pub side : Side
   pub number : ℕ
 
 -- the path is the agent's own path without constraints, or there is none
@@ -54,20 +53,9 @@ AreOfGoals inst jobs = jobs ≡ map (wanted_table inst) (range_with_len 0 (lengt
 
 -- the child is the one that was asked for
 abbrev pub FitsSide : WantedChild → Option Node → Type 0
-FitsSide j found = IsChildOf j.problem j.node j.side found
+FitsSide j found = IsChildOf j.query.problem j.node j.query.side found
 
--- the child on that side of each node of the tree that has this name
-abbrev pub IsChildOfNamed : Problem → List Side → Side → Option Node → Type 0
-IsChildOfNamed p name side found = (n : Node) → IsBranching p n → n.name ≡ name → IsChildOf p n side found
-
--- a child that is made for the nodes of a name
-pub record ChildMade : Type 0 where
-  pub problem : Problem
-  pub name : List Side
-  pub side : Side
-  pub child : Option Node
-
--- a child that was worked out for a job
-pub record SideWorked : Type 0 where
+-- a child that was worked out, and the job that it is for
+pub record WorkedChild : Type 0 where
   pub job : WantedChild
   pub child : Option Node

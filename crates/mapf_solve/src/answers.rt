@@ -1,17 +1,18 @@
 //! The answer, from the bytes of two files to the bytes of the text.
 
-ghost use Rattle.std.specs.Prelude.{◌≡◌, ◌≢◌, ℕ, ◌≤◌, ◌↔◌, IfOk, IfErr, IsTrue, Some, None, Ok, Err};
+ghost use Rattle.std.specs.Prelude.{◌≡◌, ◌≢◌, ℕ, List, ◌≤◌, ◌↔◌, IfOk, IfErr, OnOk, IsTrue, Some, None, Ok, Err};
+ghost use Rattle.mapf_grid.specs.Asked.{IsAsked};
 ghost use Rattle.mapf_plan.specs.Plan.{most_bound};
 ghost use Rattle.mapf_plan.specs.Text.{text};
 ghost use Rattle.mapf_tree.specs.Problem.{IsLimit};
 ghost use Rattle.mapf_tree.specs.Answered.{IsAnswerOf};
-ghost use Rattle.mapf_solve.specs.Out.{IsOut, IsBest, KeepsLimit, IsOnlyOut, IsWorkers};
+ghost use Rattle.mapf_solve.specs.Out.{AreNumbers, IsRefusal, IsTextFor, IsOut, IsBest, KeepsLimit, IsOnlyOut, IsWorkers, problem_of};
 
 use crate::rounds::tables;
 use crate::solving::solve_from;
 use crate::{Ask, Pace, Refusal};
 use mapf_board::{AlwaysGrants, Gate, MOST_WORKERS};
-use mapf_grid::{NoMemory, instance_of};
+use mapf_grid::{Instance, NoMemory, instance_of};
 use mapf_plan::{Answer, MOST_BOUND, MOST_NODES, Rule, write};
 use mapf_tree::Problem;
 use std::alloc::Global;
@@ -62,21 +63,26 @@ fn text_or_fault<R: Threads + Sync, G: Gate>(
     ensures text { IfOk result (λ bytes. IsOut map.now scen.now ask (Ok bytes.items)) }
     ensures fault { IfErr result (λ fault. fault ≢ Refusal.NoMemory → IsOut map.now scen.now ask (Err fault)) }
 {
-    if ask.bound > MOST_BOUND {
-        return Err(Refusal::Bound);
-    }
-    if ask.workers < 1 || ask.workers > MOST_WORKERS as u64 {
-        return Err(Refusal::Workers);
-    }
-    if !is_limit(ask.nodes) {
-        return Err(Refusal::Nodes);
-    }
-    let instance = instance_of(alloc, map, scen, ask.agents)?;
+    let instance = asked_instance(alloc, map, scen, ask)?;
+    Ok(text_of_instance(rt, alloc, instance, ask, gate)?)
+}
+
+/// The text of the answer for this instance, which is looked for by the ask's number of workers.
+fn text_of_instance<R: Threads + Sync, G: Gate>(
+    rt: &R,
+    alloc: Global,
+    instance: Instance,
+    ask: Ask,
+    gate: &G,
+) -> Result<Vec<u8>, NoMemory>
+    requires { AreNumbers ask }
+    ensures { IfOk result (λ bytes. IsTextFor instance ask bytes.items) }
+{
     let goals = instance.agents() as u64;
     let workers = ask.workers as usize;
     let tables = tables(rt, alloc, &instance, workers, gate, &AlwaysGrants)?;
     let whole = Problem::with(instance, tables, ask.bound as u32);
-    let problem = limited(ruled(whole, ask.rule), ask.nodes);
+    let problem = asked_problem(whole, ask);
     let answer = solve_from(
         rt,
         alloc,
@@ -87,7 +93,49 @@ fn text_or_fault<R: Threads + Sync, G: Gate>(
         gate,
         &AlwaysGrants,
     )?;
-    Ok(spell(alloc, &problem, &answer)?)
+    spell(alloc, &problem, &answer)
+}
+
+/// The instance that is asked for, where the ask's numbers may be; or else the first fault.
+pub(crate) fn asked_instance(
+    alloc: Global,
+    map: &[u8],
+    scen: &[u8],
+    ask: Ask,
+) -> Result<Instance, Refusal>
+    ensures numbers { OnOk result (AreNumbers ask) }
+    ensures asked { IfOk result (IsAsked map.now scen.now ask.agents) }
+    ensures fault { IfErr result (λ fault. fault ≢ Refusal.NoMemory → IsOut map.now scen.now ask (Err fault)) }
+{
+    test_numbers(ask)?;
+    Ok(instance_of(alloc, map, scen, ask.agents)?)
+}
+
+/// The first of the ask's numbers that may not be.
+fn test_numbers(ask: Ask) -> Result<(), Refusal>
+    ensures numbers { OnOk result (AreNumbers ask) }
+    ensures fault { IfErr result (λ fault. (map scen : List ℕ) → IsRefusal map scen ask fault) }
+{
+    if ask.bound > MOST_BOUND {
+        return Err(Refusal::Bound);
+    }
+    if ask.workers < 1 || ask.workers > MOST_WORKERS as u64 {
+        return Err(Refusal::Workers);
+    }
+    if !is_limit(ask.nodes) {
+        return Err(Refusal::Nodes);
+    }
+    Ok(())
+}
+
+/// The problem by the ask's rule, with its limit on nodes, if it has one.
+pub(crate) fn asked_problem(problem: Problem, ask: Ask) -> Problem
+    requires fresh { (problem.nodes ≡ None) × (problem.rule ≡ Rule.Classical) }
+    requires bound { problem.bound ≡ ask.bound }
+    requires limit { IsLimit ask.nodes }
+    ensures { result ≡ problem_of problem.inst ask }
+{
+    limited(ruled(problem, ask.rule), ask.nodes)
 }
 
 /// Whether a search may be limited so: not at all, or to 1 to 1,000,000 nodes.
@@ -124,7 +172,7 @@ fn ruled(problem: Problem, rule: Rule) -> Problem
 }
 
 /// The text of a problem's answer.
-fn spell(alloc: Global, problem: &Problem, answer: &Answer) -> Result<Vec<u8>, NoMemory>
+pub(crate) fn spell(alloc: Global, problem: &Problem, answer: &Answer) -> Result<Vec<u8>, NoMemory>
     requires bound { problem.now.bound ≤ most_bound }
     requires limit { IsLimit problem.now.nodes }
     requires answer { IsAnswerOf problem.now answer.now }

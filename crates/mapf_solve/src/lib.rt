@@ -1,6 +1,7 @@
 //! The solver: from the bytes of two files to the bytes of the answer, with any number of workers.
 #![tactic(auto)]
 
+mod alone;
 mod answers;
 mod ask;
 pub mod laws;
@@ -12,6 +13,7 @@ mod runs;
 mod sessions;
 mod solving;
 
+pub use alone::answer_alone;
 pub use answers::answer;
 pub use ask::Ask;
 pub use pace::{MOST_SESSION_NODES, MOST_WORKER_TURNS, Pace};

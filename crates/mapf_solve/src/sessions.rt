@@ -1,14 +1,16 @@
-//! Sessions: the owner of a live board takes nodes, and workers beside it work out children of nodes that wait.
+//! Sessions: a search takes nodes with a source whose owner works ahead, and workers beside it work out children of nodes that wait.
 
 mod ahead;
-mod clear;
-mod coordinator;
-mod course;
+mod brands;
 mod desk;
-mod made;
-mod ready;
+mod lookahead;
+mod means;
+mod session;
 mod side_job;
-mod workers;
+mod source;
+mod worked;
 
-pub(crate) use coordinator::Coordinator;
-pub(crate) use course::{Course, session};
+pub(crate) use brands::OneProblem;
+pub(crate) use lookahead::Lookahead;
+pub(crate) use means::Means;
+pub(crate) use session::session;

@@ -1,18 +1,20 @@
 //! A problem's answer.
 
-ghost use Rattle.std.specs.Prelude.{◌<◌, ◌≤◌, IfOk};
+ghost use Rattle.std.specs.Prelude.{◌≡◌, ◌<◌, ◌≤◌, IfOk};
+ghost use Rattle.mapf_tree.specs.Family.{IsRoot};
 ghost use Rattle.mapf_tree.specs.Answered.{IsAnswerOf, IsBestAnswer};
 ghost use Rattle.mapf_board.specs.declared.limits.TheConstants.{MOST_WORKERS};
 ghost use Rattle.mapf_solve.specs.declared.pace.TheConstants.{MOST_SESSION_NODES, MOST_WORKER_TURNS};
 
 use crate::pace::{MOST_SESSION_NODES, MOST_WORKER_TURNS, Pace};
 use crate::rounds::root;
-use crate::sessions::{Coordinator, Course, session};
+use crate::sessions::{Lookahead, Means, OneProblem, session};
 use mapf_board::{AlwaysGrants, Gate, Supply};
 use mapf_grid::NoMemory;
 use mapf_plan::Answer;
-use mapf_tree::{Problem, Search};
+use mapf_tree::{Node, Problem, Progress, Search};
 use std::alloc::Global;
+use std::marker::Brand;
 use std::thread::Threads;
 
 /// Solves a problem with so many workers: the answer is the same for each number of them.
@@ -87,19 +89,43 @@ pub(crate) fn solve_from<R: Threads + Sync, G: Gate, S: Supply>(
 ) -> Result<Answer, NoMemory>
     requires some { 0 < workers }
     requires few { workers ≤ MOST_WORKERS }
+    requires paced { 1 ≤ pace.session_nodes }
     ensures answer { IfOk result (IsAnswerOf problem.now) }
     ensures best { IfOk result (IsBestAnswer problem.now) }
 {
     let agents = problem.instance().agents() as u64;
     let root = root(rt, alloc, problem, first, workers, gate, supply)?;
-    let search = Search::from_root(alloc, problem, root)?;
-    let coordinator = Coordinator::new(alloc, problem, workers, first.saturating_add(agents))?;
-    let mut course = Course::new(search, coordinator);
+    let means = Means {
+        rt,
+        alloc,
+        workers,
+        pace,
+        gate,
+        supply,
+    };
+    solve_root::<Brand, R, G, S>(&means, problem, root, first.saturating_add(agents))
+}
+
+/// The same from the root on, in sessions, whose jobs are numbered from `next` on.
+fn solve_root<P: OneProblem + Send + Sync, R: Threads + Sync, G: Gate, S: Supply>(
+    means: &Means<'_, R, G, S>,
+    problem: &Problem,
+    root: Option<Node>,
+    next: u64,
+) -> Result<Answer, NoMemory>
+    requires problem { problem.now ≡ P.problem }
+    requires root { IsRoot problem.now root }
+    ensures { IfOk result (IsAnswerOf P.problem) }
+{
+    let mut search = Search::from_root(means.alloc, problem, root)?;
+    let mut known = Lookahead::<P>::new(means.alloc, problem, means.workers, next)?;
     loop {
-        course = session(rt, alloc, workers, pace, gate, supply, course)?;
-        if !course.is_working() {
+        let (further, learned, progress) = session(means, search, known)?;
+        search = further;
+        known = learned;
+        if let Progress::Finished = progress {
             break;
         }
     }
-    course.into_search().into_answer().ok_or(NoMemory)
+    search.into_answer().ok_or(NoMemory)
 }

@@ -1,35 +1,77 @@
-//! What the owner of a live board works with.
+//! What the owner of a session's board works with.
 
-ghost use Rattle.std.specs.Prelude.{◌≡◌, ◌<◌, IfOk, IfSome, MatchBool, Some, slice_set};
-ghost use Rattle.mapf_board.specs.Owners.{IsOwnerOf, currents, current_in};
-ghost use Rattle.mapf_board.specs.Views.{job_in};
+ghost use Rattle.std.specs.Prelude.{◌≡◌, ◌<◌, IfOk, IfSome};
+ghost use Rattle.mapf_board.specs.Owners.{IsOwnerOf, IsOwnerAt, board_of, currents};
 ghost use Rattle.mapf_board.specs.Workers.{size_of};
 ghost use Rattle.mapf_board.specs.declared.limits.TheConstants.{MOST_SLOTS};
-ghost use Rattle.mapf_solve.specs.Jobs.{HasNoNew};
+ghost use Rattle.mapf_solve.specs.Sessions.{AreSidesOf, IsGivenOf};
 
-use mapf_board::{Found, Gate, Left, Live, MOST_SLOTS, Owner, Pair, Work, perform_through};
+use crate::sessions::brands::{OneBoard, OneProblem};
+use crate::sessions::side_job::{SideJob, SideWork};
+use mapf_board::{Found, Left, Live, MOST_SLOTS, Owner, Pair, Work};
+use std::marker::PhantomData;
 
-/// The owner of a live board of as many slots as a board may have, and the work that is done there.
-#[derive(Drop)]
-pub(crate) struct Desk<'s, W: Work> {
-    live: &'s Live<W>,
-    work: &'s W,
-    owner: Owner<W>,
+/// One of the slots of a board.
+#[derive(Clone, Copy, Debug)]
+pub(crate) struct Slot {
+    number: usize,
+    ghost of_board: { number < MOST_SLOTS },
+}
+
+impl Slot {
+    /// The slot of this number.
+    pub(crate) fn at(number: usize) -> Slot
+        requires { number < MOST_SLOTS }
+    {
+        Slot { number }
+    }
+}
+
+/// What a board gives back for a job.
+pub(crate) type Given<'p> = Left<Pair<SideWork<'p>>, SideJob<'p>>;
+
+/// The owner of a live board of as many slots as a board may have, and the work that is done there. Each job of the board is
+/// for a child of a node of the problem's tree.
+pub(crate) struct Desk<'p, 's, P: OneProblem, B: OneBoard> {
+    live: &'s Live<SideWork<'p>>,
+    work: &'s SideWork<'p>,
+    owner: Owner<SideWork<'p>>,
     /// Which slots have a job.
     used: [bool; MOST_SLOTS],
     /// How many slots have a job, so that no slot is looked at where none has.
     jobs: usize,
+    of: PhantomData<(P, B)>,
+    ghost board: { board_of live.now ≡ B.board },
     ghost slots: { size_of live.now ≡ MOST_SLOTS },
     ghost owns: { IsOwnerOf live.now owner },
+    ghost sides: { AreSidesOf P.problem (currents owner) },
 }
 
-impl<'s, W: Work> Desk<'s, W> {
+// By hand, so that a proof about what holds a desk sees a call where it is dropped, and not its fields.
+impl<'p, 's, P: OneProblem, B: OneBoard> Drop for Desk<'p, 's, P, B> {
+    fn drop(self) {
+        let Desk {
+            live: _,
+            work: _,
+            owner: _,
+            used: _,
+            jobs: _,
+            of: _,
+        } = self;
+    }
+}
+
+impl<'p, 's, P: OneProblem, B: OneBoard> Desk<'p, 's, P, B> {
     /// The desk of the owner of a board that has no job yet.
-    pub(crate) fn new(live: &'s Live<W>, work: &'s W, owner: Owner<W>) -> Desk<'s, W>
+    pub(crate) fn new(
+        live: &'s Live<SideWork<'p>>,
+        work: &'s SideWork<'p>,
+        owner: Owner<SideWork<'p>>,
+    ) -> Desk<'p, 's, P, B>
+        requires board { board_of live.now ≡ B.board }
         requires slots { size_of live.now ≡ MOST_SLOTS }
         requires owns { IsOwnerOf live.now owner }
-        ensures live { result.live.now ≡ live.now }
-        ensures owner { result.owner ≡ owner }
+        requires sides { AreSidesOf P.problem (currents owner) }
     {
         Desk {
             live,
@@ -37,23 +79,29 @@ impl<'s, W: Work> Desk<'s, W> {
             owner,
             used: [false; MOST_SLOTS],
             jobs: 0,
+            of: PhantomData,
         }
     }
 
     /// The owner.
-    pub(crate) fn into_owner(self) -> Owner<W>
-        ensures owner { result ≡ self.entry.owner }
-        ensures owns { IsOwnerOf self.entry.live.now result }
+    pub(crate) fn into_owner(self) -> Owner<SideWork<'p>>
+        ensures owns { IsOwnerAt B.board MOST_SLOTS result }
+        ensures sides { AreSidesOf P.problem (currents result) }
     {
-        let Desk { owner, .. } = self;
+        let Desk {
+            live: _,
+            work: _,
+            owner,
+            used: _,
+            jobs: _,
+            of: _,
+        } = self;
         owner
     }
 
     /// Whether the slot has a job.
-    pub(crate) fn is_used(&self, slot: usize) -> bool
-        requires { slot < MOST_SLOTS }
-    {
-        self.used[slot]
+    pub(crate) fn is_used(&self, slot: Slot) -> bool {
+        self.used[slot.number]
     }
 
     /// Whether any slot has a job.
@@ -62,91 +110,58 @@ impl<'s, W: Work> Desk<'s, W> {
     }
 
     /// The first slot that has no job.
-    pub(crate) fn free_slot(&self) -> Option<usize>
-        ensures { IfSome result (λ slot. slot < MOST_SLOTS) }
-    {
-        for slot in 0..MOST_SLOTS {
-            if !self.used[slot] {
-                return Some(slot);
+    pub(crate) fn free_slot(&self) -> Option<Slot> {
+        for number in 0..MOST_SLOTS {
+            if !self.used[number] {
+                return Some(Slot::at(number));
             }
         }
         None
     }
 
-    /// Posts a job in a slot. False where the slot has one already.
-    pub(crate) fn post(&mut self, slot: usize, job: W::Job) -> bool
-        requires { slot < MOST_SLOTS }
-        ensures live { self.new.live ≡ self.old.live }
-        ensures jobs { MatchBool result (currents self.new.owner ≡ slice_set (currents self.old.owner) slot (Some job)) (currents self.new.owner ≡ currents self.old.owner) }
+    /// Posts a job in a slot, if that has none.
+    pub(crate) fn post(&mut self, slot: Slot, job: SideJob<'p>)
+        requires { job.query.problem ≡ P.problem }
     {
-        let posted = self.live.post(&mut self.owner, slot, job).is_ok();
-        if posted {
-            self.used[slot] = true;
+        if self.live.post(&mut self.owner, slot.number, job).is_ok() {
+            self.used[slot.number] = true;
             self.jobs = self.jobs.saturating_add(1);
         }
-        posted
     }
 
     /// What a worker left in the slot. An error is the state that was found.
-    pub(crate) fn collect(&mut self, slot: usize) -> Result<Left<Pair<W>, W::Job>, Found>
-        requires { slot < MOST_SLOTS }
-        ensures live { self.new.live ≡ self.old.live }
-        ensures jobs { HasNoNew (currents self.old.owner) (currents self.new.owner) }
-        ensures current { IfOk result (λ left. current_in self.old.owner slot ≡ Some (job_in left)) }
+    pub(crate) fn collect(&mut self, slot: Slot) -> Result<Given<'p>, Found>
+        ensures { IfOk result (IsGivenOf P.problem) }
     {
-        let left = self.live.collect(&mut self.owner, slot)?;
-        self.used[slot] = false;
+        let left = self.live.collect(&mut self.owner, slot.number)?;
+        self.used[slot.number] = false;
         self.jobs = self.jobs.saturating_sub(1);
         Ok(left)
     }
 
     /// The job of the slot, where no worker claimed it.
-    pub(crate) fn withdraw(&mut self, slot: usize) -> Option<W::Job>
-        requires { slot < MOST_SLOTS }
-        ensures live { self.new.live ≡ self.old.live }
-        ensures jobs { HasNoNew (currents self.old.owner) (currents self.new.owner) }
-        ensures current { IfSome result (λ job. current_in self.old.owner slot ≡ Some job) }
+    pub(crate) fn withdraw(&mut self, slot: Slot) -> Option<SideJob<'p>>
+        ensures { IfSome result (λ job. job.query.problem ≡ P.problem) }
     {
-        let job = self.live.withdraw(&mut self.owner, slot).ok()?;
-        self.used[slot] = false;
+        let job = self.live.withdraw(&mut self.owner, slot.number).ok()?;
+        self.used[slot.number] = false;
         self.jobs = self.jobs.saturating_sub(1);
         Some(job)
     }
 
-    /// What became of the job of the slot; where nobody claimed it, it is performed now, through the gate. None where a worker
-    /// is at it, or there was no memory for it.
-    pub(crate) fn fetch<G: Gate>(&mut self, slot: usize, gate: &G) -> Option<Pair<W>>
-        requires { slot < MOST_SLOTS }
-        ensures live { self.new.live ≡ self.old.live }
-        ensures jobs { HasNoNew (currents self.old.owner) (currents self.new.owner) }
-        ensures current { IfSome result (λ pair. current_in self.old.owner slot ≡ Some pair.0) }
+    /// What becomes of a job that is performed now.
+    pub(crate) fn perform(&self, job: SideJob<'p>) -> Given<'p>
+        requires { job.query.problem ≡ P.problem }
+        ensures { IsGivenOf P.problem result }
     {
-        match self.collect(slot) {
-            Ok(left) => return pair_in(left),
-            Err(Found::Claimed(_)) => return None,
-            Err(_) => {}
-        }
-        match self.withdraw(slot) {
-            Some(job) => perform_through(self.work, gate, job).ok(),
-            None => pair_in(self.collect(slot).ok()?),
+        match self.work.perform(job) {
+            Ok(pair) => Left::Answer(pair),
+            Err(job) => Left::Job(job),
         }
     }
 
     /// Shuts the board.
-    pub(crate) fn shut(&mut self)
-        ensures live { self.new.live ≡ self.old.live }
-        ensures jobs { currents self.new.owner ≡ currents self.old.owner }
-    {
+    pub(crate) fn shut(&mut self) {
         self.live.shut(&mut self.owner);
-    }
-}
-
-/// The job and its answer, where it was answered.
-fn pair_in<W: Work>(left: Left<Pair<W>, W::Job>) -> Option<Pair<W>>
-    ensures { IfSome result (λ pair. pair.0 ≡ job_in left) }
-{
-    match left {
-        Left::Answer(pair) => Some(pair),
-        Left::Job(_) => None,
     }
 }

@@ -1,136 +1,105 @@
 //! The jobs of a session: children of nodes that wait.
 
-ghost use Rattle.std.specs.Prelude.{◌≡◌, IfSome, IsTrue};
-ghost use Rattle.mapf_tree.specs.Family.{IsBranching, IsChildOf};
-ghost use Rattle.mapf_tree.specs.SideQuery.{IsFromStart};
+ghost use Rattle.std.specs.Prelude.{◌≡◌, IfOk, IsTrue};
+ghost use Rattle.mapf_tree.specs.Family.{IsBranching};
+ghost use Rattle.mapf_tree.specs.SideQuery.{IsFromStart, IsQueryOf};
 ghost use Rattle.mapf_solve.specs.Rounds.{FitsSide};
 
 use mapf_board::{Pair, Task, Work};
-use mapf_tree::{FromStart, Node, OwnPaths, Problem, Side, child_with};
+use mapf_grid::NoMemory;
+use mapf_tree::{FromStart, Node, Problem, Side, SideQuery, child_with};
 use std::alloc::Global;
 use std::marker::{Model, PhantomData};
 
 /// A child of a node is wanted, on one side of the conflict of the node's plan.
-#[derive(Drop)]
 pub(crate) struct SideJob<'p> {
-    problem: &'p Problem,
     node: Node,
-    side: Side,
-    number: u64,
+    /// The own path that the side asks for.
+    query: SideQuery<'p>,
     /// The distances from the start of the child's agent, if there is a table.
     from_start: FromStart,
+    number: u64,
+}
+
+// By hand, so that a proof about what holds a job sees a call where it is dropped, and not its fields.
+impl<'p> Drop for SideJob<'p> {
+    fn drop(self) {
+        let SideJob {
+            node: _,
+            query: _,
+            from_start: _,
+            number: _,
+        } = self;
+    }
 }
 
 impl<'p> Model for SideJob<'p> {
-    ghost use Rattle.mapf_tree.specs.SideQuery.{IsFromStart};
+    ghost use Rattle.mapf_tree.specs.SideQuery.{IsFromStart, IsQueryOf};
     ghost use Rattle.mapf_tree.specs.Family.{IsBranching};
     ghost use Rattle.mapf_solve.specs.Rounds.{WantedChild};
 
     ghost Value = { WantedChild };
 
-    ghost view = { λ j. record { problem = j.problem.now; node = j.node; side = j.side; number = j.number } };
+    ghost view = { λ j. record { query = j.query; node = j.node; number = j.number } };
 
-    ghost invariant = { λ j. IsBranching j.problem.now j.node × IsFromStart j.problem.now j.from_start };
+    ghost invariant = { λ j. IsBranching j.query.problem j.node × IsQueryOf j.node j.query × IsFromStart j.query.problem j.from_start };
 }
 
 impl<'p> SideJob<'p> {
-    /// The job for this node and side, with the distances from the start of the child's agent, if there is a table.
+    /// The job for the side of a node that this query is of, with the distances from the start of the query's agent, if there
+    /// is a table.
     pub(crate) fn of(
-        problem: &'p Problem,
         node: Node,
-        side: Side,
-        number: u64,
+        query: SideQuery<'p>,
         from_start: FromStart,
+        number: u64,
     ) -> SideJob<'p>
-        requires node { IsBranching problem.now node }
-        requires start { IsFromStart problem.now from_start }
-        ensures { result ≡ record { problem = problem.now; node = node; side = side; number = number } }
+        requires node { IsBranching query.problem node }
+        requires query { IsQueryOf node query }
+        requires start { IsFromStart query.problem from_start }
+        ensures { result ≡ record { query = query.entry; node = node; number = number } }
     {
         SideJob {
-            problem,
             node,
-            side,
-            number,
+            query,
             from_start,
+            number,
         }
     }
 
     /// The node whose child it is to be.
     pub(crate) fn node(&self) -> &Node
         ensures node { result.now ≡ self.now.node }
-        ensures branching { IsBranching self.now.problem result.now }
+        ensures branching { IsBranching self.now.query.problem result.now }
     {
         &self.node
     }
 
+    /// The own path that the side asks for.
+    pub(crate) fn query(&self) -> &SideQuery<'p>
+        ensures query { result.now ≡ self.now.query }
+        ensures of { IsQueryOf self.now.node result.now }
+    {
+        &self.query
+    }
+
+    /// The job's number.
+    pub(crate) fn number(&self) -> u64 {
+        self.number
+    }
+
     /// The side of the child.
     pub(crate) fn side(&self) -> Side
-        ensures { result ≡ self.now.side }
+        ensures { result ≡ self.now.query.side }
     {
-        self.side
+        self.query.side()
     }
 
-    /// Whether the job is for this node and side.
-    pub(crate) fn is_for(&self, node: &Node, side: Side) -> bool
-        ensures name { IsTrue result → self.now.node.name ≡ node.now.name }
-        ensures side { IsTrue result → self.now.side ≡ side }
+    /// The child.
+    fn child(&self, alloc: Global) -> Result<Option<Node>, NoMemory>
+        ensures { IfOk result (FitsSide self.now) }
     {
-        self.side == side && self.node.key().name == node.key().name
-    }
-}
-
-/// A child, with the job that it was worked out for.
-#[derive(Drop)]
-pub(crate) struct Worked<'p> {
-    job: SideJob<'p>,
-    child: Option<Node>,
-}
-
-impl<'p> Model for Worked<'p> {
-    ghost use Rattle.mapf_solve.specs.Rounds.{FitsSide, SideWorked};
-
-    ghost Value = { SideWorked };
-
-    ghost view = { λ w. record { job = w.job; child = w.child } };
-
-    ghost invariant = { λ w. FitsSide w.job w.child };
-}
-
-impl<'p> Worked<'p> {
-    /// What a worker worked out, whatever the gate was.
-    pub(crate) fn by(pair: Pair<SideWork<'p>>) -> Worked<'p>
-        ensures { result.job ≡ pair.entry.0 }
-    {
-        let (job, child) = pair.parts();
-        Worked { job, child }
-    }
-
-    /// The job.
-    pub(crate) fn job(&self) -> &SideJob<'p>
-        ensures { result.now ≡ self.now.job }
-    {
-        &self.job
-    }
-
-    /// Lets the child's path be remembered, or that there is no such child.
-    pub(crate) fn teach(&self, own_paths: &mut OwnPaths<'p>)
-        requires { own_paths.old ≡ self.now.job.problem }
-        ensures { own_paths.new ≡ own_paths.old }
-    {
-        own_paths.learn(self.job.node(), self.job.side(), &self.child);
-    }
-
-    /// The child, where it is this node's on this side.
-    pub(crate) fn child_of(self, node: &Node, side: Side) -> Option<Option<Node>>
-        requires { IsBranching self.job.problem node.now }
-        ensures { IfSome result (IsChildOf self.entry.job.problem node.now side) }
-    {
-        let Worked { job, child } = self;
-        if job.is_for(node, side) {
-            Some(child)
-        } else {
-            None
-        }
+        child_with(alloc, &self.node, &self.query, &self.from_start)
     }
 }
 
@@ -165,13 +134,7 @@ impl<'p> Work for SideWork<'p> {
     }
 
     fn perform(&self, job: SideJob<'p>) -> Result<Pair<SideWork<'p>>, SideJob<'p>> {
-        match child_with(
-            self.alloc,
-            job.problem,
-            &job.node,
-            job.side,
-            &job.from_start,
-        ) {
+        match job.child(self.alloc) {
             Ok(found) => Ok(Pair::of(job, found)),
             Err(_) => Err(job),
         }

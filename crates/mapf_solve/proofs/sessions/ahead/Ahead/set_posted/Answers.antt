@@ -1,4 +1,0 @@
-use Rattle.mapf_solve.proofs.sessions.ahead.Ahead.set_posted.Goals as goal
-
-pub invariant_of-self : goal.invariant_of-self
-invariant_of-self c = c.set_known.ensures _ c.self.invariant c.requires

@@ -1,0 +1,6 @@
+use Rattle.std.proofs.Common.{subst}
+use Rattle.mapf_tree.specs.Nodes.{AllStand}
+use Rattle.mapf_solve.proofs.sessions.source.SessionSourceChildren.ahead.Goals as goal
+
+pub look_ahead-requires : goal.look_ahead-requires
+look_ahead-requires g c = subst (λ p. AllStand p c.args.waiting.now) c.requires.serves c.requires.nodes

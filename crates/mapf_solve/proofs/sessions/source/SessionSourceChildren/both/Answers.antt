@@ -1,0 +1,12 @@
+use Rattle.std.proofs.Common.{IfOk, subst, sym}
+use Rattle.mapf_tree.specs.declared.side.Side.TheVariants.{Left, Right}
+use Rattle.mapf_tree.specs.Family.{IsChildOf}
+use Rattle.mapf_solve.proofs.sessions.source.SessionSourceChildren.both.Goals as goal
+
+pub returns-clause-left : goal.returns-clause-left
+returns-clause-left g c =
+    subst (λ p. IfOk c.children.result (λ sides. IsChildOf p c.args.node.now Left sides.0)) (sym c.requires.serves) c.children.ensures.left
+
+pub returns-clause-right : goal.returns-clause-right
+returns-clause-right g c =
+    subst (λ p. IfOk c.children.result (λ sides. IsChildOf p c.args.node.now Right sides.1)) (sym c.requires.serves) c.children.ensures.right

@@ -1,0 +1,29 @@
+-- What a session keeps of a problem and of its board, and how a search goes on in it. Nothing here speaks of threads.
+use Rattle.std.specs.Prelude.{◌≡◌, ℕ, ◌≤◌, List, [], Option, Some, None, Result, Ok, Err, slice_index_or}
+use Rattle.mapf_grid.specs.declared.fault.NoMemory.{NoMemory}
+use Rattle.mapf_board.specs.Views.{Held, job_in}
+use Rattle.mapf_plan.specs.declared.rule.Rule.TheVariants.{Classical}
+use Rattle.mapf_tree.specs.declared.progress.Progress.{Progress}
+use Rattle.mapf_tree.specs.declared.progress.Progress.TheVariants.{Working, Finished}
+use Rattle.mapf_tree.specs.Problem.{Problem}
+use Rattle.mapf_tree.specs.Nodes.{Node}
+use Rattle.mapf_tree.specs.Search.{Searched, TakesBetween}
+use Rattle.mapf_solve.specs.Rounds.{WantedChild}
+
+-- a problem that no search is of, for a type that names one
+abbrev pub no_problem : Problem
+no_problem = record { inst = record { grid = record { width = 0; height = 0; free = [] }; starts = []; goals = [] }; bound = 0; nodes = None; rule = Classical }
+
+-- what a board gives back is of a job for a child of a node of this problem's tree
+abbrev pub IsGivenOf : Problem → Held WantedChild (Option Node) → Type 0
+IsGivenOf p given = (job_in given).query.problem ≡ p
+
+-- the current job of each slot, if any, is for a child of a node of this problem's tree
+abbrev pub AreSidesOf : Problem → List (Option WantedChild) → Type 0
+AreSidesOf p current = (slot : ℕ) (job : WantedChild) → slice_index_or current slot None ≡ Some job → job.query.problem ≡ p
+
+-- from the last taken node on a search took the next n nodes of the tree and has no answer yet, or it ended after at most n
+abbrev pub WentOn : Problem → ℕ → Option (List ℕ) → Searched → Result Progress NoMemory → Type 0
+WentOn p n from s (Ok Working) = (s.outcome ≡ Ok None) × TakesBetween p from s.last n
+WentOn p n from s (Ok Finished) = (m : ℕ) × (m ≤ n) × TakesBetween p from s.last m
+WentOn p n from s (Err _) = Unit {0}

@@ -1,0 +1,66 @@
+//! The answer on one thread.
+
+ghost use Rattle.std.specs.Prelude.{◌≡◌, ◌≢◌, ℕ, IfOk, IfErr, Some, None, Ok, Err};
+ghost use Rattle.mapf_tree.specs.Answered.{IsAnswerOf};
+ghost use Rattle.mapf_solve.specs.Out.{AreNumbers, IsTextFor, IsOut, IsBest, KeepsLimit, IsOnlyOut, IsWorkers};
+
+use crate::answers::{asked_instance, asked_problem, spell};
+use crate::{Ask, Refusal};
+use mapf_grid::{Instance, NoMemory};
+use mapf_plan::Answer;
+use mapf_tree::{OwnPaths, Problem, Search};
+use std::alloc::Global;
+
+/// The text of the answer, or the first fault, as [`answer`](crate::answer) gives it: no thread is started, whatever number of
+/// workers is asked for. That number is tested as ever, and else not used.
+pub fn answer_alone(alloc: Global, map: &[u8], scen: &[u8], ask: Ask) -> Result<Vec<u8>, Refusal>
+    // The text of conflict-based search's answer, or else the first fault.
+    ensures text { IfOk result (λ bytes. IsOut map.now scen.now ask (Ok bytes.items)) }
+    ensures fault { IfErr result (λ fault. fault ≢ Refusal.NoMemory → IsOut map.now scen.now ask (Err fault)) }
+
+    // By the ask's rule no plan without conflict costs less; `none` exactly if none costs at most the bound.
+    ensures best { IfOk result (λ bytes. ask.nodes ≡ None → IsBest map.now scen.now ask bytes.items) }
+
+    // With a limit of n nodes the bytes are the same, unless the tree has a node at place n that is in the cut or is the first
+    // solution: exactly then they are `gave up`, with a cost that each plan without conflict has at least.
+    ensures limit { IfOk result (λ bytes. (n : ℕ) → ask.nodes ≡ Some n → KeepsLimit map.now scen.now ask n bytes.items) }
+
+    // The same bytes, or the same fault, as with any number of workers.
+    ensures same { IfOk result (λ bytes. IsOnlyOut map.now scen.now ask (Ok bytes.items)) }
+    ensures same_fault { IfErr result (λ fault. fault ≢ Refusal.NoMemory → IsWorkers ask → IsOnlyOut map.now scen.now ask (Err fault)) }
+{
+    text_or_fault_alone(alloc, map, scen, ask)
+}
+
+/// The same, where nothing is said of other plans and other numbers of workers.
+fn text_or_fault_alone(alloc: Global, map: &[u8], scen: &[u8], ask: Ask) -> Result<Vec<u8>, Refusal>
+    ensures text { IfOk result (λ bytes. IsOut map.now scen.now ask (Ok bytes.items)) }
+    ensures fault { IfErr result (λ fault. fault ≢ Refusal.NoMemory → IsOut map.now scen.now ask (Err fault)) }
+{
+    let instance = asked_instance(alloc, map, scen, ask)?;
+    Ok(text_alone(alloc, instance, ask)?)
+}
+
+/// The text of the answer for this instance, on this thread.
+fn text_alone(alloc: Global, instance: Instance, ask: Ask) -> Result<Vec<u8>, NoMemory>
+    requires { AreNumbers ask }
+    ensures { IfOk result (λ bytes. IsTextFor instance ask bytes.items) }
+{
+    match Problem::new(alloc, instance, ask.bound as u32) {
+        Ok(whole) => {
+            let problem = asked_problem(whole, ask);
+            let answer = solve_by_own_paths(alloc, &problem)?;
+            spell(alloc, &problem, &answer)
+        }
+        Err((_instance, refused)) => Err(refused),
+    }
+}
+
+/// Solves a problem on this thread, by a search that remembers the own paths that it searched.
+fn solve_by_own_paths(alloc: Global, problem: &Problem) -> Result<Answer, NoMemory>
+    ensures { IfOk result (IsAnswerOf problem.now) }
+{
+    let mut paths = OwnPaths::new(alloc, problem)?;
+    let search = Search::new(alloc, problem)?;
+    search.finish(&mut paths)
+}

@@ -1,0 +1,228 @@
+//! A session as a search's source of children.
+
+ghost use Rattle.std.specs.Prelude.{◌≡◌, IfOk, IfSome, IsSome, IsTrue};
+ghost use Rattle.mapf_board.specs.Owners.{IsOwnerAt, currents};
+ghost use Rattle.mapf_board.specs.declared.limits.TheConstants.{MOST_SLOTS};
+ghost use Rattle.mapf_tree.specs.Family.{IsBranching, IsChildOf};
+ghost use Rattle.mapf_tree.specs.Nodes.{AllStand};
+ghost use Rattle.mapf_solve.specs.Sessions.{AreSidesOf};
+
+use crate::sessions::brands::{OneBoard, OneProblem};
+use crate::sessions::desk::{Desk, Slot};
+use crate::sessions::lookahead::Lookahead;
+use crate::sessions::side_job::{SideJob, SideWork};
+use mapf_board::{Found, Gate, MOST_SLOTS, Owner};
+use mapf_grid::NoMemory;
+use mapf_tree::{Children, Node, OpenList, Problem, Side};
+
+/// The owner's part of a session: the search's source of children, of which some are worked ahead on a board.
+///
+/// Its methods know nothing of the gate: only as a source of children it calls it.
+pub(crate) struct SessionSource<'p, 's, P: OneProblem, B: OneBoard, G> {
+    known: Lookahead<'p, P>,
+    desk: Desk<'p, 's, P, B>,
+    gate: &'s G,
+    /// For so many turns no job is looked for, since lately there was none.
+    quiet: usize,
+}
+
+// By hand, so that a proof about what holds one sees a call where it is dropped, and not its fields.
+impl<'p, 's, P: OneProblem, B: OneBoard, G> Drop for SessionSource<'p, 's, P, B, G> {
+    fn drop(self) {
+        let SessionSource {
+            known: _,
+            desk: _,
+            gate: _,
+            quiet: _,
+        } = self;
+    }
+}
+
+impl<'p, 's, P: OneProblem, B: OneBoard, G> SessionSource<'p, 's, P, B, G> {
+    /// The source of a session in which no job was posted yet.
+    pub(crate) fn new(
+        known: Lookahead<'p, P>,
+        desk: Desk<'p, 's, P, B>,
+        gate: &'s G,
+    ) -> SessionSource<'p, 's, P, B, G> {
+        SessionSource {
+            known,
+            desk,
+            gate,
+            quiet: 0,
+        }
+    }
+
+    /// What sessions hand on, and the board's owner.
+    pub(crate) fn into_parts(self) -> (Lookahead<'p, P>, Owner<SideWork<'p>>)
+        ensures owns { IsOwnerAt B.board MOST_SLOTS result.1 }
+        ensures sides { AreSidesOf P.problem (currents result.1) }
+    {
+        let SessionSource {
+            known,
+            desk,
+            gate: _,
+            quiet: _,
+        } = self;
+        (known, desk.into_owner())
+    }
+
+    /// Whether a job is on the board.
+    pub(crate) fn has_jobs(&self) -> bool {
+        self.desk.has_jobs()
+    }
+
+    /// Shuts the board.
+    pub(crate) fn shut(&mut self) {
+        self.desk.shut();
+    }
+
+    /// Posts the first jobs. The first node is taken of the same ones, so there is nothing to be posted before that.
+    pub(crate) fn begin(&mut self, waiting: &OpenList)
+        requires { AllStand P.problem waiting.now }
+    {
+        self.post_all(waiting);
+        self.quiet = 1;
+    }
+
+    /// Works ahead, before one of these nodes is taken: collects what is done, and posts jobs. Where none is to be posted, the
+    /// nodes aren't looked at again for as many turns.
+    fn look_ahead(&mut self, waiting: &OpenList)
+        requires { AllStand P.problem waiting.now }
+    {
+        if self.quiet > 0 {
+            self.quiet -= 1;
+            return;
+        }
+        self.collect_all();
+        if !self.post_all(waiting) {
+            self.quiet = self.known.nodes();
+        }
+    }
+
+    /// Collects what is done.
+    fn collect_all(&mut self) {
+        if !self.desk.has_jobs() {
+            return;
+        }
+        for number in 0..MOST_SLOTS {
+            let slot = Slot::at(number);
+            if self.desk.is_used(slot) {
+                self.keep_done(slot);
+            }
+        }
+    }
+
+    /// Posts jobs for the children of the first waiting nodes of which nothing is known, left first, as long as there is a free
+    /// slot. Whether one was posted.
+    fn post_all(&mut self, waiting: &OpenList) -> bool
+        requires { AllStand P.problem waiting.now }
+    {
+        let mut has_posted = false;
+        for node in waiting.first(self.known.nodes()) {
+            if may_have_jobs(node) && self.post_sides(node) {
+                has_posted = true;
+            }
+        }
+        has_posted
+    }
+
+    /// Posts the jobs for both children of a node, left first. Whether one was posted.
+    fn post_sides(&mut self, node: &Node) -> bool
+        requires { IsBranching P.problem node.now }
+    {
+        let left = self.post(node, Side::Left);
+        let right = self.post(node, Side::Right);
+        left || right
+    }
+
+    /// Posts the job for a child of a node, if nothing is known of it and a slot is free. Whether it was posted.
+    fn post(&mut self, node: &Node, side: Side) -> bool
+        requires { IsBranching P.problem node.now }
+    {
+        let Some(slot) = self.desk.free_slot() else {
+            return false;
+        };
+        let Some(query) = self.known.unknown_query(node, side) else {
+            return false;
+        };
+        let Some(job) = self.known.job(node, query, slot) else {
+            return false;
+        };
+        self.desk.post(slot, job);
+        true
+    }
+
+    /// What became of the job for a child of the node whose turn it is, if there is one, is kept. A job that nobody claimed comes
+    /// out of its slot, to be performed now.
+    fn fetch(&mut self, node: &Node, side: Side) -> Option<SideJob<'p>>
+        ensures { IfSome result (λ job. job.query.problem ≡ P.problem) }
+    {
+        let slot = self.known.slot_of(node, side)?;
+        match self.desk.collect(slot) {
+            Ok(given) => {
+                self.known.keep(given);
+                return None;
+            }
+            Err(Found::Claimed(_)) => return None,
+            Err(_) => {}
+        }
+        let job = self.desk.withdraw(slot);
+        if job.is_none() {
+            self.keep_done(slot);
+        }
+        job
+    }
+
+    /// Keeps what is done in a slot.
+    fn keep_done(&mut self, slot: Slot) {
+        if let Ok(given) = self.desk.collect(slot) {
+            self.known.keep(given);
+        }
+    }
+
+    /// The children of the node whose turn it is, of which what was worked ahead is used.
+    fn children(&mut self, node: &Node) -> Result<(Option<Node>, Option<Node>), NoMemory>
+        requires { IsBranching P.problem node.now }
+        ensures left { IfOk result (λ sides. IsChildOf P.problem node.now Side.Left sides.0) }
+        ensures right { IfOk result (λ sides. IsChildOf P.problem node.now Side.Right sides.1) }
+    {
+        let left = self.known.take(node, Side::Left);
+        let right = self.known.take(node, Side::Right);
+        self.known.children(node, left, right)
+    }
+}
+
+impl<'p, 's, P: OneProblem, B: OneBoard, G: Gate> Children for SessionSource<'p, 's, P, B, G> {
+    ghost use Rattle.std.specs.Prelude.{◌≡◌};
+
+    ghost serves = { λ _ p. p ≡ P.problem };
+
+    fn both(
+        &mut self,
+        _problem: &Problem,
+        node: &Node,
+    ) -> Result<(Option<Node>, Option<Node>), NoMemory> {
+        for side in [Side::Left, Side::Right] {
+            if let Some(job) = self.fetch(node, side) {
+                let number = job.number();
+                self.gate.enter(number);
+                let given = self.desk.perform(job);
+                self.gate.leave(number);
+                self.known.keep(given);
+            }
+        }
+        self.children(node)
+    }
+
+    fn ahead(&mut self, _problem: &Problem, waiting: &OpenList) {
+        self.look_ahead(waiting);
+    }
+}
+
+/// Whether a node's plan has a conflict, and the path of a child of it was not known when the node was made.
+fn may_have_jobs(node: &Node) -> bool
+    ensures { IsTrue result → IsSome node.now.conflict }
+{
+    node.conflict().is_some() && !node.has_known_sides()
+}
