@@ -1,9 +1,12 @@
 mod answers;
 mod changed_bytes;
+mod counting;
 mod devices;
 mod following;
 mod gates;
 mod limits;
 mod node_limits;
+mod orders;
 mod refusals;
+mod refusing;
 mod schedules;

@@ -1,5 +1,6 @@
 ghost use Rattle.std.specs.Prelude.{◌≤◌};
 
+mod calls;
 mod nodes;
 mod searches;
 mod texts;

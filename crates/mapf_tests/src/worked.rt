@@ -77,3 +77,10 @@ pub(crate) const TWO_WAYS: Worked = Worked {
     scen: b"version 1\n0 ways.map 5 5 1 1 3 3 8\n",
     agents: 1,
 };
+
+/// Four cells in a row; two agents face each other and would have to pass.
+pub(crate) const FACING: Worked = Worked {
+    map: b"type octile\nheight 1\nwidth 4\nmap\n....\n",
+    scen: b"version 1\n0 row.map 4 1 0 0 2 0 2\n0 row.map 4 1 3 0 1 0 2\n",
+    agents: 2,
+};

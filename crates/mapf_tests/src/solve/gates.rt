@@ -2,131 +2,16 @@
 
 ghost use Rattle.std.specs.Prelude.{◌<◌, ◌≤◌};
 
+use super::counting::{Counts, MOST_LOOKS};
 use crate::worked::{CHANGE, CROSSING, Worked};
-use mapf_board::{AlwaysGrants, Gate};
+use mapf_board::AlwaysGrants;
 use mapf_grid::instance_of;
 use mapf_plan::{Answer, Rule};
 use mapf_solve::{Ask, Pace, answer, solve, solve_paced};
 use mapf_tree::Problem;
 use std::alloc::Global;
-use std::sync::atomic::{AtomicU64, Ordering};
+use std::sync::atomic::Ordering;
 use std::thread::Threads;
-
-/// How many jobs are counted one by one: more than there are in any of these problems.
-const JOBS: usize = 10;
-
-/// How long a job waits for another at most, in looks.
-const MOST_LOOKS: u64 = 1_000_000_000;
-
-/// How often each of the first jobs was entered and left, and how often others were.
-#[derive(Drop)]
-struct Counts {
-    entered: [AtomicU64; JOBS],
-    left: [AtomicU64; JOBS],
-    others: AtomicU64,
-    /// The job that waits for another to be left.
-    waiter: u64,
-    awaited: usize,
-    /// How long it waits at most, in looks.
-    patience: u64,
-    impatient: AtomicU64,
-}
-
-impl Counts {
-    /// No job waits.
-    fn new() -> Counts {
-        Counts::waiting(0, 0, 0)
-    }
-
-    /// A job waits for another to be left, so many looks at most.
-    fn waiting(waiter: u64, awaited: usize, patience: u64) -> Counts {
-        Counts {
-            entered: zeros(),
-            left: zeros(),
-            others: AtomicU64::new(0),
-            waiter,
-            awaited,
-            patience,
-            impatient: AtomicU64::new(0),
-        }
-    }
-
-    fn count(&self, jobs: &[AtomicU64], n: u64) {
-        match jobs.get(n as usize) {
-            Some(job) => job.fetch_add(1, Ordering::SeqCst),
-            None => self.others.fetch_add(1, Ordering::SeqCst),
-        };
-    }
-
-    fn wait_for_the_awaited(&self) {
-        for _ in 0..self.patience {
-            if self.is_left(self.awaited) {
-                return;
-            }
-        }
-        if self.patience > 0 {
-            self.impatient.fetch_add(1, Ordering::SeqCst);
-        }
-    }
-
-    fn is_left(&self, n: usize) -> bool {
-        match self.left.get(n) {
-            Some(job) => job.load(Ordering::SeqCst) > 0,
-            None => false,
-        }
-    }
-
-    /// Whether each of the first so many jobs was entered and left once, and no other was.
-    fn is_each_once(&self, first: usize) -> bool {
-        is_once(&self.entered, first)
-            && is_once(&self.left, first)
-            && self.others.load(Ordering::SeqCst) == 0
-    }
-
-    /// How often one of the first jobs was entered.
-    fn entries(&self) -> u64 {
-        let mut entries = 0_u64;
-        for job in &self.entered {
-            entries = entries.saturating_add(job.load(Ordering::SeqCst));
-        }
-        entries
-    }
-}
-
-/// A count for each job.
-fn zeros() -> [AtomicU64; JOBS] {
-    [
-        AtomicU64::new(0),
-        AtomicU64::new(0),
-        AtomicU64::new(0),
-        AtomicU64::new(0),
-        AtomicU64::new(0),
-        AtomicU64::new(0),
-        AtomicU64::new(0),
-        AtomicU64::new(0),
-        AtomicU64::new(0),
-        AtomicU64::new(0),
-    ]
-}
-
-/// Whether each of the first so many is 1, and each other is 0.
-fn is_once(jobs: &[AtomicU64], first: usize) -> bool {
-    let is = |job: &AtomicU64, count: u64| job.load(Ordering::SeqCst) == count;
-    jobs.iter().take(first).all(|job| is(job, 1)) && jobs.iter().skip(first).all(|job| is(job, 0))
-}
-
-impl Gate for Counts {
-    fn enter(&self, n: u64) {
-        self.count(&self.entered, n);
-        if n == self.waiter {
-            self.wait_for_the_awaited();
-        }
-    }
-
-    fn leave(&self, n: u64) {
-        self.count(&self.left, n);
-    }
-}
 
 fn solved<R: Threads + Sync>(
     rt: &R,

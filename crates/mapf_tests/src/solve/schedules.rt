@@ -1,35 +1,17 @@
-//! The same answers where workers are refused memory, leave at once, or are held up.
+//! The same answers where workers leave at once, or are held up.
 
 ghost use Rattle.std.specs.Prelude.{◌<◌, ◌≤◌};
 
 use super::answers::answered;
 use crate::worked::{BAY, CANNOT_PASS, CHANGE, CROSSING, Worked};
-use mapf_board::{AlwaysGrants, Gate, NoGate, Supply};
+use mapf_board::{AlwaysGrants, Gate};
 use mapf_grid::instance_of;
 use mapf_plan::{Answer, Path};
-use mapf_solve::{Pace, solve_paced, solve_with};
+use mapf_solve::{Pace, solve_paced};
 use mapf_tree::Problem;
 use std::alloc::Global;
 use std::sync::atomic::{AtomicU64, Ordering};
 use std::thread::Threads;
-
-/// Grants no memory.
-struct GrantsNone;
-
-impl Supply for GrantsNone {
-    fn grants(&self, _n: u64) -> bool {
-        false
-    }
-}
-
-/// Grants memory for the jobs of odd numbers.
-struct GrantsOdd;
-
-impl Supply for GrantsOdd {
-    fn grants(&self, n: u64) -> bool {
-        n % 2 == 1
-    }
-}
 
 /// Holds each job up, when it begins and when it ends.
 #[derive(Drop)]
@@ -71,7 +53,7 @@ fn has_cells(path: Option<&Path>, cells: &[u32]) -> bool {
 }
 
 /// Whether it is a plan of this cost and of these two paths.
-fn is_plan(answer: Option<Answer>, cost: u64, first: &[u32], second: &[u32]) -> bool {
+pub(super) fn is_plan(answer: Option<Answer>, cost: u64, first: &[u32], second: &[u32]) -> bool {
     match answer {
         Some(Answer::Plan { plan, stated }) => {
             stated == cost
@@ -84,57 +66,11 @@ fn is_plan(answer: Option<Answer>, cost: u64, first: &[u32], second: &[u32]) -> 
 }
 
 /// Whether it is that no plan costs at most this bound.
-fn is_none(answer: Option<Answer>, limit: u32) -> bool {
+pub(super) fn is_none(answer: Option<Answer>, limit: u32) -> bool {
     match answer {
         Some(Answer::None { bound }) => bound == limit,
         _ => false,
     }
-}
-
-/// What two workers answer who are granted memory by a supply.
-fn supplied<R: Threads + Sync, S: Supply>(
-    rt: &R,
-    alloc: Global,
-    worked: &Worked,
-    bound: u32,
-    supply: &S,
-) -> Option<Answer>
-    requires { bound ≤ 1000000 }
-{
-    let instance = instance_of(alloc, worked.map, worked.scen, worked.agents).ok()?;
-    let problem = Problem::new(alloc, instance, bound).ok()?;
-    solve_with(rt, alloc, &problem, 2, &NoGate, supply).ok()
-}
-
-/// Whether the worked problems of two agents have their answers with this supply.
-fn answers_with<R: Threads + Sync, S: Supply>(rt: &R, alloc: Global, supply: &S) -> bool {
-    is_plan(
-        supplied(rt, alloc, &BAY, 4, supply),
-        4,
-        &[1, 4, 1],
-        &[0, 1, 2],
-    ) && is_plan(
-        supplied(rt, alloc, &CHANGE, 4, supply),
-        4,
-        &[0, 2, 3, 1],
-        &[1, 0],
-    ) && is_none(supplied(rt, alloc, &CHANGE, 3, supply), 3)
-        && is_plan(
-            supplied(rt, alloc, &CROSSING, 9, supply),
-            5,
-            &[1, 1, 4, 7],
-            &[3, 4, 5],
-        )
-}
-
-#[test]
-fn the_answers_are_the_same_where_no_worker_is_granted_memory(rt: HostRuntime) {
-    assert!(rt; answers_with(&rt, rt.alloc(), &GrantsNone));
-}
-
-#[test]
-fn the_answers_are_the_same_where_odd_jobs_are_granted_memory(rt: HostRuntime) {
-    assert!(rt; answers_with(&rt, rt.alloc(), &GrantsOdd));
 }
 
 /// What so many workers answer at this pace, each of whose jobs is held up.

@@ -3,11 +3,11 @@
 use mapf_low::Constraint;
 use mapf_plan::{Conflict, Path};
 use mapf_tree::Side;
-use std::alloc::Global;
+use std::alloc::{AllocError, Global};
 use std::test::Fail;
 
 /// A node's name: a letter for each turn from the root.
-pub(super) fn letters(alloc: Global, name: &[Side]) -> Result<String, Fail> {
+pub(super) fn letters(alloc: Global, name: &[Side]) -> Result<String, AllocError> {
     let mut text = String::new(alloc);
     for side in name {
         text.push(match side {
