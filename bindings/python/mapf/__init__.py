@@ -1,0 +1,50 @@
+"""Optimal multi-agent path finding and the judging of plans, by the program mapf or its library.
+
+>>> import mapf
+>>> answer = mapf.solve("examples/bay.map", "examples/bay.scen", 2)
+>>> answer.cost
+4
+>>> mapf.check("examples/bay.map", "examples/bay.scen", answer).valid
+True
+
+What the program answers is proved, by its contracts; this package and its converters are tested only.
+"""
+from .calls import check, solve, version
+from .faults import (
+    ArgumentFault,
+    BackendFailure,
+    ConversionFault,
+    Fault,
+    FileFault,
+    InstanceFault,
+    MapFault,
+    NotBuilt,
+    OutOfMemory,
+    PlanFault,
+    ScenarioFault,
+)
+from .plan import GaveUp, NoPlan, Plan
+from .plan_text import read_text
+from .verdict import Verdict
+
+__all__ = [
+    "ArgumentFault",
+    "BackendFailure",
+    "ConversionFault",
+    "Fault",
+    "FileFault",
+    "GaveUp",
+    "InstanceFault",
+    "MapFault",
+    "NoPlan",
+    "NotBuilt",
+    "OutOfMemory",
+    "Plan",
+    "PlanFault",
+    "ScenarioFault",
+    "Verdict",
+    "check",
+    "read_text",
+    "solve",
+    "version",
+]

@@ -1,0 +1,41 @@
+"""The command line of `python3 -m mapf`."""
+from __future__ import annotations
+
+import argparse
+import os
+import sys
+from typing import List, Optional
+
+from ..faults import BackendFailure, Fault, NotBuilt
+from . import check, convert, series
+from .status import status_of
+
+COMMANDS = (convert, check, series)
+
+
+def main(words: Optional[List[str]] = None) -> int:
+    """Runs a command, and answers its status: 2 to 5 as the program's, 125 where nothing is built, 130 after Ctrl-C."""
+    parser = argparse.ArgumentParser(prog="python3 -m mapf", description="Plans of any planner: convert and judge them, and run series.")
+    commands = parser.add_subparsers(dest="command", metavar="COMMAND", required=True)
+    for command in COMMANDS:
+        command.add(commands)
+    asked = parser.parse_args(words)
+    try:
+        return asked.run(asked)
+    except Fault as fault:
+        return _ends(str(fault), status_of(fault))
+    except (NotBuilt, BackendFailure) as failure:
+        return _ends(str(failure), 125)
+    except BrokenPipeError:
+        os.dup2(os.open(os.devnull, os.O_WRONLY), sys.stdout.fileno())
+        return 5
+    except OSError as error:
+        return _ends(str(error), 5)
+    except KeyboardInterrupt:
+        return 130
+
+
+def _ends(message: str, status: int) -> int:
+    sys.stdout.flush()
+    print(f"mapf: {message}", file=sys.stderr)
+    return status

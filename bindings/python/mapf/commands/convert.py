@@ -1,0 +1,38 @@
+"""`python3 -m mapf convert`: a plan from one format into another."""
+from __future__ import annotations
+
+import argparse
+import sys
+from typing import Any, Optional
+
+from .._input import read_input
+from ..converters import FORMATS, SHAPES, read_plan, write_plan
+
+LOOKS = "\n".join(f"  {name:<22} {shape.looks}" for name, shape in SHAPES.items())
+
+
+def add(commands: Any) -> None:
+    """Adds the command."""
+    parser = commands.add_parser(
+        "convert", help="a plan from one format into another", formatter_class=argparse.RawDescriptionHelpFormatter,
+        description="Converts a plan. What doesn't fit the format is refused by its line.",
+        epilog=f"formats:\n  plan                   this project's plan text\n{LOOKS}")
+    parser.add_argument("--from", dest="source", choices=FORMATS, default="plan", help="the format of FILE (plan)")
+    parser.add_argument("--to", dest="target", choices=FORMATS, default="plan", help="the format that is printed (plan)")
+    parser.add_argument("--map", help="refuse positions outside of this map")
+    parser.add_argument("--scen", help="the scenario that `moves` begin at")
+    parser.add_argument("file", metavar="FILE", help="the plan")
+    parser.set_defaults(run=run)
+
+
+def run(asked: argparse.Namespace) -> int:
+    """Prints the plan in the other format."""
+    plan = read_plan(
+        asked.source, read_input("plan", asked.file).contents, asked.file, _contents("map", asked.map), _contents("scenario", asked.scen))
+    sys.stdout.write(write_plan(asked.target, plan))
+    sys.stdout.flush()
+    return 0
+
+
+def _contents(kind: str, path: Optional[str]) -> Optional[bytes]:
+    return read_input(kind, path).contents if path else None

@@ -1,0 +1,57 @@
+"""The protocol: agents of a scenario are added until the first instance that isn't solved in time (Stern et al. 2019)."""
+from __future__ import annotations
+
+from concurrent.futures import ThreadPoolExecutor, wait
+from typing import Callable, Iterator, NamedTuple, Optional, Sequence
+
+from .rows import Row, Table
+from .runner import Runner
+from .scenarios import Scenario
+
+
+class Agents(NamedTuple):
+    """How many agents there are: from the first, by steps, to the last, or as many as there are rows."""
+
+    first: int
+    step: int
+    last: Optional[int]
+
+    def of(self, scenario: Scenario) -> Iterator[int]:
+        """The numbers for a scenario."""
+        most = min(scenario.rows, 1000 if self.last is None else self.last)
+        return iter(range(self.first, most + 1, self.step))
+
+
+def run_series(
+    scenarios: Sequence[Scenario], agents: Agents, runner: Runner, table: Table, jobs: int, tell: Callable[[Row, str, int], None]
+) -> None:
+    """Runs all scenarios, some at a time, and adds the rows that the table doesn't have.
+
+    `tell` hears of each new row: what the program said of a refusal, and how many scenarios are done.
+    """
+    known = {row.key: row for row in table.rows}
+    done = []
+
+    def one(scenario: Scenario) -> None:
+        for number in agents.of(scenario):
+            row = known.get((scenario.map_name, scenario.name, number))
+            if row is None:
+                ran = runner.run(scenario, number)
+                if ran is None:
+                    return
+                row, said = ran
+                table.add(row)
+                tell(row, said, len(done))
+            if row.status != "solved":
+                break
+        done.append(scenario)
+
+    with ThreadPoolExecutor(jobs) as threads:
+        futures = [threads.submit(one, scenario) for scenario in scenarios]
+        try:
+            wait(futures)
+        except BaseException:
+            runner.stop()
+            raise
+    for future in futures:
+        future.result()

@@ -1,0 +1,244 @@
+"""`python3 -m mapf series`: on two small maps by the program, and by a stand-in for it where time matters."""
+import csv
+import os
+import shutil
+import signal
+import subprocess
+import tempfile
+import time
+import unittest
+
+from support import RING, command, map_of, process, scen_of, with_program, written
+
+NARROW = map_of("..."), scen_of(3, 1, (0, 0, 2, 0), (2, 0, 0, 0), name="narrow.map")
+HEAD = "map,scenario,agents,status,cost,lower_bound,nodes,seconds"
+# Of up to 10 agents it finds a plan, of 15 it never ends, unless there is a limit on nodes; it says which agents it began with.
+STAND_IN = """#!/bin/sh
+nodes=
+while [ $# -gt 0 ]; do
+    case $1 in --help) echo "{help}"; exit ;; --agents) agents=$2 ;; --nodes) nodes=$2 ;; esac
+    shift
+done
+echo "$agents $$" >>"{folder}/began"
+{says}
+if [ "$agents" -le 10 ]; then echo "plan $agents $((agents * 10))" && exit; fi
+if [ -n "$nodes" ]; then echo "gave up $nodes 140" && exit 6; fi
+exec sleep 60
+"""
+
+
+def rows_of(path):
+    """A CSV's rows without their seconds, and all of them are whole."""
+    with open(path, newline="") as file:
+        text = file.read()
+    assert text.endswith("\n") and text.startswith(HEAD + "\n"), text
+    return [row[:-1] for row in list(csv.reader(text.splitlines()))[1:]]
+
+
+class Folder(unittest.TestCase):
+    """Tests with a folder of their own."""
+
+    def setUp(self):
+        folder = tempfile.TemporaryDirectory()
+        self.addCleanup(folder.cleanup)
+        self.folder = folder.name
+        self.csv = os.path.join(self.folder, "rows.csv")
+
+    def words(self, *more):
+        return ("series", "--maps", os.path.join(self.folder, "maps"), "--scens", os.path.join(self.folder, "scens"), "--csv", self.csv, *more)
+
+
+@with_program
+class TwoMaps(Folder):
+    ROWS = [["narrow.map", "narrow.scen", "1", "solved", "2", ""], ["narrow.map", "narrow.scen", "2", "none", "", "7"],
+            ["ring.map", "ring.scen", "1", "solved", "1", ""], ["ring.map", "ring.scen", "2", "solved", "2", ""],
+            ["ring.map", "ring.scen", "3", "solved", "3", ""], ["ring.map", "ring.scen", "4", "solved", "4", ""]]
+
+    def setUp(self):
+        super().setUp()
+        written(self.folder, "maps/narrow.map", NARROW[0])
+        written(self.folder, "maps/more/ring.map", RING[0])
+        written(self.folder, "scens/narrow.scen", NARROW[1])
+        written(self.folder, "scens/more/ring.scen", RING[1].replace(b"map.map", b"maps/ring.map"))
+
+    def asked(self, *more):
+        return self.words("--from", 1, "--step", 1, "--bound", 6, "--seconds", 30, *more)
+
+    def sorted(self):
+        return sorted(row[:6] for row in rows_of(self.csv))
+
+    def test_a_series(self):
+        self.assertEqual(command(*self.asked("--jobs", 2)), (0, "", ""))
+        self.assertEqual(self.sorted(), self.ROWS)
+
+    def test_resumed_behind_each_byte(self):
+        command(*self.asked())
+        with open(self.csv, "rb") as file:
+            whole = file.read()
+        for length in range(0, len(whole), 29):
+            with self.subTest(length):
+                written(self.folder, "rows.csv", whole[:length])
+                self.assertEqual(command(*self.asked("--resume")), (0, "", ""))
+                self.assertEqual(self.sorted(), self.ROWS)
+                with open(self.csv, "rb") as file:
+                    self.assertTrue(file.read().startswith(whole[: whole[:length].rfind(b"\n") + 1]))
+
+    def test_a_file_that_is_there(self):
+        written(self.folder, "rows.csv", "mine\n")
+        for more, text in (((), "--resume"), (("--resume",), "no head at line 1")):
+            status, out, err = command(*self.asked(*more))
+            self.assertEqual((status, out), (3, ""))
+            self.assertIn(text, err)
+            with open(self.csv) as file:
+                self.assertEqual(file.read(), "mine\n")
+
+    def test_listed_run_and_joined(self):
+        for more, count in (((), 6), (("scenarios",), 2)):
+            with self.subTest(count):
+                status, out, err = command(*self.asked("--list", *more))
+                self.assertEqual((status, len(out.splitlines()), err), (0, count, ""))
+                self.assertFalse(os.path.exists(self.csv))
+                for line in reversed(out.splitlines()):
+                    subprocess.run(["sh", "-c", line], cwd="/", check=True)
+                self.assertEqual(command("series", "--csv", self.csv, "--join", self.csv + ".parts"), (0, "", ""))
+                self.assertEqual([row[:6] for row in rows_of(self.csv)], self.ROWS)
+                os.remove(self.csv)
+                shutil.rmtree(self.csv + ".parts")
+
+    def test_no_following(self):
+        command(*self.asked("--no-following", "--from", 4, "--bound", 4))
+        self.assertEqual(self.sorted(), [["ring.map", "ring.scen", "4", "none", "", "5"]])
+
+    def test_rates(self):
+        command(*self.asked("--jobs", 2))
+        written(self.folder, "scens/other.scen", scen_of(3, 1, (0, 0, 2, 0), (1, 0, 1, 0), name="narrow.map"))
+        command(*self.asked("--resume", "--to", 2))
+        status, out, _ = command("series", "--csv", self.csv, "--rates")
+        self.assertEqual((status, out.splitlines()[2:]), (0, [
+            "| narrow.map | 2 | 100 % | 0 % | 0 % | 0 % |", "| ring.map | 1 | 100 % | 100 % | 100 % | 100 % |"]))
+
+    def test_what_the_program_refuses(self):
+        written(self.folder, "scens/narrow.scen", scen_of(3, 1, (0, 0, 2, 0), (0, 0, 1, 0), name="narrow.map"))
+        status, _, err = command(*self.asked())
+        self.assertEqual((status, err), (0, "mapf: narrow.scen, 2 agents: status 3, mapf: 26 shared start in rows 0 and 1\n"))
+        self.assertEqual(self.sorted()[1], ["narrow.map", "narrow.scen", "2", "refused", "", ""])
+
+    def test_scenarios_that_do_not_fit(self):
+        cases = (("scens/lost.scen", scen_of(3, 1, (0, 0, 2, 0), name="lost.map"), "lost.map"), ("scens/empty.scen", "version 1\n", "no row"),
+                 ("scens/again/ring.scen", RING[1], "two scenarios of one name"))
+        for name, contents, text in cases:
+            path = written(self.folder, name, contents)
+            status, out, err = command(*self.asked())
+            os.remove(path)
+            self.assertEqual((status, out), (3, ""))
+            self.assertIn(text, err)
+            self.assertFalse(os.path.exists(self.csv))
+
+
+class StandIn(Folder):
+    """With a stand-in for the program, and three scenarios of 20 agents."""
+
+    def setUp(self):
+        super().setUp()
+        self.program("")
+        written(self.folder, "maps/wide.map", map_of("." * 20))
+        for name in "abc":
+            agents = [(x, 0, x, 0) for x in range(20)]
+            written(self.folder, f"scens/{name}.scen", scen_of(20, 1, *agents, name="wide.map"))
+        kept = os.environ.get("MAPF_PROGRAM")
+        os.environ["MAPF_PROGRAM"] = os.path.join(self.folder, "program")
+        self.addCleanup(lambda: os.environ.pop("MAPF_PROGRAM") if kept is None else os.environ.update(MAPF_PROGRAM=kept))
+
+    def program(self, says, shown=""):
+        path = written(self.folder, "program", STAND_IN.format(folder=self.folder, help=shown, says=says))
+        os.chmod(path, 0o755)
+
+    def began(self):
+        """The agents and the process of each run that began."""
+        with open(os.path.join(self.folder, "began")) as file:
+            return [tuple(int(word) for word in line.split()) for line in file]
+
+    def expected(self, *last):
+        return [["wide.map", f"{name}.scen", *row] for name in "abc"
+                for row in (["5", "solved", "50", "", ""], ["10", "solved", "100", "", ""], list(last))]
+
+    def test_the_first_that_is_out_of_time_is_the_last(self):
+        self.assertEqual(command(*self.words("--seconds", 0.5, "--jobs", 3)), (0, "", ""))
+        self.assertEqual(sorted(rows_of(self.csv), key=lambda row: (row[1], int(row[2]))), self.expected("15", "out_of_time", "", "", ""))
+        self.assertEqual(sorted(agents for agents, _ in self.began()), [5, 5, 5, 10, 10, 10, 15, 15, 15])
+        self.gone()
+
+    def test_rows_behind_the_first_unsolved_are_not_joined(self):
+        _, out, _ = command(*self.words("--nodes", 9, "--list"))
+        self.assertEqual(len(out.splitlines()), 12)
+        for line in out.splitlines():
+            subprocess.run(["sh", "-c", line], check=True)
+        self.assertEqual(command("series", "--csv", self.csv, "--join", self.csv + ".parts"), (0, "", ""))
+        self.assertEqual(rows_of(self.csv), self.expected("15", "gave_up", "", "140", "9"))
+
+    def test_a_limit_on_nodes(self):
+        command(*self.words("--nodes", 1000))
+        self.assertEqual(rows_of(self.csv), self.expected("15", "gave_up", "", "140", "1000"))
+
+    def test_the_last_number_of_agents(self):
+        command(*self.words("--to", 9))
+        self.assertEqual({row[2] for row in rows_of(self.csv)}, {"5"})
+
+    def test_what_the_program_tells_of_its_search(self):
+        says = 'echo "mapf: 0 nodes, no plan costs less than 90" >&2; echo "mapf: 77 nodes, no plan costs less than 99" >&2'
+        self.program(says, "--progress")
+        command(*self.words("--seconds", 0.5, "--jobs", 3))
+        rows = sorted(rows_of(self.csv), key=lambda row: (row[1], int(row[2])))
+        self.assertEqual([row[2:] for row in rows[:3]], [
+            ["5", "solved", "50", "", "77"], ["10", "solved", "100", "", "77"], ["15", "out_of_time", "", "99", "77"]])
+
+    def test_a_program_that_fails(self):
+        self.program("kill -9 $$")
+        status, _, err = command(*self.words())
+        self.assertEqual((status, {row[3] for row in rows_of(self.csv)}), (0, {"failed"}))
+        self.assertIn("a.scen, 5 agents: status -9", err)
+
+    def test_ctrl_c_leaves_whole_rows_and_resume_goes_on(self):
+        for number in (signal.SIGINT, signal.SIGTERM):
+            with self.subTest(number):
+                self.interrupt(number)
+                rows = rows_of(self.csv)
+                self.assertEqual([row[3] for row in rows], ["solved"] * len(rows))
+                self.gone()
+                before = len(self.began())
+                command(*self.words("--resume", "--nodes", 7))
+                self.assertEqual(sorted(rows_of(self.csv)), sorted(self.expected("15", "gave_up", "", "140", "7")))
+                self.assertEqual(len(self.began()) - before, 9 - len(rows))
+                os.remove(self.csv)
+                os.remove(os.path.join(self.folder, "began"))
+
+    def interrupt(self, number):
+        """Begins a series, and stops it once three runs don't end."""
+        running = process(*self.words("--jobs", 3), stderr=subprocess.PIPE)
+        end = time.monotonic() + 30
+        while time.monotonic() < end and not (os.path.exists(self.folder + "/began") and [a for a, _ in self.began()].count(15) == 3):
+            time.sleep(0.02)
+        running.send_signal(number)
+        _, err = running.communicate(timeout=30)
+        self.assertEqual(running.returncode, 130)
+        self.assertIn(b"stopped; ", err)
+
+    def gone(self):
+        """No run goes on."""
+        for _, number in self.began():
+            with self.assertRaises(ProcessLookupError):
+                os.kill(number, 0)
+
+    def test_joins(self):
+        row = "wide.map,a.scen,5,solved,50,,,0.100\n"
+        one, two = (written(self.folder, name, HEAD + "\n" + text) for name, text in (("1.csv", row), ("2.csv", row.replace("a.scen", "b.scen"))))
+        self.assertEqual(command("series", "--csv", self.csv, "--join", two, one)[0], 0)
+        with open(self.csv) as file:
+            self.assertEqual(file.read(), HEAD + "\n" + row + row.replace("a.scen", "b.scen"))
+        for name, text, said in (("twice", HEAD + "\n" + row, "a run is there twice"), ("cut", HEAD + "\n" + row[:-1], "no row at line 2"),
+                                 ("other", HEAD + "\n" + row + "a,b\n", "no row at line 3"), ("none", row, "no head at line 1"),
+                                 ("word", HEAD + "\n" + row.replace("solved", "done"), "no row at line 2"), ("empty", "", "no head at line 1"),
+                                 ("rowless", HEAD + "\n", "no row at line 2")):
+            path = written(self.folder, name, text)
+            status, _, err = command("series", "--csv", self.csv, "--join", one, path)
+            self.assertEqual((status, said in err, path in err), (3, True, True))

@@ -1,0 +1,5 @@
+pub mod Reply
+pub mod Faults
+pub mod Asks
+pub mod Solved
+pub mod Checked
