@@ -2,13 +2,15 @@
 """Makes the benchmark's maps and scenarios, the same everywhere: docs/BENCHMARK.md has the rule.
 
 Usage: instances.py FOLDER KIND... It writes NAME.map and NAME.scen for each map of these kinds into the folder: `maps`, five
-of them; `extremes`, the largest map and two pockets; `large` and `small`, three for tables of distances alone; `rest` and
-`corridor`, on which planners take long, with plans.
+of them; `scenarios`, 25 scenarios NAME-01.scen and so on for each of these five; `extremes`, the largest map and two pockets;
+`large` and `small`, three for tables of distances alone; `rest` and `corridor`, on which planners take long, with plans.
 """
 import os
 import sys
 
 ROWS = 100
+SCENARIOS = 25
+SCENARIO_ROWS = 60
 
 
 class Random:
@@ -214,19 +216,29 @@ def write_lines(folder, name, lines):
         file.write("\n".join(lines) + "\n")
 
 
+MAPS = (
+    ("empty-32-32", lambda random: empty(32, 32)),
+    ("random-32-32-10", lambda random: blocked(32, 32, 10, random)),
+    ("random-32-32-20", lambda random: blocked(32, 32, 20, random)),
+    ("warehouse-63-161", lambda random: warehouse()),
+    ("rooms-64-64-8", lambda random: rooms(64, 8, random)),
+)
+
+
 def maps(folder):
-    seed = 1
-    for name, make in (
-        ("empty-32-32", lambda random: empty(32, 32)),
-        ("random-32-32-10", lambda random: blocked(32, 32, 10, random)),
-        ("random-32-32-20", lambda random: blocked(32, 32, 20, random)),
-        ("warehouse-63-161", lambda random: warehouse()),
-        ("rooms-64-64-8", lambda random: rooms(64, 8, random)),
-    ):
+    for seed, (name, make) in enumerate(MAPS, 1):
         random = Random(seed)
         grid = make(random)
         write(folder, name, grid, scenario(name, grid, random, ROWS))
-        seed += 1
+
+
+def scenarios(folder):
+    """Beside the five maps, each scenario drawn anew."""
+    for seed, (name, make) in enumerate(MAPS, 1):
+        grid = make(Random(seed))
+        for number in range(1, SCENARIOS + 1):
+            lines = scenario(name, grid, Random(1000 * seed + number), SCENARIO_ROWS)
+            write_lines(folder, f"{name}-{number:02}.scen", lines)
 
 
 def extremes(folder):
@@ -243,6 +255,7 @@ def extremes(folder):
 
 KINDS = {
     "maps": maps,
+    "scenarios": scenarios,
     "extremes": extremes,
     "large": lambda folder: distances(folder, 2048),
     "small": lambda folder: distances(folder, 64),
