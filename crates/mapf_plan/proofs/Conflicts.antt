@@ -15,7 +15,7 @@ use Rattle.mapf_grid.specs.Least.{Precedes, NoneBefore}
 use Rattle.mapf_grid.proofs.Decide.{dec_map, dec_and, dec_not}
 use Rattle.mapf_grid.proofs.Firsts.{before_place}
 use Rattle.mapf_grid.proofs.Ranks.{asymmetric, least_of, same_rank}
-use Rattle.mapf_plan.specs.FirstConflict.{IsConflictOfPair, IsConflictWithout}
+use Rattle.mapf_plan.specs.FirstConflict.{IsConflictOfPair}
 use Rattle.mapf_grid.proofs.Lists.{below, Contains-below, Contains-flat_map}
 use Rattle.mapf_plan.proofs.Paths.{at_past}
 
@@ -228,19 +228,6 @@ none_after rule plan b t costs e none c is =
     let none' = subst (λ s. NoneBefore conflict_rank (IsConflict rule plan) (s ∷ [])) e none in
     ⊎_elim (λ h. none' c is (at_front c b h)) (λ w. none' w.0 w.1.0 (at_front w.0 b (omega (arith, w.2)))) (early rule plan b costs c is)
 
--- two agents that have no conflict up to the end of the longer path have none at any time
-pub none_of_pair : (rule : Rule) (plan : List (List ℕ)) (i j b : ℕ) → cost (path_of plan i) ≤ b → cost (path_of plan j) ≤ b → NoneBefore conflict_rank (IsConflictOfPair rule plan i j) ((b + 1) ∷ []) → (c : Conflict) → ¬ IsConflictOfPair rule plan i j c
-none_of_pair rule plan i j b hi hj none c is =
-    ⊎_elim (λ h. none c is (at_front c b h)) (λ w. none w.0 (w.1.0, w.1.1 ∙ is.1, w.1.2 ∙ is.2) (at_front w.0 b (omega (arith, w.2))))
-    (early_of rule plan b c (subst (λ a. cost (path_of plan a) ≤ b) (sym is.1) hi) (subst (λ a. cost (path_of plan a) ≤ b) (sym is.2) hj) is.0)
-
--- nor have they one before a known conflict, if they have none up to its time
-pub none_before_known : (rule : Rule) (plan : List (List ℕ)) (i j longer last : ℕ) (known : Conflict) → cost (path_of plan i) ≤ longer → cost (path_of plan j) ≤ longer → last ≡ min longer (conflict_time known) → NoneBefore conflict_rank (IsConflictOfPair rule plan i j) ((last + 1) ∷ []) → (c : Conflict) → IsConflictOfPair rule plan i j c → ¬ Precedes (conflict_rank c) (conflict_rank known)
-none_before_known rule plan i j longer last known hi hj e none c is before_known =
-    ⊎_elim
-    (λ h. ⊎_elim (λ l. not_before known c l before_known) (λ l. none c is (at_front c last (omega (arith, l, h, e)))) (cases_lt (conflict_time known) (conflict_time c)))
-    (λ h. none_of_pair rule plan i j last (omega (arith, hi, h)) (omega (arith, hj, h)) none c is) (cases_lt last longer)
-
 -- a conflict of an agent is one of a pair: that agent and another of the plan
 pub with_another : (rule : Rule) (plan : List (List ℕ)) (agent : ℕ) (c : Conflict) → IsConflict rule plan c → (first_agent c ≡ agent) ⊎ (second_agent c ≡ agent) → (k : ℕ) × (k < length plan) × (k ≢ agent) × IsConflictOfPair rule plan (min agent k) (max agent k) c
 with_another rule plan agent c is (inl e) =
@@ -249,12 +236,6 @@ with_another rule plan agent c is (inl e) =
 with_another rule plan agent c is (inr e) =
     let l = agents_of rule plan c is in
     (first_agent c, omega (arith, l.0, l.1), (λ h. omega (arith, h, e, l.0)), (is, omega (arith, e, l.0), omega (arith, e, l.0)))
-
--- a conflict that is before a time is before each conflict of that time
-before_time : (c d : Conflict) → Precedes (conflict_rank c) (conflict_time d ∷ []) → Precedes (conflict_rank c) (conflict_rank d)
-before_time c d h =
-    before c d
-    (before_place (conflict_time c) (conflict_time d) (drop 1 (conflict_rank c)) (subst (λ r. Precedes r (conflict_time d ∷ [])) (by_time c) h))
 
 -- where another path is put in for one agent, the others are where they were
 pub other_place : (plan : List (List ℕ)) (agent : ℕ) (path : List ℕ) (k t : ℕ) → k ≢ agent → place plan k t ≡ place (set plan agent path) k t
@@ -285,14 +266,6 @@ stands rule plan other (Following i j v t) l one two is =
       both.0 t (omega arith) ∙ is.5,
       both.1 (t - 1) (omega arith) ∙ is.6,
     )
-
--- so they have none before the time of the plan's first conflict
-pub none_without : (rule : Rule) (plan : List (List ℕ)) (agent : ℕ) (path : List ℕ) (c : Conflict) → agent < length plan → IsFirstConflict rule plan c → NoneBefore conflict_rank (IsConflictWithout rule (set plan agent path) agent) (conflict_time c ∷ [])
-none_without rule plan agent path c l first d is before_c =
-    first.least d
-    (stands rule plan (set plan agent path) d (length-set plan agent path) (λ t _. other_place plan agent path (first_agent d) t is.1)
-    (λ t _. other_place plan agent path (second_agent d) t is.2) is.0)
-    (before_time d c before_c)
 
 -- where the path put in is the agent's own up to a time, all agents are where they were up to it
 pub changed_place : (plan : List (List ℕ)) (agent : ℕ) (path : List ℕ) (from k t : ℕ) → agent < length plan → ((s : ℕ) → s < from → at path s ≡ at (path_of plan agent) s) → t < from

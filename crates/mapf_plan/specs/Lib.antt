@@ -1,4 +1,5 @@
 pub mod Device
+pub mod Collisions
 pub mod FirstConflict
 pub mod Marks
 pub mod Head

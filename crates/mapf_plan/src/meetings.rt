@@ -1,17 +1,15 @@
 //! Meetings: a short list of pairs of agents and times from which a plan's first conflict is found.
 
-ghost use Rattle.std.specs.Prelude.{◌≡◌, ◌≢◌, ℕ, ◌<◌, ◌≤◌, [], ◌∷◌, length, Contains, MatchOption, IfOk, ⊤};
+ghost use Rattle.std.specs.Prelude.{◌≡◌, ◌≢◌, ◌<◌, ◌≤◌, min, max, length, Contains, MatchOption, IfOk, ⊤};
 ghost use Rattle.mapf_grid.specs.Instance.{most_agents};
-ghost use Rattle.mapf_grid.specs.Least.{NoneBefore};
 ghost use Rattle.mapf_plan.specs.declared.conflict.Conflict.{Conflict};
 ghost use Rattle.mapf_plan.specs.declared.meetings.Meeting.{Meeting};
-ghost use Rattle.mapf_plan.specs.Plan.{conflict_rank, first_agent, second_agent, IsConflict, IsFirstConflict, HasNoConflict};
-ghost use Rattle.mapf_plan.specs.FirstConflict.{IsConflictAt, IsEarlier};
-ghost use Rattle.mapf_plan.specs.Meetings.{HaveMeetings, HaveNoneBefore};
+ghost use Rattle.mapf_plan.specs.Plan.{first_agent, second_agent, IsConflict, IsFirstConflict, HasNoConflict};
+ghost use Rattle.mapf_plan.specs.FirstConflict.{HasNoConflictBefore, IsConflictAt, IsEarlier};
+ghost use Rattle.mapf_plan.specs.Meetings.{HaveMeetings};
 
-use crate::first_conflict::first_conflict_from;
-use crate::pair_conflicts::{earlier, first_of_pair, pair_at};
-use crate::{AgentPaths, Conflict, Path, Rule};
+use crate::collisions::{earlier, first_conflict_from, pair_at};
+use crate::{AgentPaths, Conflict, Rule};
 use mapf_grid::NoMemory;
 
 /// Two agents, and a time step before which they have no conflict.
@@ -25,48 +23,14 @@ pub struct Meeting {
     pub time: u32,
 }
 
-/// The plan of two paths alone.
-#[derive(Drop)]
-struct Two<'a> {
-    one: &'a Path,
-    other: &'a Path,
-}
-
-impl<'a> AgentPaths for Two<'a> {
-    ghost use Rattle.std.specs.Prelude.{[], ◌∷◌};
-
-    ghost paths = { λ two. two.one.now ∷ two.other.now ∷ [] };
-
-    fn agents(&self) -> usize {
-        2
-    }
-
-    fn path(&self, agent: usize) -> &Path {
-        if agent == 0 { self.one } else { self.other }
-    }
-}
-
-/// The time step of the first conflict of two agents on these paths; none where they have none at any time.
-pub(crate) fn first_time_of_two(rule: Rule, one: &Path, other: &Path) -> Option<u32>
-    ensures { HaveNoneBefore rule one.now other.now result }
-{
-    let two = Two { one, other };
-    let longer = one.cost().max(other.cost());
-    match first_of_pair(&two, rule, 0, 1, 0, longer + 1) {
-        Some(found) => Some(found.time()),
-        None => None,
-    }
-}
-
 /// The meeting of these two agents at a time step.
-pub(crate) fn meeting_of(first: usize, second: usize, time: u32) -> Meeting
-    requires first { first < most_agents }
-    requires second { second < most_agents }
-    ensures { result ≡ record { first = first; second = second; time = time } }
+pub(crate) fn meeting_of(agent: usize, other: usize, time: u32) -> Meeting
+    requires agents { (agent < most_agents) × (other < most_agents) }
+    ensures { result ≡ record { first = min agent other; second = max agent other; time = time } }
 {
     Meeting {
-        first: first as u16,
-        second: second as u16,
+        first: agent.min(other) as u16,
+        second: agent.max(other) as u16,
         time,
     }
 }
@@ -77,7 +41,8 @@ pub(crate) fn meetings_without(
     meetings: &[Meeting],
     agent: usize,
 ) -> Result<Vec<Meeting>, NoMemory>
-    ensures { IfOk result (λ left. (m : Meeting) → Contains meetings.now m → m.first ≢ agent → m.second ≢ agent → Contains left.items m) }
+    ensures { IfOk result (λ left. (m : Meeting) → Contains meetings.now m → m.first ≢ agent → m.second ≢ agent
+        → Contains left.items m) }
 {
     let mut left = spare;
     left.clear();
@@ -96,7 +61,7 @@ pub(crate) fn first_conflict_of_meetings<P: AgentPaths>(
     meetings: &[Meeting],
 ) -> Option<Conflict>
     requires { HaveMeetings (IsConflict rule (P.paths plan.now)) meetings.now }
-    ensures { MatchOption result (HasNoConflict rule (P.paths plan.now)) (λ c. IsFirstConflict rule (P.paths plan.now) c) }
+    ensures { MatchOption result (HasNoConflict rule (P.paths plan.now)) (IsFirstConflict rule (P.paths plan.now)) }
 {
     match least_time(meetings) {
         Some(time) => match first_at_meetings(plan, rule, meetings, time) {
@@ -130,8 +95,8 @@ fn first_at_meetings<P: AgentPaths>(
 ) -> Option<Conflict>
     requires meetings { HaveMeetings (IsConflict rule (P.paths plan.now)) meetings.now }
     requires least { (m : Meeting) → Contains meetings.now m → time ≤ m.time }
-    requires before { NoneBefore conflict_rank (IsConflict rule (P.paths plan.now)) (time ∷ []) }
-    ensures { MatchOption result ⊤ (λ c. IsFirstConflict rule (P.paths plan.now) c) }
+    requires before { HasNoConflictBefore rule (P.paths plan.now) time }
+    ensures { MatchOption result ⊤ (IsFirstConflict rule (P.paths plan.now)) }
 {
     let mut known = None;
     for meeting in meetings {
@@ -152,12 +117,12 @@ fn earlier_of_two<P: AgentPaths>(
     time: u32,
     known: Option<Conflict>,
 ) -> Option<Conflict>
-    requires before { NoneBefore conflict_rank (IsConflict rule (P.paths plan.now)) (time ∷ []) }
+    requires before { HasNoConflictBefore rule (P.paths plan.now) time }
     requires conflict { MatchOption known ⊤ (IsConflictAt rule (P.paths plan.now) time) }
     ensures conflict { MatchOption result ⊤ (IsConflictAt rule (P.paths plan.now) time) }
     ensures keeps { (c : Conflict) → IsEarlier c result → IsEarlier c known }
-    ensures first { (c : Conflict) → IsConflictAt rule (P.paths plan.now) time c → first_agent c ≡ first → second_agent c ≡ second
-        → ¬ IsEarlier c result }
+    ensures first { (c : Conflict) → IsConflictAt rule (P.paths plan.now) time c → first_agent c ≡ first
+        → second_agent c ≡ second → ¬ IsEarlier c result }
 {
     if first >= second || second >= plan.agents() {
         return known;

@@ -2,9 +2,15 @@ ghost use Rattle.std.specs.Prelude.{◌≡◌, ◌<◌, ◌≤◌, length, Match
 ghost use Rattle.mapf_grid.specs.Instance.{most_agents};
 ghost use Rattle.mapf_plan.specs.Plan.{most_stated, place, plan_cost, IsFirstConflict, HasNoConflict};
 
-use crate::first_conflict::first_conflict_from;
-use crate::{AgentPaths, Conflict, Path, Rule};
+mod agent_paths;
+mod path;
+
+use crate::collisions::first_conflict_from;
+use crate::{Conflict, Rule};
+pub use agent_paths::AgentPaths;
 use mapf_grid::Cell;
+pub(crate) use path::BLOCK;
+pub use path::Path;
 use std::marker::Model;
 
 /// One path for each agent, agent 0 first: at least one, at most 1,000.
@@ -66,7 +72,8 @@ impl Plan {
     /// The first conflict of all times by the classical rule: by time, a vertex conflict before a swapping one,
     /// then by the smaller agent, and then by the larger. None if no two agents ever collide.
     pub fn first_conflict(&self) -> Option<Conflict>
-        ensures { MatchOption result (HasNoConflict Rule.Classical self.now) (λ c. IsFirstConflict Rule.Classical self.now c) }
+        ensures { MatchOption result (HasNoConflict Rule.Classical self.now)
+            (λ c. IsFirstConflict Rule.Classical self.now c) }
     {
         self.first_conflict_by(Rule::Classical)
     }

@@ -10,7 +10,8 @@ use mapf_grid::{Cell, Map, NoMemory};
 /// what the text held.
 pub fn push_position(text: &mut String, front: &str, cell: Cell, map: &Map) -> Result<(), NoMemory>
     requires { cell < cells map.now }
-    ensures appended { OnOk result (string_bytes text.new ≡ string_bytes text.old ++ (front.now ++ position map.now cell)) }
+    ensures appended { OnOk result (string_bytes text.new
+        ≡ string_bytes text.old ++ (front.now ++ position map.now cell)) }
     ensures held { StartsWith (string_bytes text.new) (string_bytes text.old) }
 {
     let (x, y) = map.xy(cell);
@@ -21,7 +22,8 @@ pub fn push_position(text: &mut String, front: &str, cell: Cell, map: &Map) -> R
 /// Appends these words, and a number in decimal, with no zero in front. Where memory runs out these words may stand behind
 /// what the text held.
 pub fn push_number<I: Integer>(text: &mut String, front: &str, number: I) -> Result<(), NoMemory>
-    ensures appended { OnOk result (string_bytes text.new ≡ string_bytes text.old ++ (front.now ++ I.text number)) }
+    ensures appended { OnOk result (string_bytes text.new
+        ≡ string_bytes text.old ++ (front.now ++ I.text number)) }
     ensures held { StartsWith (string_bytes text.new) (string_bytes text.old) }
 {
     text.push_str(front)?;

@@ -31,7 +31,8 @@ enum Head {
 pub fn read_answer(alloc: Global, bytes: &[u8], map: &Map) -> Result<Answer, TextFault>
     ensures read { IfOk result (IsTextOf map.now bytes.now) }
     ensures fault { IfErr result (λ fault. (fault ≡ TextFault.NoMemory) ⊎ IsTextFault map.now bytes.now fault) }
-    ensures only { (a : AnswerValue) → IsTextOf map.now bytes.now a → MatchResult result (λ b. b ≡ a) (λ fault. fault ≡ TextFault.NoMemory) }
+    ensures only { (a : AnswerValue) → IsTextOf map.now bytes.now a
+        → MatchResult result (λ b. b ≡ a) (λ fault. fault ≡ TextFault.NoMemory) }
 {
     // The proof of `only` takes from this call that the map is no larger than a map may be.
     let _ = map.width();
@@ -78,7 +79,8 @@ fn read_head(line: &[u8]) -> Option<Head>
 
 /// What stands behind this front, where the line begins with it.
 fn behind<'a>(line: &'a [u8], front: &[u8]) -> Option<&'a [u8]>
-    ensures { MatchOption result ((rest : List ℕ) → line.now ≢ front.now ++ rest) (λ rest. line.now ≡ front.now ++ rest.now) }
+    ensures { MatchOption result ((rest : List ℕ) → line.now ≢ front.now ++ rest)
+        (λ rest. line.now ≡ front.now ++ rest.now) }
 {
     if line.starts_with(front) {
         Some(&line[front.len()..])
@@ -109,7 +111,8 @@ fn read_plan(alloc: Global, bytes: &[u8], agents: usize, map: &Map) -> Result<Pl
     requires few { agents ≤ most_agents }
     ensures agents { IfOk result (λ plan. length plan ≡ agents) }
     ensures lines { IfOk result (AreLinesOf map.now bytes.now) }
-    ensures fault { IfErr result (λ fault. (fault ≡ TextFault.NoMemory) ⊎ HasLinesFault map.now bytes.now agents fault) }
+    ensures fault { IfErr result (λ fault. (fault ≡ TextFault.NoMemory)
+        ⊎ HasLinesFault map.now bytes.now agents fault) }
 {
     let mut paths = Vec::new(alloc);
     let mut rest = bytes;
@@ -140,7 +143,8 @@ fn read_line<'a>(
     number: usize,
     map: &Map,
 ) -> Result<(Path, &'a [u8]), TextFault>
-    ensures read { IfOk result (λ found. (line : List ℕ) × IsFirstLine bytes.now line found.1.now × IsPathLine map.now line found.0) }
+    ensures read { IfOk result (λ found. (line : List ℕ)
+        × IsFirstLine bytes.now line found.1.now × IsPathLine map.now line found.0) }
     ensures fault { IfErr result (IsLineFault map.now bytes.now number) }
 {
     let Some((line, rest)) = cut_at(bytes, b'\n') else {

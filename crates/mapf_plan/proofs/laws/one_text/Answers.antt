@@ -1,4 +1,4 @@
-use Rattle.mapf_plan.proofs.OneText.{text_is_one}
+use Rattle.mapf_plan.proofs.text.OneText.{text_is_one}
 use Rattle.mapf_plan.proofs.laws.one_text.Goals as goal
 
 pub returns : goal.returns

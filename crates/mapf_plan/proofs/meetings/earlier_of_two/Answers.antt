@@ -1,6 +1,6 @@
 use Rattle.std.proofs.Common.{◌+◌, arith}
 use Rattle.mapf_plan.specs.FirstConflict.{IsConflictOfPair}
-use Rattle.mapf_plan.proofs.Steps.{found_first, some_before}
+use Rattle.mapf_plan.proofs.collisions.Steps.{found_first, some_before}
 use Rattle.mapf_plan.proofs.meetings.earlier_of_two.Goals as goal
 
 pub returns-clause-first : goal.returns-clause-first

@@ -4,7 +4,7 @@ use Rattle.std.proofs.lemmas.Bool.{cases_lt}
 use Rattle.std.proofs.lemmas.List.{get_or_default}
 use Rattle.mapf_plan.specs.declared.meetings.Meeting.{Meeting}
 use Rattle.mapf_plan.specs.FirstConflict.{IsConflictAt, IsEarlier}
-use Rattle.mapf_plan.proofs.OfMeetings.{first_of_known}
+use Rattle.mapf_plan.proofs.collisions.OfMeetings.{first_of_known}
 use Rattle.mapf_plan.proofs.meetings.first_at_meetings.Goals.{then-meeting-time, else-meeting-time}
 use Rattle.mapf_plan.proofs.meetings.first_at_meetings.Goals as goal
 

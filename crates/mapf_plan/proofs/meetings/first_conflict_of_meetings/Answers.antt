@@ -1,4 +1,4 @@
-use Rattle.mapf_plan.proofs.OfMeetings.{none_before_meetings}
+use Rattle.mapf_plan.proofs.collisions.OfMeetings.{none_before_meetings}
 use Rattle.mapf_plan.proofs.meetings.first_conflict_of_meetings.Goals as goal
 
 pub first_at_meetings-requires-clause-before : goal.first_at_meetings-requires-clause-before

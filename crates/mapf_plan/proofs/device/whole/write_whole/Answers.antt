@@ -1,6 +1,6 @@
 use Rattle.std.proofs.Common.{arith}
 use Rattle.std.proofs.lemmas.Grind.{common_steps}
-use Rattle.mapf_plan.proofs.Known.{Appends-front}
+use Rattle.mapf_plan.proofs.device.Known.{Appends-front}
 use Rattle.mapf_plan.proofs.device.whole.write_whole.Goals as goal
 
 pub loop-taken-preserved : goal.loop-taken-preserved

@@ -1,7 +1,7 @@
 use Rattle.std.proofs.Common.{◌≡◌, ◌<◌, length, get_or, arith, refl, ap, sym, ◌∙◌}
 use Rattle.std.specs.Prelude.{decimal}
 use Rattle.std.proofs.lemmas.Bool.{false≢true}
-use Rattle.mapf_plan.proofs.Numbers.{Spells, value_of_text, word_of_value}
+use Rattle.mapf_plan.proofs.text.Numbers.{Spells, value_of_text, word_of_value}
 use Rattle.mapf_plan.proofs.text.number.number.Goals as goal
 
 pub returns-in_err-value : goal.returns-in_err-value

@@ -1,7 +1,7 @@
 use Rattle.std.proofs.Common.{sym, ap, ◌∙◌, length, take}
 use Rattle.std.proofs.Math.Seq.{take-append_seam}
 use Rattle.std.specs.Cmp.Lexicographic.{same_text, other_text}
-use Rattle.mapf_plan.proofs.Cuts.{front_and_rest}
+use Rattle.mapf_plan.proofs.text.Cuts.{front_and_rest}
 use Rattle.mapf_plan.proofs.text.reader.behind.Goals as goal
 
 pub returns-then-starts_with : goal.returns-then-starts_with

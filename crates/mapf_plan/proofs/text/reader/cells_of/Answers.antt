@@ -2,7 +2,7 @@ use Rattle.std.proofs.Common.{arith, refl, get_or, inr}
 use Rattle.std.proofs.lemmas.List.{take_more}
 use Rattle.std.proofs.lemmas.Option.{slice_get-get_or}
 use Rattle.mapf_plan.specs.ReadText.{IsInside, IsCellAt}
-use Rattle.mapf_plan.proofs.Places.{AllZip-push, below_next}
+use Rattle.mapf_plan.proofs.text.Places.{AllZip-push, below_next}
 use Rattle.mapf_plan.proofs.text.reader.cells_of.Goals as goal
 
 pub returns-in_default-clause-fault : goal.returns-in_default-clause-fault

@@ -1,10 +1,10 @@
 use Rattle.std.proofs.Common.{ℕ, List, inl, inr, subst, rules}
 use Rattle.std.proofs.lemmas.Result.{err_from_is_err_and}
 use Rattle.mapf_plan.specs.Head.{IsHead}
-use Rattle.mapf_plan.proofs.TextFaults.{head_is_first, no_line_asks, no_head_asks, plan_fault, whole_fault}
+use Rattle.mapf_plan.proofs.text.TextFaults.{head_is_first, no_line_asks, no_head_asks, plan_fault, whole_fault}
 use Rattle.mapf_plan.specs.ReadText.{IsFirstLine, IsTextOf}
 use Rattle.mapf_plan.specs.declared.answer.Answer.TheVariants as answer
-use Rattle.mapf_plan.proofs.OneReading.{plan_is_read, gave_up_is_read, read_is_one, fault_is_memory, only_err}
+use Rattle.mapf_plan.proofs.text.OneReading.{plan_is_read, gave_up_is_read, read_is_one, fault_is_memory, only_err}
 use Rattle.mapf_plan.proofs.text.reader.read_answer.Goals as goal
 
 pub returns-in_default-clause-fault : goal.returns-in_default-clause-fault

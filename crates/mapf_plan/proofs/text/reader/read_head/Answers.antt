@@ -1,4 +1,4 @@
-use Rattle.mapf_plan.proofs.Heads.{no_head_by_numbers, no_head_by_gave_up}
+use Rattle.mapf_plan.proofs.text.Heads.{no_head_by_numbers, no_head_by_gave_up}
 use Rattle.mapf_plan.proofs.text.reader.read_head.Goals as goal
 
 pub returns-in_err-agents : goal.returns-in_err-agents

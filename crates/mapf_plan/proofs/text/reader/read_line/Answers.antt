@@ -1,8 +1,8 @@
 use Rattle.std.proofs.Common.{arith, subst, sym}
 use Rattle.std.proofs.lemmas.Result.{err_from_is_err_and}
 use Rattle.mapf_plan.specs.ReadText.{IsCellAt, IsLine}
-use Rattle.mapf_plan.proofs.Places.{AllZip-length, IsLine-some}
-use Rattle.mapf_plan.proofs.LineFaults.{no_line, no_places, place_outside}
+use Rattle.mapf_plan.proofs.text.Places.{AllZip-length, IsLine-some}
+use Rattle.mapf_plan.proofs.text.LineFaults.{no_line, no_places, place_outside}
 use Rattle.mapf_plan.proofs.text.reader.read_line.Goals as goal
 
 pub of-requires-clause-some : goal.of-requires-clause-some

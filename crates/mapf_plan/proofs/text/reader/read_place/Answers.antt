@@ -1,6 +1,6 @@
 use Rattle.std.proofs.Common.{sym, ◌∙◌, subst, arith}
 use Rattle.std.specs.Prelude.{decimal}
-use Rattle.mapf_plan.proofs.Cuts.{Lacks, Lacks-cut, Lacks-decimal, cut_is_one}
+use Rattle.mapf_plan.proofs.text.Cuts.{Lacks, Lacks-cut, Lacks-decimal, cut_is_one}
 use Rattle.mapf_plan.proofs.text.reader.read_place.Goals as goal
 
 pub returns-in_err-column : goal.returns-in_err-column

@@ -2,7 +2,7 @@ use Rattle.std.proofs.Common.{arith, ap, ◌∙◌, ◌∷◌, [], length-append
 use Rattle.std.proofs.lemmas.Result.{err_from_is_err_and}
 use Rattle.std.proofs.lemmas.List.Splits.{slice_split_none}
 use Rattle.mapf_plan.specs.ReadText.{words_of}
-use Rattle.mapf_plan.proofs.Places.{ReadsTo-more, ReadsTo-end, ReadsTo-fault, words_of-cut}
+use Rattle.mapf_plan.proofs.text.Places.{ReadsTo-more, ReadsTo-end, ReadsTo-fault, words_of-cut}
 use Rattle.mapf_plan.proofs.text.reader.read_places.Goals as goal
 
 pub returns-in_err-push_place-clause-fault : goal.returns-in_err-push_place-clause-fault

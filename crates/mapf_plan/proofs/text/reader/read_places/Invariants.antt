@@ -1,5 +1,5 @@
 use Rattle.std.proofs.Common.{length}
-use Rattle.mapf_plan.proofs.Places.{ReadsTo}
+use Rattle.mapf_plan.proofs.text.Places.{ReadsTo}
 use Rattle.mapf_plan.proofs.text.reader.read_places.Given as goal
 
 abbrev pub invariant-loop-word : goal.invariant-loop-word

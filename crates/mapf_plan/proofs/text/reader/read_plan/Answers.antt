@@ -1,6 +1,6 @@
 use Rattle.std.proofs.lemmas.Result.{err_from_is_err_and}
 use Rattle.std.proofs.Common.{inl, inr, ◌∷◌, [], arith, length-append}
-use Rattle.mapf_plan.proofs.Lines.{ReadsLines-more, ReadsLines-end}
+use Rattle.mapf_plan.proofs.text.Lines.{ReadsLines-more, ReadsLines-end}
 use Rattle.mapf_plan.proofs.text.reader.read_plan.Goals as goal
 
 pub loop-agent-preserved : goal.loop-agent-preserved

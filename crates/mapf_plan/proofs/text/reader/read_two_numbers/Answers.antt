@@ -1,7 +1,7 @@
 use Rattle.std.proofs.Common.{◌≡◌, sym, ◌∙◌, subst, arith}
 use Rattle.std.specs.Prelude.{decimal}
 use Rattle.std.proofs.lemmas.Fmt.{decimal_injective}
-use Rattle.mapf_plan.proofs.Cuts.{Lacks, Lacks-cut, Lacks-decimal, cut_is_one}
+use Rattle.mapf_plan.proofs.text.Cuts.{Lacks, Lacks-cut, Lacks-decimal, cut_is_one}
 use Rattle.mapf_plan.proofs.text.reader.read_two_numbers.Goals as goal
 
 pub returns-in_err-first : goal.returns-in_err-first

@@ -2,7 +2,7 @@ use Rattle.std.proofs.Common.{arith, ap, append_assoc, ◌++◌}
 use Rattle.std.specs.Prelude.{string_bytes}
 use Rattle.std.proofs.lemmas.Result.{IfOk-equal}
 use Rattle.mapf_plan.specs.Text.{position}
-use Rattle.mapf_plan.proofs.Pieces.{join_with_byte-first}
+use Rattle.mapf_plan.proofs.text.Splits.{join_with_byte-first}
 use Rattle.mapf_plan.proofs.text.writer.push_positions.Goals as goal
 
 pub returns-in_ok-push_position : goal.returns-in_ok-push_position

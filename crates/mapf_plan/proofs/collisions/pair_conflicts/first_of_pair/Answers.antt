@@ -1,0 +1,24 @@
+use Rattle.std.proofs.Common.{subst₂, sym}
+use Rattle.mapf_plan.specs.Collisions.{DoCollide, DontCollideBefore}
+use Rattle.mapf_plan.proofs.collisions.Collisions.{apart_until, pair_has_none, found_by_end}
+use Rattle.mapf_plan.proofs.collisions.pair_conflicts.first_of_pair.Goals as goal
+
+pub first_collision-requires : goal.first_collision-requires
+first_collision-requires g c =
+    subst₂ (λ p q. DontCollideBefore c.args.rule p q c.args.from) (sym c.path.ensures) (sym c.path-2.ensures)
+    (apart_until c.args.rule (g.P.AgentPaths.paths c.args.plan.now) c.args.first c.args.second c.args.from c.requires.agents.0 c.requires.agents.1 c.requires.before)
+
+pub pair_at-requires-clause-before : goal.pair_at-requires-clause-before
+pair_at-requires-clause-before g c =
+    pair_has_none c.args.rule (g.P.AgentPaths.paths c.args.plan.now) c.args.first c.args.second c.in-Some.time
+    (subst₂ (λ p q. DontCollideBefore c.args.rule p q c.in-Some.time) c.path.ensures c.path-2.ensures c.in-Some.ensures.2)
+
+pub returns-in-Some-clause-conflict : goal.returns-in-Some-clause-conflict
+returns-in-Some-clause-conflict g c =
+    found_by_end c.args.rule (g.P.AgentPaths.paths c.args.plan.now) c.args.first c.args.second c.in-Some.time c.args.end c.pair_at.result c.requires.agents.0 c.requires.agents.1
+    (subst₂ (λ p q. DoCollide c.args.rule p q c.in-Some.time) c.path.ensures c.path-2.ensures c.in-Some.ensures.1) c.pair_at.ensures.conflict
+
+pub returns-in-None-clause-conflict : goal.returns-in-None-clause-conflict
+returns-in-None-clause-conflict g c =
+    pair_has_none c.args.rule (g.P.AgentPaths.paths c.args.plan.now) c.args.first c.args.second c.args.end
+    (subst₂ (λ p q. DontCollideBefore c.args.rule p q c.args.end) c.path.ensures c.path-2.ensures c.in-None.ensures)

@@ -1,7 +1,0 @@
-use Rattle.std.proofs.Common.{◌≡◌, ◌≤◌, ℕ, map, length}
-use Rattle.mapf_plan.specs.KnownPaths.{row_in}
-use Rattle.mapf_plan.proofs.first_times.reach_row.Given as goal
-
-abbrev pub invariant-loop-row : goal.invariant-loop-row
-invariant-loop-row l =
-    (l._row ≤ length l.times.items) × ((i : ℕ) → row_in (map (λ row. row.items) l.times.items) i ≡ row_in (map (λ row. row.items) l.fn.times.items) i)

@@ -1,7 +1,0 @@
-use Rattle.std.proofs.Common.{ℕ, ◌<◌, ◌≤◌}
-use Rattle.std.specs.Prelude.{IsFalse}
-use Rattle.mapf_plan.specs.Path.{AreApart}
-use Rattle.mapf_plan.proofs.pair_conflicts.meet_within.Given as goal
-
-abbrev pub invariant-loop-time : goal.invariant-loop-time
-invariant-loop-time l = IsFalse l.met → (t : ℕ) → l.from ≤ t → t < l.time → AreApart l.one l.other t

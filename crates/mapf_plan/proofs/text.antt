@@ -1,0 +1,12 @@
+pub mod Splits
+pub mod Numbers
+pub mod Cuts
+pub mod Places
+pub mod Heads
+pub mod Lines
+pub mod LineFaults
+pub mod FullLines
+pub mod TextFaults
+pub mod Written
+pub mod OneText
+pub mod OneReading

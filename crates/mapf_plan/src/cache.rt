@@ -1,0 +1,9 @@
+//! Paths by number, and when agents on two of them have their first conflict.
+
+mod first_times;
+mod known_paths;
+mod known_plan;
+mod numbered;
+
+pub use known_paths::KnownPaths;
+pub use known_plan::KnownPlan;
