@@ -6,9 +6,10 @@ use Rattle.std.proofs.lemmas.List.{length-set, length-replicate, get_or-replicat
 use Rattle.std.proofs.lemmas.List.Elements.{Contains-append_left, Contains-push, Contains-push_cases}
 use Rattle.mapf_grid.specs.Grid.{Grid, IsFree, IsBeside}
 use Rattle.mapf_low.specs.declared.constraint.Constraint.{Constraint}
+use Rattle.mapf_low.specs.declared.constraint.Constraint.TheVariants.{Vertex}
 use Rattle.mapf_low.specs.Backwards.{CanBe}
 use Rattle.mapf_low.specs.Earliest.{AreEarliest, MayGo, HasEntry, Advances, IsLookedAt, IsAdvanced}
-use Rattle.mapf_low.specs.Levels.{IsFreeSide}
+use Rattle.mapf_low.specs.Levels.{IsFreeNeighbour}
 use Rattle.mapf_low.specs.Query.{Query}
 use Rattle.mapf_low.specs.Walk.{distance_at}
 use Rattle.mapf_low.proofs.Growing.{members_more, none_in_front, all_in_front}
@@ -89,39 +90,39 @@ module _ (query : Query) (t u : ℕ) where
       keeps : (v : ℕ) → HasEntry old v → HasEntry new v
       keeps = entry_kept query.grid time old new x y more
 
-      waits : Contains x u ⊎ ((v : ℕ) → IsFreeSide query.grid u v → HasEntry old v) → Contains y u ⊎ ((v : ℕ) → IsFreeSide query.grid u v → HasEntry new v)
+      waits : Contains x u ⊎ ((v : ℕ) → IsFreeNeighbour query.grid u v → HasEntry old v) → Contains y u ⊎ ((v : ℕ) → IsFreeNeighbour query.grid u v → HasEntry new v)
       waits (inl i) = inl (more.stays u i)
       waits (inr f) = inr (λ v s. keeps v (f v s))
 
-  -- the first of the sides of u were looked at, and whether all of those have an entry
-  pub record AreTried (table : List (Option ℕ)) (sides : List ℕ) (all_entered : Bool) : Type 0 where
-    pub entered : (v : ℕ) → Contains sides v → MayGo query t u v → HasEntry table v
-    pub all : all_entered ≡ true → (v : ℕ) → Contains sides v → HasEntry table v
+  -- the first of the neighbours of u were looked at, and whether all of those have an entry
+  pub record AreTried (table : List (Option ℕ)) (neighbours : List ℕ) (all_entered : Bool) : Type 0 where
+    pub entered : (v : ℕ) → Contains neighbours v → MayGo query t u v → HasEntry table v
+    pub all : all_entered ≡ true → (v : ℕ) → Contains neighbours v → HasEntry table v
 
-  pub tried_none : (table : List (Option ℕ)) (sides : List ℕ) → AreTried table (take 0 sides) true
-  tried_none table sides = record { entered = λ v i m. absurd (none_in_front sides v i); all = λ e v i. absurd (none_in_front sides v i) }
+  pub tried_none : (table : List (Option ℕ)) (neighbours : List ℕ) → AreTried table (take 0 neighbours) true
+  tried_none table neighbours = record { entered = λ v i m. absurd (none_in_front neighbours v i); all = λ e v i. absurd (none_in_front neighbours v i) }
 
-  pub tried_more : (time : ℕ) (old new : List (Option ℕ)) (x y sides : List ℕ) (k to : ℕ) (all entered : Bool) → k < length sides → to ≡ get_or sides k to → AreTried old (take k sides) all → Advances query.grid time old new x y →
-      (MayGo query t u to → HasEntry new to) → (entered ≡ true → HasEntry new to) → AreTried new (take (k + 1) sides) (all && entered)
-  tried_more time old new x y sides k to all entered l is h more goes has = record {
-    entered = λ v i m. enters v m ((members_more sides k to v l is).0 i);
-    all = λ e v i. each (both_set all entered e) v ((members_more sides k to v l is).0 i);
+  pub tried_more : (time : ℕ) (old new : List (Option ℕ)) (x y neighbours : List ℕ) (k to : ℕ) (all entered : Bool) → k < length neighbours → to ≡ get_or neighbours k to → AreTried old (take k neighbours) all → Advances query.grid time old new x y →
+      (MayGo query t u to → HasEntry new to) → (entered ≡ true → HasEntry new to) → AreTried new (take (k + 1) neighbours) (all && entered)
+  tried_more time old new x y neighbours k to all entered l is h more goes has = record {
+    entered = λ v i m. enters v m ((members_more neighbours k to v l is).0 i);
+    all = λ e v i. each (both_set all entered e) v ((members_more neighbours k to v l is).0 i);
   }
     where
       keeps : (v : ℕ) → HasEntry old v → HasEntry new v
       keeps = entry_kept query.grid time old new x y more
 
-      enters : (v : ℕ) → MayGo query t u v → Contains (take k sides) v ⊎ (to ≡ v) → HasEntry new v
+      enters : (v : ℕ) → MayGo query t u v → Contains (take k neighbours) v ⊎ (to ≡ v) → HasEntry new v
       enters v m (inl i) = keeps v (h.entered v i m)
       enters v m (inr e) = subst (HasEntry new) e (goes (subst (MayGo query t u) (sym e) m))
 
-      each : (all ≡ true) × (entered ≡ true) → (v : ℕ) → Contains (take k sides) v ⊎ (to ≡ v) → HasEntry new v
+      each : (all ≡ true) × (entered ≡ true) → (v : ℕ) → Contains (take k neighbours) v ⊎ (to ≡ v) → HasEntry new v
       each p v (inl i) = keeps v (h.all p.0 v i)
       each p v (inr e) = subst (HasEntry new) e (has p.1)
 
-  module _ (table : List (Option ℕ)) (sides : List ℕ) (k : ℕ) (all : Bool) (whole : k ≡ length sides) (of : (v : ℕ) → IsFreeSide query.grid u v → Contains sides v) (h : AreTried table (take k sides) all) where
-    in_front : (v : ℕ) → IsFreeSide query.grid u v → Contains (take k sides) v
-    in_front v s = (all_in_front sides k v whole).1 (of v s)
+  module _ (table : List (Option ℕ)) (neighbours : List ℕ) (k : ℕ) (all : Bool) (whole : k ≡ length neighbours) (of : (v : ℕ) → IsFreeNeighbour query.grid u v → Contains neighbours v) (h : AreTried table (take k neighbours) all) where
+    in_front : (v : ℕ) → IsFreeNeighbour query.grid u v → Contains (take k neighbours) v
+    in_front v s = (all_in_front neighbours k v whole).1 (of v s)
 
     pub looked_all : (cells : List ℕ) → all ≡ true → IsLookedAt query t table cells u
     looked_all cells e = record { entered = λ v s. h.entered v (in_front v s); waits = inr (λ v s. h.all e v (in_front v s)) }
@@ -139,42 +140,58 @@ looked_more query t time old new x y cells k from l is before more here u i = go
     go (inr e) = subst (IsLookedAt query t new y) e here
 
 module _ (query : Query) where
-  -- the start alone, at time 0
-  pub advanced_first : (empty : List (Option ℕ)) → IsFree query.grid query.start → query.start < length query.grid.free → empty ≡ replicate (length query.grid.free) None →
-      IsAdvanced query 0 (set empty query.start (Some 0)) ([] ++ query.start ∷ [])
-  advanced_first empty free inside is = record {
-    each = length-set empty query.start (Some 0) ∙ size;
-    at_most = λ v m e. let p = only v m e (cases_eq v query.start) in omega (arith, p.0);
-    at_start = λ v e. (only v 0 e (cases_eq v query.start)).1;
-    bounds = bounds;
-    closed = λ u h. inl (subst (Contains ([] ++ query.start ∷ [])) (sym (only u h.0 h.1 (cases_eq u query.start)).1) (Contains-push [] query.start));
-    free = λ v i. ⊎_elim (λ j. absurd (omega (arith, j.1))) (λ e. subst (IsFree query.grid) e free) (Contains-push_cases [] query.start v i);
-  }
-    where
-      size : length empty ≡ length query.grid.free
-      size = ap length is ∙ length-replicate (length query.grid.free) None
+  -- nothing has an entry yet
+  module _ (empty : List (Option ℕ)) (is : empty ≡ replicate (length query.grid.free) None) where
+    size : length empty ≡ length query.grid.free
+    size = ap length is ∙ length-replicate (length query.grid.free) None
 
-      none : (v : ℕ) → distance_at empty v ≡ None
-      none v = subst (λ (t : List (Option ℕ)). distance_at t v ≡ None) (sym is) (go (cases_lt v (length query.grid.free)))
-        where
-          go : (v < length query.grid.free) ⊎ (length query.grid.free ≤ v) → get_or {A = Option ℕ} (replicate (length query.grid.free) None) v None ≡ None
-          go (inl l) = get_or-replicate (length query.grid.free) v None None l
-          go (inr past) =
-              let over : length (replicate {A = Option ℕ} (length query.grid.free) None) ≤ v = rw length-replicate past in
-              get_or_past (replicate (length query.grid.free) None) v None over
+    none : (v : ℕ) → distance_at empty v ≡ None
+    none v = subst (λ (t : List (Option ℕ)). distance_at t v ≡ None) (sym is) (go (cases_lt v (length query.grid.free)))
+      where
+        go : (v < length query.grid.free) ⊎ (length query.grid.free ≤ v) → get_or {A = Option ℕ} (replicate (length query.grid.free) None) v None ≡ None
+        go (inl l) = get_or-replicate (length query.grid.free) v None None l
+        go (inr past) =
+            let over : length (replicate {A = Option ℕ} (length query.grid.free) None) ≤ v = rw length-replicate past in
+            get_or_past (replicate (length query.grid.free) None) v None over
 
-      here : distance_at (set empty query.start (Some 0)) query.start ≡ Some 0
-      here = get_or-set_same empty query.start (Some 0) None (omega (arith, inside, size))
+    -- the start alone, at time 0
+    pub advanced_first : IsFree query.grid query.start → query.start < length query.grid.free →
+        IsAdvanced query 0 (set empty query.start (Some 0)) ([] ++ query.start ∷ [])
+    advanced_first free inside = record {
+      each = length-set empty query.start (Some 0) ∙ size;
+      at_most = λ v m e. let p = only v m e (cases_eq v query.start) in omega (arith, p.0);
+      at_start = λ v e. (only v 0 e (cases_eq v query.start)).1;
+      bounds = bounds;
+      closed = λ u h. inl (subst (Contains ([] ++ query.start ∷ [])) (sym (only u h.0 h.1 (cases_eq u query.start)).1) (Contains-push [] query.start));
+      free = λ v i. ⊎_elim (λ j. absurd (omega (arith, j.1))) (λ e. subst (IsFree query.grid) e free) (Contains-push_cases [] query.start v i);
+    }
+      where
+        here : distance_at (set empty query.start (Some 0)) query.start ≡ Some 0
+        here = get_or-set_same empty query.start (Some 0) None (omega (arith, inside, size))
 
-      only : (v m : ℕ) → distance_at (set empty query.start (Some 0)) v ≡ Some m → (v ≡ query.start) ⊎ (v ≢ query.start) → (m ≡ 0) × (v ≡ query.start)
-      only v m e (inl s) = let at : distance_at (set empty query.start (Some 0)) query.start ≡ Some m = subst (λ k. distance_at (set empty query.start (Some 0)) k ≡ Some m) s e in (cc (here, at), s)
-      only v m e (inr ne) = absurd (let n : None ≡ Some m = sym (none v) ∙ sym (get_or-set_other empty query.start v (Some 0) None ne) ∙ e in let z : ◌≡◌ {A = ℕ} 0 1 = cc in omega (arith, z))
+        only : (v m : ℕ) → distance_at (set empty query.start (Some 0)) v ≡ Some m → (v ≡ query.start) ⊎ (v ≢ query.start) → (m ≡ 0) × (v ≡ query.start)
+        only v m e (inl s) = let at : distance_at (set empty query.start (Some 0)) query.start ≡ Some m = subst (λ k. distance_at (set empty query.start (Some 0)) k ≡ Some m) s e in (cc (here, at), s)
+        only v m e (inr ne) = absurd (let n : None ≡ Some m = sym (none v) ∙ sym (get_or-set_other empty query.start v (Some 0) None ne) ∙ e in let z : ◌≡◌ {A = ℕ} 0 1 = cc in omega (arith, z))
 
-      bounds : (t v : ℕ) → t ≤ 0 → CanBe query t v → (m : ℕ) × (distance_at (set empty query.start (Some 0)) v ≡ Some m) × (m ≤ t)
-      bounds t v l i =
-          let z : t ≡ 0 = omega (arith, l) in
-          let s : v ≡ query.start = (subst (λ k. CanBe query k v) z i).0 in
-          (0, subst (λ k. distance_at (set empty query.start (Some 0)) k ≡ Some 0) (sym s) here, omega arith)
+        bounds : (t v : ℕ) → t ≤ 0 → CanBe query t v → (m : ℕ) × (distance_at (set empty query.start (Some 0)) v ≡ Some m) × (m ≤ t)
+        bounds t v l i =
+            let z : t ≡ 0 = omega (arith, l) in
+            let s : v ≡ query.start = (subst (λ k. CanBe query k v) z i).0 in
+            (0, subst (λ k. distance_at (set empty query.start (Some 0)) k ≡ Some 0) (sym s) here, omega arith)
+
+    -- or nothing, where it is forbidden then
+    pub advanced_none : ((¬ Contains query.constraints (Vertex query.start 0)) → ⊥) → IsAdvanced query 0 empty []
+    advanced_none forbidden = record {
+      each = size;
+      at_most = λ v m e. absurd (no_entry v m e);
+      at_start = λ v e. absurd (no_entry v 0 e);
+      bounds = λ t v l i. absurd (let z : t ≡ 0 = omega (arith, l) in let j = subst (λ k. CanBe query k v) z i in forbidden (subst (λ w. ¬ Contains query.constraints (Vertex w 0)) j.0 j.1));
+      closed = λ u h. absurd (no_entry u h.0 h.1);
+      free = λ v i. absurd (omega (arith, i.1));
+    }
+      where
+        no_entry : (v m : ℕ) → distance_at empty v ≡ Some m → ⊥
+        no_entry v m e = let n : None ≡ Some m = sym (none v) ∙ e in absurd (cc)
 
   -- from the frontier of one time step to that of the next
   module _ (n : ℕ) (old new : List (Option ℕ)) (frontier next : List ℕ) (h : IsAdvanced query n old frontier) (more : Advances query.grid (n + 1) old new [] next) (looked : (u : ℕ) → Contains frontier u → IsLookedAt query n new next u) where
@@ -204,7 +221,7 @@ module _ (query : Query) where
         goes : MayGo query n u v
         goes = (can_allowed query n u at_u, (can_allowed query (n + 1) v i, (can_before query n v i).1.1.1))
 
-        beside : IsFreeSide query.grid u v → Contains frontier u ⊎ ((w : ℕ) → IsFreeSide query.grid u w → HasEntry old w) → HasEntry new v
+        beside : IsFreeNeighbour query.grid u v → Contains frontier u ⊎ ((w : ℕ) → IsFreeNeighbour query.grid u w → HasEntry old w) → HasEntry new v
         beside s (inl j) = (looked u j).entered v s goes
         beside s (inr f) = keeps v (f v s)
 
@@ -219,11 +236,11 @@ module _ (query : Query) where
         let r = by_next v (stepped v (subst (λ k. CanBe query k v) e i)) in
         (r.0, r.1, omega (arith, r.2, e))
 
-    closed : (u m : ℕ) → (distance_at old u ≡ Some m) ⊎ ((m ≡ n + 1) × Contains next u) → Contains next u ⊎ ((v : ℕ) → IsFreeSide query.grid u v → HasEntry new v)
+    closed : (u m : ℕ) → (distance_at old u ≡ Some m) ⊎ ((m ≡ n + 1) × Contains next u) → Contains next u ⊎ ((v : ℕ) → IsFreeNeighbour query.grid u v → HasEntry new v)
     closed u m (inr p) = inl p.1
     closed u m (inl e) = go (h.closed u (m, e))
       where
-        go : Contains frontier u ⊎ ((v : ℕ) → IsFreeSide query.grid u v → HasEntry old v) → Contains next u ⊎ ((v : ℕ) → IsFreeSide query.grid u v → HasEntry new v)
+        go : Contains frontier u ⊎ ((v : ℕ) → IsFreeNeighbour query.grid u v → HasEntry old v) → Contains next u ⊎ ((v : ℕ) → IsFreeNeighbour query.grid u v → HasEntry new v)
         go (inl i) = (looked u i).waits
         go (inr f) = inr (λ v s. keeps v (f v s))
 
@@ -258,7 +275,7 @@ module _ (query : Query) where
     pub earliest_early : length frontier ≡ 0 → AreEarliest query table
     earliest_early none = record { bounds = λ t v l i. by_entry t (distance_at table v) (by t v i); at_start = h.at_start }
       where
-        closed : (u v : ℕ) → HasEntry table u → IsFreeSide query.grid u v → HasEntry table v
+        closed : (u v : ℕ) → HasEntry table u → IsFreeNeighbour query.grid u v → HasEntry table v
         closed u v e s = ⊎_elim (λ i. absurd (omega (arith, i.1, none))) (λ f. f v s) (h.closed u e)
 
         step : (u v : ℕ) → HasEntry table u → IsFree query.grid v → (u ≡ v) ⊎ IsBeside query.grid u v → HasEntry table v

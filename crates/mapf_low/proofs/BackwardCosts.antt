@@ -5,14 +5,14 @@ use Rattle.mapf_plan.specs.Path.{cost}
 use Rattle.mapf_low.specs.Backwards.{CanBe, HasNoneBefore}
 use Rattle.mapf_low.specs.Constraints.{IsAllowed}
 use Rattle.mapf_low.specs.OwnPath.{IsOwnPath}
-use Rattle.mapf_low.specs.Earliest.{IsPosedBackwards}
-use Rattle.mapf_low.specs.Query.{Query, MayEnd}
+use Rattle.mapf_low.specs.Earliest.{HasEarliest}
+use Rattle.mapf_low.specs.Query.{Query, IsPosed, MayEnd}
 use Rattle.mapf_low.specs.Reached.{EndsAt, IsReconstructed}
 use Rattle.mapf_low.specs.Walk.{distance_at}
 use Rattle.mapf_low.proofs.Arrivals.{is_allowed, own_path, none_arrives}
 use Rattle.mapf_low.proofs.OutOfReach.{can_be_at, can_covering, trail}
 
-module _ (query : Query) (posed : IsPosedBackwards query) where
+module _ (query : Query) (posed : IsPosed query) (earliest : HasEarliest query) where
   -- nor at one cost more
   pub none_more : (end : ℕ) → HasNoneBefore query end → (end ≤ query.limit → ¬ EndsAt query (CanBe query) end) → HasNoneBefore query (end + 1)
   none_more end before not t l = up_to (λ k. k ≤ query.limit → ¬ EndsAt query (CanBe query) k) end t l (before t) not
@@ -35,13 +35,13 @@ module _ (query : Query) (posed : IsPosedBackwards query) where
 
   -- an allowed path costs at least what the table has for the goal
   costs_entry : (p : List ℕ) → IsAllowed query.grid query.start query.goal query.limit query.constraints p → MatchOption (distance_at query.table query.goal) ⊥ (λ n. n ≤ cost p)
-  costs_entry p a = posed.earliest.bounds (cost p) query.goal a.within (subst (CanBe query (cost p)) a.path.ends (can_be_at query query.limit p a (cost p) (omega arith)))
+  costs_entry p a = earliest.bounds (cost p) query.goal a.within (subst (CanBe query (cost p)) a.path.ends (can_be_at query query.limit p a (cost p) (omega arith)))
 
   -- so none does before the greater of the two
-  pub none_before : (least earliest : ℕ) → distance_at query.table query.goal ≡ Some earliest → ((p : List ℕ) → IsAllowed query.grid query.start query.goal query.limit query.constraints p → least ≤ cost p) → HasNoneBefore query (max least earliest)
-  none_before least earliest is bounds = none_cheaper (max least earliest) both (max least earliest) (omega arith)
+  pub none_before : (least entry : ℕ) → distance_at query.table query.goal ≡ Some entry → ((p : List ℕ) → IsAllowed query.grid query.start query.goal query.limit query.constraints p → least ≤ cost p) → HasNoneBefore query (max least entry)
+  none_before least entry is bounds = none_cheaper (max least entry) both (max least entry) (omega arith)
     where
-      both : (p : List ℕ) → IsAllowed query.grid query.start query.goal query.limit query.constraints p → max least earliest ≤ cost p
+      both : (p : List ℕ) → IsAllowed query.grid query.start query.goal query.limit query.constraints p → max least entry ≤ cost p
       both p a = omega (arith, bounds p a, subst (λ o. MatchOption o ⊥ (λ n. n ≤ cost p)) is (costs_entry p a))
 
   -- and where it has nothing there is no path

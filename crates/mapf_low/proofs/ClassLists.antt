@@ -82,7 +82,7 @@ module _ (query : Query) (nearest : ℕ) (ground : Ground query nearest) where
   -- where the agent doesn't arrive in these classes, it doesn't by that time
   pub no_arrival : (classes : List (List ℕ)) (K : ℕ) → ((k : ℕ) → k < K → Has classes k query.goal → ¬ MayEnd query (nearest + k)) → (t : ℕ) → t < nearest + K → ¬ EndsAt query (InClasses query nearest classes) t
   no_arrival classes K before t l a =
-      let p = match_at (distance_at query.table query.goal) 0 (λ n. (nearest ≤ t + n) × Has classes (t + n - nearest) query.goal) (goal_at query ground.posed) a.0 in
+      let p = match_at (distance_at query.table query.goal) 0 (λ n. (nearest ≤ t + n) × Has classes (t + n - nearest) query.goal) (goal_at query ground.posed ground.distances) a.0 in
       let e : nearest + (t + 0 - nearest) ≡ t = omega (arith, p.0) in
       before (t + 0 - nearest) (omega (arith, l, p.0)) p.1 (subst (λ n. MayEnd query n) (sym e) a.1)
 
@@ -185,7 +185,7 @@ module _ (query : Query) (nearest : ℕ) (ground : Ground query nearest) where
     reached = λ count. classes_reach query sum nearest (Has classes) ground count h;
     before = before;
     ends = (
-      match_to (distance_at query.table query.goal) 0 (λ n. (nearest ≤ sum + n) × Has classes (sum + n - nearest) query.goal) (goal_at query ground.posed)
+      match_to (distance_at query.table query.goal) 0 (λ n. (nearest ≤ sum + n) × Has classes (sum + n - nearest) query.goal) (goal_at query ground.posed ground.distances)
           (omega (arith, low), subst (λ k. Has classes k query.goal) (let e : sum - nearest ≡ sum + 0 - nearest = omega arith in e) here),
       free,
     );

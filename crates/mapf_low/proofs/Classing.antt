@@ -1,7 +1,7 @@
 -- Classes of one sum have just those states that an agent may reach.
 use Rattle.std.proofs.Common.{◌≡◌, ℕ, suc, ◌+◌, ◌-◌, ◌<◌, ◌≤◌, Option, Some, None, MatchOption, Contains, subst, sym, refl, ap, ◌∙◌, arith}
 use Rattle.mapf_grid.specs.Grid.{Next, cells}
-use Rattle.mapf_low.specs.Query.{Query, IsPosed}
+use Rattle.mapf_low.specs.Query.{Query, IsPosed, HasDistances}
 use Rattle.mapf_low.specs.declared.constraint.Constraint.TheVariants.{Vertex}
 use Rattle.mapf_low.specs.Walk.{IsWalk, IsDistance}
 use Rattle.mapf_low.specs.Walk.{distance_at}
@@ -23,18 +23,18 @@ match_some None Q h = absurd h
 match_some (Some n) Q h = (n, refl)
 
 -- a step changes the distance by one at most
-pub step_apart : (query : Query) (u v m n : ℕ) → IsPosed query query.goal → Next query.grid u v → distance_at query.table u ≡ Some m → distance_at query.table v ≡ Some n → m ≤ n + 1
-step_apart query u v m n posed step at_u at_v =
+pub step_apart : (query : Query) (u v m n : ℕ) → IsPosed query → HasDistances query → Next query.grid u v → distance_at query.table u ≡ Some m → distance_at query.table v ≡ Some n → m ≤ n + 1
+step_apart query u v m n posed distances step at_u at_v =
     let of_u : IsDistance query.grid query.goal u m = distance u m (free_below query.grid u posed.sizes step.0) at_u in
     let of_v : IsDistance query.grid query.goal v n = distance v n (free_below query.grid v posed.sizes step.1) at_v in
     omega (arith, of_u.least (suc n) (v, step, of_v.walk))
   where
     distance : (w k : ℕ) → w < cells query.grid → distance_at query.table w ≡ Some k → IsDistance query.grid query.goal w k
-    distance w k l e = let P : Option ℕ → Type 0 = λ o. MatchOption o ((n : ℕ) → ¬ IsWalk query.grid w query.goal n) (IsDistance query.grid query.goal w) in subst P e (posed.distances.shortest w l)
+    distance w k l e = let P : Option ℕ → Type 0 = λ o. MatchOption o ((n : ℕ) → ¬ IsWalk query.grid w query.goal n) (IsDistance query.grid query.goal w) in subst P e (distances.shortest w l)
 
 -- the goal is on itself
-pub goal_at : (query : Query) → IsPosed query query.goal → distance_at query.table query.goal ≡ Some 0
-goal_at query posed = by (distance_at query.table query.goal) refl (posed.distances.shortest query.goal (free_below query.grid query.goal posed.sizes posed.goal))
+pub goal_at : (query : Query) → IsPosed query → HasDistances query → distance_at query.table query.goal ≡ Some 0
+goal_at query posed distances = by (distance_at query.table query.goal) refl (distances.shortest query.goal (free_below query.grid query.goal posed.sizes posed.goal))
   where
     by : (o : Option ℕ) → distance_at query.table query.goal ≡ o → MatchOption o ((n : ℕ) → ¬ IsWalk query.grid query.goal query.goal n) (IsDistance query.grid query.goal query.goal) → distance_at query.table query.goal ≡ Some 0
     by None e h = absurd (h 0 refl)
@@ -55,11 +55,12 @@ pub record AreClasses (query : Query) (limit nearest : ℕ) (C : ℕ → ℕ →
 
 -- what a search from the start to the goal is about
 pub record Ground (query : Query) (nearest : ℕ) : Type 0 where
-  pub posed : IsPosed query query.goal
+  pub posed : IsPosed query
+  pub distances : HasDistances query
   pub nearest_is : distance_at query.table query.start ≡ Some nearest
 
-pub ground_of : (query : Query) (start nearest : ℕ) (distance : Option ℕ) → IsPosed query query.goal → start ≡ query.start → distance ≡ distance_at query.table start → distance ≡ Some nearest → Ground query nearest
-ground_of query start nearest distance posed is at some = record { posed = posed; nearest_is = ap (distance_at query.table) (sym is) ∙ (sym at ∙ some) }
+pub ground_of : (query : Query) (start nearest : ℕ) (distance : Option ℕ) → IsPosed query → HasDistances query → start ≡ query.start → distance ≡ distance_at query.table start → distance ≡ Some nearest → Ground query nearest
+ground_of query start nearest distance posed distances is at some = record { posed = posed; distances = distances; nearest_is = ap (distance_at query.table) (sym is) ∙ (sym at ∙ some) }
 
 module _ (query : Query) (limit nearest : ℕ) (C : ℕ → ℕ → Type 0) (ground : Ground query nearest) where
   -- the agent may be on v at time t: the class of their sum has it
@@ -119,8 +120,8 @@ module _ (query : Query) (limit nearest : ℕ) (C : ℕ → ℕ → Type 0) (gro
       leads_back : (t u v m n : ℕ) → distance_at query.table u ≡ Some m → distance_at query.table v ≡ Some n → IsUsable query limit (t + 1) v → nearest ≤ t + m → C (t + m - nearest) u → MayStep query (t + 1) u v → At (t + 1) v
       leads_back t u v m n at_u at_v o low there step =
           let within : t + 1 + n ≤ limit = match_at (distance_at query.table v) n (λ n. t + 1 + n ≤ limit) at_v o.1 in
-          let down : m ≤ n + 1 = step_apart query u v m n ground.posed step.0 at_u at_v in
-          let up : n ≤ m + 1 = step_apart query v u n m ground.posed (Next_back query.grid u v step.0) at_v at_u in
+          let down : m ≤ n + 1 = step_apart query u v m n ground.posed ground.distances step.0 at_u at_v in
+          let up : n ≤ m + 1 = step_apart query v u n m ground.posed ground.distances (Next_back query.grid u v step.0) at_v at_u in
           let time : t + 1 ≡ nearest + (t + m - nearest) - m + 1 = omega (arith, low) in
           let leads : Leads query (nearest + (t + m - nearest)) (n + 1 - m) u v =
           record { near = m; far = n; near_is = at_u; apart = omega (arith, down); enters = (step.0, subst (λ k. Admits query k n u v) time (at_v, (o.0, step.1))) } in

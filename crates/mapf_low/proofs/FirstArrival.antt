@@ -2,7 +2,7 @@
 use Rattle.std.proofs.Common.{◌≡◌, ℕ, zero, suc, ◌<◌, ◌≤◌, ◌+◌, ◌-◌, List, slice_index_or, Option, Some, None, MatchOption, Contains, subst, sym, refl, arith}
 use Rattle.mapf_plan.specs.Path.{cost, at}
 use Rattle.mapf_plan.proofs.Paths.{place_free}
-use Rattle.mapf_low.specs.Query.{Query, IsPosed}
+use Rattle.mapf_low.specs.Query.{Query, IsPosed, HasDistances}
 use Rattle.mapf_low.specs.declared.constraint.Constraint.TheVariants.{Vertex}
 use Rattle.mapf_low.specs.Constraints.{IsAllowed}
 use Rattle.mapf_low.specs.OwnPath.{IsOwnPath}
@@ -13,7 +13,8 @@ use Rattle.mapf_low.proofs.Places.{free_below, rest_walks, obeys_each}
 
 -- what a search is about
 pub record Setting (query : Query) (limit : ℕ) (At : ℕ → ℕ → Type 0) (count : ℕ) : Type 0 where
-  pub posed : IsPosed query query.goal
+  pub posed : IsPosed query
+  pub distances : HasDistances query
   pub reached_are : AreReached query limit At count
 
 module _ (query : Query) (limit : ℕ) (At : ℕ → ℕ → Type 0) (count : ℕ) (set : Setting query limit At count) where
@@ -30,7 +31,7 @@ module _ (query : Query) (limit : ℕ) (At : ℕ → ℕ → Type 0) (count : �
   open_at : (p : List ℕ) → Allowed p → (t : ℕ) → t ≤ cost p → IsUsable query limit t (at p t)
   open_at p a t l = (
     (λ i. obeys_each query.constraints p a.obeys (Vertex (at p t) t) i refl),
-    near p a t l (slice_index_or query.table (at p t) None) (set.posed.distances.shortest (at p t) (free_below query.grid (at p t) set.posed.sizes (place_free query.grid query.start query.goal p a.path t))),
+    near p a t l (slice_index_or query.table (at p t) None) (set.distances.shortest (at p t) (free_below query.grid (at p t) set.posed.sizes (place_free query.grid query.start query.goal p a.path t))),
   )
 
   -- so each of its places is reached at its time

@@ -2,7 +2,7 @@
 use Rattle.std.proofs.Common.{◌≡◌, ℕ, ◌+◌, ◌<◌, List, Option, Some, None, subst, arith}
 use Rattle.std.specs.Option.{unwrap_or}
 use Rattle.mapf_grid.proofs.Decide.{up_to}
-use Rattle.mapf_low.specs.Query.{Query, IsPosed}
+use Rattle.mapf_low.specs.Query.{Query, IsPosed, HasDistances}
 use Rattle.mapf_low.specs.Constraints.{IsAllowed}
 use Rattle.mapf_low.specs.OwnPath.{IsOwnPath}
 use Rattle.mapf_low.specs.Classes.{InClasses, IsSearched}
@@ -11,9 +11,9 @@ use Rattle.mapf_low.proofs.FirstArrival.{Setting, own, none_by_limit}
 use Rattle.mapf_low.proofs.Limits.{own_by_bound}
 use Rattle.mapf_low.proofs.Reading.{are_linked}
 
-module _ (query : Query) (nearest : ℕ) (classes : List (List ℕ)) (posed : IsPosed query query.goal) where
+module _ (query : Query) (nearest : ℕ) (classes : List (List ℕ)) (posed : IsPosed query) (distances : HasDistances query) where
   pub setting : (end : Option ℕ) → IsSearched query nearest classes end → (count : ℕ) → Setting query (unwrap_or end query.limit) (InClasses query nearest classes) count
-  setting end s count = record { posed = posed; reached_are = s.reached count }
+  setting end s count = record { posed = posed; distances = distances; reached_are = s.reached count }
 
   known : (end other : Option ℕ) → end ≡ other → IsSearched query nearest classes end → IsSearched query nearest classes other
   known end other is s = subst (IsSearched query nearest classes) is s

@@ -13,106 +13,79 @@ pub same_distance : (o : Option ℕ) (m n : ℕ) → o ≡ Some m → o ≡ Some
 same_distance o m n e f = cc
 
 module _ (query : Query) (t far u : ℕ) where
-  -- the sides alone, one after another
+  -- the neighbours alone, one after another
   abbrev FitsBeside : List ℕ → ℕ → Type 0
-  FitsBeside sides v = Contains sides v × Admits query t far u v
+  FitsBeside neighbours v = Contains neighbours v × Admits query t far u v
 
-  pub sides_none : (sides old : List ℕ) → Grows (λ v. Contains (take 0 sides) v × Admits query t far u v) old old
-  sides_none sides old = grows_not (FitsBeside (take 0 sides)) old (λ v p. absurd (none_in_front sides v p.0))
+  pub neighbours_none : (neighbours old : List ℕ) → Grows (λ v. Contains (take 0 neighbours) v × Admits query t far u v) old old
+  neighbours_none neighbours old = grows_not (FitsBeside (take 0 neighbours)) old (λ v p. absurd (none_in_front neighbours v p.0))
 
-  pub sides_more : (sides old mid new : List ℕ) (k x : ℕ) → k < length sides → x ≡ get_or sides k x → Grows (λ v. Contains (take k sides) v × Admits query t far u v) old mid →
-      Grows (λ v. (x ≡ v) × Admits query t far u v) mid new → Grows (λ v. Contains (take (k + 1) sides) v × Admits query t far u v) old new
-  sides_more sides old mid new k x l is h one =
-      grows_as (λ v. FitsBeside (take k sides) v ⊎ ((x ≡ v) × Admits query t far u v)) (FitsBeside (take (k + 1) sides)) old new (λ v. (to v, λ p. from v ((members_more sides k x v l is).0 p.0) p.1))
-      (grows_both (FitsBeside (take k sides)) (λ v. (x ≡ v) × Admits query t far u v) old mid new h one)
+  pub neighbours_more : (neighbours old mid new : List ℕ) (k x : ℕ) → k < length neighbours → x ≡ get_or neighbours k x → Grows (λ v. Contains (take k neighbours) v × Admits query t far u v) old mid →
+      Grows (λ v. (x ≡ v) × Admits query t far u v) mid new → Grows (λ v. Contains (take (k + 1) neighbours) v × Admits query t far u v) old new
+  neighbours_more neighbours old mid new k x l is h one =
+      grows_as (λ v. FitsBeside (take k neighbours) v ⊎ ((x ≡ v) × Admits query t far u v)) (FitsBeside (take (k + 1) neighbours)) old new (λ v. (to v, λ p. from v ((members_more neighbours k x v l is).0 p.0) p.1))
+      (grows_both (FitsBeside (take k neighbours)) (λ v. (x ≡ v) × Admits query t far u v) old mid new h one)
     where
-      to : (v : ℕ) → FitsBeside (take k sides) v ⊎ ((x ≡ v) × Admits query t far u v) → FitsBeside (take (k + 1) sides) v
-      to v (inl p) = ((members_more sides k x v l is).1 (inl p.0), p.1)
-      to v (inr p) = ((members_more sides k x v l is).1 (inr p.0), p.1)
+      to : (v : ℕ) → FitsBeside (take k neighbours) v ⊎ ((x ≡ v) × Admits query t far u v) → FitsBeside (take (k + 1) neighbours) v
+      to v (inl p) = ((members_more neighbours k x v l is).1 (inl p.0), p.1)
+      to v (inr p) = ((members_more neighbours k x v l is).1 (inr p.0), p.1)
 
-      from : (v : ℕ) → Contains (take k sides) v ⊎ (x ≡ v) → Admits query t far u v → FitsBeside (take k sides) v ⊎ ((x ≡ v) × Admits query t far u v)
+      from : (v : ℕ) → Contains (take k neighbours) v ⊎ (x ≡ v) → Admits query t far u v → FitsBeside (take k neighbours) v ⊎ ((x ≡ v) × Admits query t far u v)
       from v (inl i) a = inl (i, a)
       from v (inr e) a = inr (e, a)
 
-  pub sides_all : (sides old new : List ℕ) (k : ℕ) → k ≡ length sides → Grows (λ v. Contains (take k sides) v × Admits query t far u v) old new → Grows (λ v. Contains sides v × Admits query t far u v) old new
-  sides_all sides old new k e h = grows_as (FitsBeside (take k sides)) (FitsBeside sides) old new (λ v. ((λ p. ((all_in_front sides k v e).0 p.0, p.1)), λ p. ((all_in_front sides k v e).1 p.0, p.1))) h
+  pub neighbours_all : (neighbours old new : List ℕ) (k : ℕ) → k ≡ length neighbours → Grows (λ v. Contains (take k neighbours) v × Admits query t far u v) old new → Grows (λ v. Contains neighbours v × Admits query t far u v) old new
+  neighbours_all neighbours old new k e h = grows_as (FitsBeside (take k neighbours)) (FitsBeside neighbours) old new (λ v. ((λ p. ((all_in_front neighbours k v e).0 p.0, p.1)), λ p. ((all_in_front neighbours k v e).1 p.0, p.1))) h
 
-  -- a cell itself is no nearer to the goal, so the sides are all
-  pub sides_suffice : (near : ℕ) (sides old new : List ℕ) → distance_at query.table u ≡ Some near → far + 1 ≡ near → Grows (λ v. Contains sides v × Admits query t far u v) old new →
-      Grows (λ v. ((u ≡ v) ⊎ Contains sides v) × Admits query t far u v) old new
-  sides_suffice near sides old new at apart h = grows_as (FitsBeside sides) (λ v. ((u ≡ v) ⊎ Contains sides v) × Admits query t far u v) old new (λ v. ((λ p. (inr p.0, p.1)), λ p. from v p.0 p.1)) h
+  abbrev WithItself : List ℕ → ℕ → Type 0
+  WithItself neighbours v = ((u ≡ v) ⊎ Contains neighbours v) × Admits query t far u v
+
+  -- a cell itself is as far from the goal as it is, so for another distance the neighbours are all
+  pub neighbours_suffice : (near : ℕ) (neighbours old new : List ℕ) → distance_at query.table u ≡ Some near → ¬ (far ≡ near) →
+      Grows (λ v. Contains neighbours v × Admits query t far u v) old new → Grows (λ v. ((u ≡ v) ⊎ Contains neighbours v) × Admits query t far u v) old new
+  neighbours_suffice near neighbours old new at other h =
+      grows_as (FitsBeside neighbours) (WithItself neighbours) old new (λ v. ((λ p. (inr p.0, p.1)), λ p. from v p.0 p.1)) h
     where
-      from : (v : ℕ) → (u ≡ v) ⊎ Contains sides v → Admits query t far u v → FitsBeside sides v
-      from v (inl e) a = absurd (omega (arith, apart, same_distance (distance_at query.table v) far near a.0 (subst (λ w. distance_at query.table w ≡ Some near) e at)))
+      from : (v : ℕ) → (u ≡ v) ⊎ Contains neighbours v → Admits query t far u v → FitsBeside neighbours v
+      from v (inl e) a = absurd (other (same_distance (distance_at query.table v) far near a.0 (subst (λ w. distance_at query.table w ≡ Some near) e at)))
       from v (inr i) a = (i, a)
 
-  abbrev Fits : List ℕ → ℕ → Type 0
-  Fits sides v = ((u ≡ v) ⊎ Contains sides v) × Admits query t far u v
-
-  -- first the cell itself
-  pub leads_none : (sides old new : List ℕ) → Grows (λ v. (u ≡ v) × Admits query t far u v) old new → Grows (λ v. ((u ≡ v) ⊎ Contains (take 0 sides) v) × Admits query t far u v) old new
-  leads_none sides old new h = grows_as (λ v. (u ≡ v) × Admits query t far u v) (Fits (take 0 sides)) old new (λ v. ((λ p. (inl p.0, p.1)), λ p. (only v p.0, p.1))) h
+  -- first the cell itself, then its neighbours
+  pub with_itself : (neighbours old mid new : List ℕ) → Grows (λ v. (u ≡ v) × Admits query t far u v) old mid →
+      Grows (λ v. Contains neighbours v × Admits query t far u v) mid new → Grows (λ v. ((u ≡ v) ⊎ Contains neighbours v) × Admits query t far u v) old new
+  with_itself neighbours old mid new h k =
+      grows_as (λ v. ((u ≡ v) × Admits query t far u v) ⊎ FitsBeside neighbours v) (WithItself neighbours) old new (λ v. (to v, λ p. from v p.0 p.1))
+      (grows_both (λ v. (u ≡ v) × Admits query t far u v) (FitsBeside neighbours) old mid new h k)
     where
-      only : (v : ℕ) → (u ≡ v) ⊎ Contains (take 0 sides) v → u ≡ v
-      only v (inl e) = e
-      only v (inr i) = absurd (none_in_front sides v i)
+      to : (v : ℕ) → ((u ≡ v) × Admits query t far u v) ⊎ FitsBeside neighbours v → WithItself neighbours v
+      to v (inl p) = (inl p.0, p.1)
+      to v (inr p) = (inr p.0, p.1)
 
-  -- then one side more
-  pub leads_more : (sides old mid new : List ℕ) (k x : ℕ) → k < length sides → x ≡ get_or sides k x → Grows (λ v. ((u ≡ v) ⊎ Contains (take k sides) v) × Admits query t far u v) old mid →
-      Grows (λ v. (x ≡ v) × Admits query t far u v) mid new → Grows (λ v. ((u ≡ v) ⊎ Contains (take (k + 1) sides) v) × Admits query t far u v) old new
-  leads_more sides old mid new k x l is h one =
-      grows_as (λ v. Fits (take k sides) v ⊎ ((x ≡ v) × Admits query t far u v)) (Fits (take (k + 1) sides)) old new (λ v. (to v, λ p. from v p.0 p.1))
-      (grows_both (Fits (take k sides)) (λ v. (x ≡ v) × Admits query t far u v) old mid new h one)
-    where
-      wider : (v : ℕ) → (u ≡ v) ⊎ Contains (take k sides) v → (u ≡ v) ⊎ Contains (take (k + 1) sides) v
-      wider v (inl e) = inl e
-      wider v (inr i) = inr ((members_more sides k x v l is).1 (inl i))
-
-      to : (v : ℕ) → Fits (take k sides) v ⊎ ((x ≡ v) × Admits query t far u v) → Fits (take (k + 1) sides) v
-      to v (inl p) = (wider v p.0, p.1)
-      to v (inr p) = (inr ((members_more sides k x v l is).1 (inr p.0)), p.1)
-
-      either : (v : ℕ) → Contains (take k sides) v ⊎ (x ≡ v) → Admits query t far u v → Fits (take k sides) v ⊎ ((x ≡ v) × Admits query t far u v)
-      either v (inl i) a = inl (inr i, a)
-      either v (inr e) a = inr (e, a)
-
-      from : (v : ℕ) → (u ≡ v) ⊎ Contains (take (k + 1) sides) v → Admits query t far u v → Fits (take k sides) v ⊎ ((x ≡ v) × Admits query t far u v)
-      from v (inl e) a = inl (inl e, a)
-      from v (inr i) a = either v ((members_more sides k x v l is).0 i) a
-
-  -- in the end all
-  pub leads_all : (sides old new : List ℕ) (k : ℕ) → k ≡ length sides → Grows (λ v. ((u ≡ v) ⊎ Contains (take k sides) v) × Admits query t far u v) old new → Grows (λ v. ((u ≡ v) ⊎ Contains sides v) × Admits query t far u v) old new
-  leads_all sides old new k e h = grows_as (Fits (take k sides)) (Fits sides) old new (λ v. ((λ p. (to v p.0, p.1)), λ p. (from v p.0, p.1))) h
-    where
-      to : (v : ℕ) → (u ≡ v) ⊎ Contains (take k sides) v → (u ≡ v) ⊎ Contains sides v
-      to v (inl e) = inl e
-      to v (inr i) = inr ((all_in_front sides k v e).0 i)
-
-      from : (v : ℕ) → (u ≡ v) ⊎ Contains sides v → (u ≡ v) ⊎ Contains (take k sides) v
-      from v (inl e) = inl e
-      from v (inr i) = inr ((all_in_front sides k v e).1 i)
+      from : (v : ℕ) → (u ≡ v) ⊎ Contains neighbours v → Admits query t far u v → ((u ≡ v) × Admits query t far u v) ⊎ FitsBeside neighbours v
+      from v (inl e) a = inl (e, a)
+      from v (inr i) a = inr (i, a)
 
 module _ (query : Query) (sum : ℕ) where
-  -- the steps from a cell are those to itself and to its sides
-  pub leads_are : (more u near far t : ℕ) (sides old new : List ℕ) → IsFree query.grid u → distance_at query.table u ≡ Some near → far + 1 ≡ near + more → t ≡ sum - near + 1 →
-      ((v : ℕ) → Contains sides v ↔ (IsFree query.grid v × IsBeside query.grid u v)) →
-      Grows (λ v. ((u ≡ v) ⊎ Contains sides v) × Admits query t far u v) old new → Grows (Leads query sum more u) old new
-  leads_are more u near far t sides old new free near_is apart time beside h =
-      grows_as (λ v. ((u ≡ v) ⊎ Contains sides v) × Admits query t far u v) (Leads query sum more u) old new
+  -- the steps from a cell are those to itself and to its neighbours
+  pub leads_are : (more u near far t : ℕ) (neighbours old new : List ℕ) → IsFree query.grid u → distance_at query.table u ≡ Some near → far + 1 ≡ near + more → t ≡ sum - near + 1 →
+      ((v : ℕ) → Contains neighbours v ↔ (IsFree query.grid v × IsBeside query.grid u v)) →
+      Grows (λ v. ((u ≡ v) ⊎ Contains neighbours v) × Admits query t far u v) old new → Grows (Leads query sum more u) old new
+  leads_are more u near far t neighbours old new free near_is apart time beside h =
+      grows_as (λ v. ((u ≡ v) ⊎ Contains neighbours v) × Admits query t far u v) (Leads query sum more u) old new
       (λ v. ((λ p. to v (next v p.0) p.1), from v)) h
     where
-      next : (v : ℕ) → (u ≡ v) ⊎ Contains sides v → Next query.grid u v
+      next : (v : ℕ) → (u ≡ v) ⊎ Contains neighbours v → Next query.grid u v
       next v (inl e) = (free, subst (IsFree query.grid) e free, inl e)
       next v (inr i) = let p = (beside v).0 i in (free, p.0, inr p.1)
 
-      back : (v : ℕ) → Next query.grid u v → (u ≡ v) ⊎ Contains sides v
+      back : (v : ℕ) → Next query.grid u v → (u ≡ v) ⊎ Contains neighbours v
       back v (a, b, inl e) = inl e
       back v (a, b, inr s) = inr ((beside v).1 (b, s))
 
       to : (v : ℕ) → Next query.grid u v → Admits query t far u v → Leads query sum more u v
       to v n a = record { near = near; far = far; near_is = near_is; apart = apart; enters = (n, subst (λ k. Admits query k far u v) time a) }
 
-      from : (v : ℕ) → Leads query sum more u v → ((u ≡ v) ⊎ Contains sides v) × Admits query t far u v
+      from : (v : ℕ) → Leads query sum more u v → ((u ≡ v) ⊎ Contains neighbours v) × Admits query t far u v
       from v l =
           let m : near ≡ l.near = same_distance (distance_at query.table u) near l.near near_is l.near_is in
           let f : l.far ≡ far = omega (arith, m, apart, l.apart) in

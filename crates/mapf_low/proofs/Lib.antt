@@ -29,7 +29,7 @@ mod StateTables
 mod OutOfReach
 mod Placing
 mod BackwardCosts
-mod AscendingSides
+mod AscendingNeighbours
 mod Advancing
 mod Taking
 pub mod Sets

@@ -7,8 +7,8 @@ use Rattle.mapf_plan.specs.Path.{cost, at}
 use Rattle.mapf_low.specs.declared.constraint.Constraint.TheVariants.{Vertex}
 use Rattle.mapf_low.specs.Backwards.{CanBe, IsLeft, AreDead}
 use Rattle.mapf_low.specs.Constraints.{IsAllowed}
-use Rattle.mapf_low.specs.Earliest.{AreEarliest, IsPosedBackwards}
-use Rattle.mapf_low.specs.Query.{Query}
+use Rattle.mapf_low.specs.Earliest.{AreEarliest, HasEarliest}
+use Rattle.mapf_low.specs.Query.{Query, IsPosed}
 use Rattle.mapf_low.specs.Reached.{MayStep, ComesFrom}
 use Rattle.mapf_low.specs.Walk.{IsWalk, IsDistance, AreDistances, distance_at}
 use Rattle.mapf_low.proofs.Arrivals.{IsCovering, IsTrail, step_at}
@@ -61,8 +61,8 @@ module _ (query : Query) where
       shortest v f = h.shortest v (free_below query.grid v sizes f)
 
   -- where the agent can be nothing rules it out
-  pub can_left : (dead : List (ℕ × ℕ)) (t v : ℕ) → t ≤ query.limit → IsPosedBackwards query → AreDead query dead → CanBe query t v → IsLeft query dead t v
-  can_left dead t v l posed out i = (posed.earliest.bounds t v l i, can_allowed t v i, λ c. out v t c i)
+  pub can_left : (dead : List (ℕ × ℕ)) (t v : ℕ) → t ≤ query.limit → HasEarliest query → AreDead query dead → CanBe query t v → IsLeft query dead t v
+  can_left dead t v l earliest out i = (earliest.bounds t v l i, can_allowed t v i, λ c. out v t c i)
 
   -- the places of an allowed path can be reached
   pub can_be_at : (limit : ℕ) (p : List ℕ) → IsAllowed query.grid query.start query.goal limit query.constraints p → (t : ℕ) → t ≤ cost p → CanBe query t (at p t)
@@ -73,7 +73,7 @@ module _ (query : Query) where
       can_next t (at p t) (at p (t + 1)) (λ i. obeys_each query.constraints p a.obeys (Vertex (at p (t + 1)) (t + 1)) i refl) (can_be_at limit p a t (omega (arith, l))) (step_at query limit p a t (omega (arith, l))) in
       subst (λ k. CanBe query k (at p k)) n here
 
-  pub can_covering : (limit count : ℕ) → IsPosedBackwards query → IsCovering query limit (CanBe query) count
+  pub can_covering : (limit count : ℕ) → IsPosed query → IsCovering query limit (CanBe query) count
   can_covering limit count posed = record {
     start = posed.start;
     ends = posed.ends;

@@ -5,8 +5,8 @@ use Rattle.std.proofs.lemmas.List.{length-set, get_or-set_other, get_or-set_same
 use Rattle.mapf_grid.specs.Grid.{IsFree, cells}
 use Rattle.mapf_low.specs.Backwards.{CanBe, IsLeft, AreDead, IsJoined, IsTraced}
 use Rattle.mapf_low.specs.Best.{IsSmallest}
-use Rattle.mapf_low.specs.Earliest.{IsPosedBackwards}
-use Rattle.mapf_low.specs.Query.{Query}
+use Rattle.mapf_low.specs.Earliest.{HasEarliest}
+use Rattle.mapf_low.specs.Query.{Query, IsPosed}
 use Rattle.mapf_low.specs.Reached.{MayStep, ComesFrom}
 use Rattle.mapf_low.specs.Walk.{distance_at}
 use Rattle.mapf_low.proofs.OutOfReach.{can_next, can_before, can_left}
@@ -22,9 +22,9 @@ pub record IsPlaced (query : Query) (dead : List (ℕ × ℕ)) (path : List ℕ)
 
 module _ (query : Query) (end : ℕ) where
   -- one cell more, the smallest that is left
-  pub placed_more : (dead : List (ℕ × ℕ)) (path : List ℕ) (t cell u : ℕ) → t < end → end ≤ query.limit → IsPosedBackwards query → AreDead query dead → IsPlaced query dead path (t + 1) end → cell ≡ slice_index path (t + 1) →
+  pub placed_more : (dead : List (ℕ × ℕ)) (path : List ℕ) (t cell u : ℕ) → t < end → end ≤ query.limit → HasEarliest query → AreDead query dead → IsPlaced query dead path (t + 1) end → cell ≡ slice_index path (t + 1) →
       IsSmallest (ComesFrom query (t + 1) (IsLeft query dead t) cell) (Some u) → IsPlaced query dead (set path t u) t end
-  placed_more dead path t cell u l within posed out h at s = record {
+  placed_more dead path t cell u l within earliest out h at s = record {
     long = length-set path t u ∙ h.long;
     ends = later end (omega (arith, l)) ∙ h.ends;
     left = left;
@@ -68,7 +68,7 @@ module _ (query : Query) (end : ℕ) where
           go (inr a) =
               let e : k ≡ t = omega (arith, a, m) in
               let d : ComesFrom query (t + 1) (CanBe query t) (slice_index (set path t u) (t + 1)) w = subst (λ n. ComesFrom query (n + 1) (CanBe query n) (slice_index (set path t u) (n + 1)) w) e c in
-              let f : ComesFrom query (t + 1) (IsLeft query dead t) cell w = (can_left query dead t w (omega (arith, l, within)) posed out d.0, subst (λ v. MayStep query (t + 1) w v) (sym ahead) d.1) in
+              let f : ComesFrom query (t + 1) (IsLeft query dead t) cell w = (can_left query dead t w (omega (arith, l, within)) earliest out d.0, subst (λ v. MayStep query (t + 1) w v) (sym ahead) d.1) in
               let least : u ≤ w = s.1 w f in
               subst (λ n. slice_index (set path t u) n ≤ w) (sym e) (subst (λ v. v ≤ w) (sym here) least)
 
@@ -90,47 +90,47 @@ module _ (query : Query) (end : ℕ) where
           pick (inr e) = let same : t ≡ k = ap (λ (p : ℕ × ℕ). p.1) e in omega (arith, same, m)
 
   -- the cell that was placed last is free, and one of the map's
-  pub placed_free : (dead : List (ℕ × ℕ)) (path : List ℕ) (t : ℕ) → t ≤ end → IsPosedBackwards query → IsPlaced query dead path t end → IsFree query.grid (slice_index path t)
+  pub placed_free : (dead : List (ℕ × ℕ)) (path : List ℕ) (t : ℕ) → t ≤ end → IsPosed query → IsPlaced query dead path t end → IsFree query.grid (slice_index path t)
   placed_free dead path t l posed h = go (cases_lt t end)
     where
       go : (t < end) ⊎ (end ≤ t) → IsFree query.grid (slice_index path t)
       go (inl m) = (h.steps t (omega arith) m).0.0
       go (inr m) = let e : end ≡ t = omega (arith, l, m) in subst (λ k. IsFree query.grid (slice_index path k)) e (subst (IsFree query.grid) (sym h.ends) posed.goal)
 
-  pub placed_inside : (dead : List (ℕ × ℕ)) (path : List ℕ) (t : ℕ) → t ≤ end → IsPosedBackwards query → IsPlaced query dead path t end → slice_index path t < cells query.grid
+  pub placed_inside : (dead : List (ℕ × ℕ)) (path : List ℕ) (t : ℕ) → t ≤ end → IsPosed query → IsPlaced query dead path t end → slice_index path t < cells query.grid
   placed_inside dead path t l posed h = free_below query.grid (slice_index path t) posed.sizes (placed_free dead path t l posed h)
 
   -- down to time 0 each cell can be reached
-  placed_can : (dead : List (ℕ × ℕ)) (path : List ℕ) → IsPosedBackwards query → IsPlaced query dead path 0 end → (t : ℕ) → t ≤ end → CanBe query t (slice_index path t)
-  placed_can dead path posed h zero l = (at_start (distance_at query.table (slice_index path 0)) refl (h.left 0 (omega arith) l).0, (h.left 0 (omega arith) l).1)
+  placed_can : (dead : List (ℕ × ℕ)) (path : List ℕ) → HasEarliest query → IsPlaced query dead path 0 end → (t : ℕ) → t ≤ end → CanBe query t (slice_index path t)
+  placed_can dead path earliest h zero l = (at_start (distance_at query.table (slice_index path 0)) refl (h.left 0 (omega arith) l).0, (h.left 0 (omega arith) l).1)
     where
       at_start : (o : Option ℕ) → distance_at query.table (slice_index path 0) ≡ o → MatchOption o ⊥ (λ n. n ≤ 0) → slice_index path 0 ≡ query.start
       at_start None e n = absurd n
-      at_start (Some n) e b = posed.earliest.at_start (slice_index path 0) (e ∙ ap Some (let z : n ≡ 0 = omega (arith, b) in z))
-  placed_can dead path posed h (suc t) l =
+      at_start (Some n) e b = earliest.at_start (slice_index path 0) (e ∙ ap Some (let z : n ≡ 0 = omega (arith, b) in z))
+  placed_can dead path earliest h (suc t) l =
       let n : t + 1 ≡ suc t = omega arith in
       let here : CanBe query (t + 1) (slice_index path (t + 1)) =
-      can_next query t (slice_index path t) (slice_index path (t + 1)) (h.left (t + 1) (omega arith) (omega (arith, l))).1 (placed_can dead path posed h t (omega (arith, l))) (h.steps t (omega arith) (omega (arith, l))) in
+      can_next query t (slice_index path t) (slice_index path (t + 1)) (h.left (t + 1) (omega arith) (omega (arith, l))).1 (placed_can dead path earliest h t (omega (arith, l))) (h.steps t (omega arith) (omega (arith, l))) in
       subst (λ k. CanBe query k (slice_index path k)) n here
 
   -- so the list is the least one
-  pub placed_all : (dead : List (ℕ × ℕ)) (path : List ℕ) → IsPosedBackwards query → IsPlaced query dead path 0 end → IsTraced query end (Some path)
-  placed_all dead path posed h = (
+  pub placed_all : (dead : List (ℕ × ℕ)) (path : List ℕ) → HasEarliest query → IsPlaced query dead path 0 end → IsTraced query end (Some path)
+  placed_all dead path earliest h = (
     record {
       long = h.long;
       ends = h.ends;
-      back = λ t l m. record { comes = (placed_can dead path posed h t (omega (arith, m)), h.steps t l m); smallest = h.smallest t l m };
+      back = λ t l m. record { comes = (placed_can dead path earliest h t (omega (arith, m)), h.steps t l m); smallest = h.smallest t l m };
     },
-    subst (CanBe query end) h.ends (placed_can dead path posed h end (omega arith)),
+    subst (CanBe query end) h.ends (placed_can dead path earliest h end (omega arith)),
   )
 
-module _ (query : Query) (dead : List (ℕ × ℕ)) (t cell : ℕ) (within : t ≤ query.limit) (posed : IsPosedBackwards query) (out : AreDead query dead)
+module _ (query : Query) (dead : List (ℕ × ℕ)) (t cell : ℕ) (within : t ≤ query.limit) (earliest : HasEarliest query) (out : AreDead query dead)
     (none : IsSmallest (ComesFrom query (t + 1) (IsLeft query dead t) cell) None) where
   -- where none is left before it, the cell can't be reached
   pub not_can : ¬ CanBe query (t + 1) cell
   not_can i =
       let b = can_before query t cell i in
-      none b.0 (can_left query dead t b.0 within posed out b.1.0, b.1.1)
+      none b.0 (can_left query dead t b.0 within earliest out b.1.0, b.1.1)
 
   -- so it is a dead end
   pub dead_more : (new : List (ℕ × ℕ)) → IsJoined (cell, t + 1) dead new → AreDead query new

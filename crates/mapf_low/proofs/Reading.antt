@@ -2,17 +2,16 @@
 use Rattle.std.proofs.Common.{◌≡◌, ◌≢◌, ℕ, zero, suc, ◌+◌, ◌<◌, ◌≤◌, List, get_or, slice_index, set, replicate, subst, subst₂, sym, ◌∙◌, arith}
 use Rattle.std.proofs.lemmas.List.{length-set, get_or-set_other, get_or-set_same, length-replicate, get_or-replicate, get_or_default}
 use native.Mathlib.Decide.{ℕ_discrete}
-use Rattle.mapf_grid.specs.Grid.{IsFree, cells}
+use Rattle.mapf_grid.specs.Grid.{IsFree}
 use Rattle.mapf_grid.proofs.Decide.{by_cases}
 use Rattle.mapf_low.specs.Query.{Query}
 use Rattle.mapf_low.specs.Reached.{AreLinked, ComesFrom, IsSmallestBefore, IsReconstructed}
-use Rattle.mapf_low.proofs.Places.{free_below}
 use Rattle.mapf_low.proofs.FirstArrival.{Setting}
 
--- each cell that is reached is a free one of the map, and was entered from one that was reached before
+-- each cell that is reached is free, and was entered from one that was reached before
 pub are_linked : (query : Query) (limit : ℕ) (At : ℕ → ℕ → Type 0) (count end : ℕ) → Setting query limit At count → end < count → AreLinked query At end
 are_linked query limit At count end s inside = record {
-  places = λ t v l i. (free t v l i, free_below query.grid v s.posed.sizes (free t v l i));
+  free = free;
   linked = λ t v l i. ((s.reached_are.next t (omega (arith, l, inside)) v).0 i).1;
 }
   where
@@ -69,10 +68,10 @@ module _ (query : Query) (At : ℕ → ℕ → Type 0) where
       there : At t (slice_index (set path t u) t)
       there = subst (λ v. At t v) (sym (get_or-set_same path t u 0 (omega (arith, l, h.long)))) here.comes.0
 
-  -- the cell that was read last is free, in the map, and may be entered from one that was reached before
+  -- the cell that was read last is free, and may be entered from one that was reached before
   pub read_needs : (path : List ℕ) (t end cell : ℕ) → AreLinked query At end → t < end → IsReconstructed query At path (t + 1) end → At (t + 1) (slice_index path (t + 1)) →
-      cell ≡ get_or path (t + 1) cell → (IsFree query.grid cell × (cell < cells query.grid)) × ((u : ℕ) × ComesFrom query (t + 1) (At t) cell u)
-  read_needs path t end cell linked l h i at = (linked.places (t + 1) cell (omega (arith, l)) inside, linked.linked t cell l inside)
+      cell ≡ get_or path (t + 1) cell → IsFree query.grid cell × ((u : ℕ) × ComesFrom query (t + 1) (At t) cell u)
+  read_needs path t end cell linked l h i at = (linked.free (t + 1) cell (omega (arith, l)) inside, linked.linked t cell l inside)
     where
       inside : At (t + 1) cell
       inside = subst (λ v. At (t + 1) v) (sym (at ∙ get_or_default path (t + 1) cell 0 (omega (arith, l, h.long)))) i

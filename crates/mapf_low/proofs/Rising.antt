@@ -84,15 +84,15 @@ not_pushed E old to n v = (inl, back)
     back (inl i) = i
     back (inr (e, t)) = absurd (n (subst E (sym e) t))
 
--- the free sides and the cell itself are where a step may lead
-pub all_ways : (g : Grid) (cell : ℕ) (sides found : List ℕ) → IsFree g cell → ((v : ℕ) → Contains sides v ↔ (IsFree g v × IsBeside g cell v)) → found ≡ sides ++ cell ∷ [] → (v : ℕ) → Contains found v ↔ Next g cell v
-all_ways g cell sides found free h e v = (λ i. to ((members_push sides cell v).0 (subst (λ xs. Contains xs v) e i)), λ n. subst (λ xs. Contains xs v) (sym e) ((members_push sides cell v).1 (from n)))
+-- the free neighbours and the cell itself are where a step may lead
+pub all_ways : (g : Grid) (cell : ℕ) (neighbours found : List ℕ) → IsFree g cell → ((v : ℕ) → Contains neighbours v ↔ (IsFree g v × IsBeside g cell v)) → found ≡ neighbours ++ cell ∷ [] → (v : ℕ) → Contains found v ↔ Next g cell v
+all_ways g cell neighbours found free h e v = (λ i. to ((members_push neighbours cell v).0 (subst (λ xs. Contains xs v) e i)), λ n. subst (λ xs. Contains xs v) (sym e) ((members_push neighbours cell v).1 (from n)))
   where
-    to : Contains sides v ⊎ (cell ≡ v) → Next g cell v
+    to : Contains neighbours v ⊎ (cell ≡ v) → Next g cell v
     to (inl i) = let p = (h v).0 i in (free, p.0, inr p.1)
     to (inr s) = (free, subst (IsFree g) s free, inl s)
 
-    from : Next g cell v → Contains sides v ⊎ (cell ≡ v)
+    from : Next g cell v → Contains neighbours v ⊎ (cell ≡ v)
     from (f, fv, inl s) = inr s
     from (f, fv, inr b) = inl ((h v).1 (fv, b))
 
@@ -106,25 +106,25 @@ met_before query time P cell items k o e steps_from h =
       (λ m. (m.1.0, (Next_back query.grid cell u ((steps_from u).0 ((all_in_front items k u e).0 m.0)), m.1.1))),
     ))
 
--- what was added from a free cell and its sides
-pub expanded_is : (query : Query) (time from : ℕ) (sides old mid new : List ℕ) → IsFree query.grid from → ((v : ℕ) → Contains sides v ↔ (IsFree query.grid v × IsBeside query.grid from v)) →
-    ((v : ℕ) → Contains mid v ↔ (Contains old v ⊎ ((from ≡ v) × MayEnter query time from v))) → Grown (λ v. MayEnter query time from v) sides mid new →
+-- what was added from a free cell and its neighbours
+pub expanded_is : (query : Query) (time from : ℕ) (neighbours old mid new : List ℕ) → IsFree query.grid from → ((v : ℕ) → Contains neighbours v ↔ (IsFree query.grid v × IsBeside query.grid from v)) →
+    ((v : ℕ) → Contains mid v ↔ (Contains old v ⊎ ((from ≡ v) × MayEnter query time from v))) → Grown (λ v. MayEnter query time from v) neighbours mid new →
     (v : ℕ) → Contains new v ↔ (Contains old v ⊎ (IsUsable query query.limit time v × MayStep query time from v))
-expanded_is query time from sides old mid new free beside waits h v = (λ i. to ((h v).0 i), λ p. (h v).1 (back p))
+expanded_is query time from neighbours old mid new free beside waits h v = (λ i. to ((h v).0 i), λ p. (h v).1 (back p))
   where
     stays : Contains old v ⊎ ((from ≡ v) × MayEnter query time from v) → Contains old v ⊎ (IsUsable query query.limit time v × MayStep query time from v)
     stays (inl i) = inl i
     stays (inr p) = inr (p.1.0, ((free, subst (IsFree query.grid) p.0 free, inl p.0), p.1.1))
 
-    to : Contains mid v ⊎ (Contains sides v × MayEnter query time from v) → Contains old v ⊎ (IsUsable query query.limit time v × MayStep query time from v)
+    to : Contains mid v ⊎ (Contains neighbours v × MayEnter query time from v) → Contains old v ⊎ (IsUsable query query.limit time v × MayStep query time from v)
     to (inl i) = stays ((waits v).0 i)
-    to (inr p) = let side = (beside v).0 p.0 in inr (p.1.0, ((free, side.0, inr side.1), p.1.1))
+    to (inr p) = let neighbour = (beside v).0 p.0 in inr (p.1.0, ((free, neighbour.0, inr neighbour.1), p.1.1))
 
-    steps : IsUsable query query.limit time v → Next query.grid from v → (¬ Contains query.constraints (Edge from v time)) → Contains mid v ⊎ (Contains sides v × MayEnter query time from v)
+    steps : IsUsable query query.limit time v → Next query.grid from v → (¬ Contains query.constraints (Edge from v time)) → Contains mid v ⊎ (Contains neighbours v × MayEnter query time from v)
     steps o (f, fv, inl e) n = inl ((waits v).1 (inr (e, (o, n))))
     steps o (f, fv, inr b) n = inr ((beside v).1 (fv, b), (o, n))
 
-    back : Contains old v ⊎ (IsUsable query query.limit time v × MayStep query time from v) → Contains mid v ⊎ (Contains sides v × MayEnter query time from v)
+    back : Contains old v ⊎ (IsUsable query query.limit time v × MayStep query time from v) → Contains mid v ⊎ (Contains neighbours v × MayEnter query time from v)
     back (inl i) = inl ((waits v).1 (inl i))
     back (inr p) = steps p.0 p.1.0 p.1.1
 

@@ -7,7 +7,7 @@ use Rattle.std.proofs.lemmas.List.{take_all, get_or-take}
 use Rattle.std.proofs.lemmas.List.Quantifiers.{all_pairs_push}
 use Rattle.std.proofs.lemmas.Map.Keys.{apart_from_distinct}
 use Rattle.mapf_plan.specs.Path.{cost, at}
-use Rattle.mapf_low.specs.Query.{Query, IsPosed, IsFound}
+use Rattle.mapf_low.specs.Query.{Query, IsPosed, HasDistances, IsFound}
 use Rattle.mapf_low.specs.Constraints.{IsAllowed}
 use Rattle.mapf_low.specs.OwnPath.{IsOwnPath}
 use Rattle.mapf_low.specs.Walk.{distance_at}
@@ -119,9 +119,9 @@ module _ (table : List (Option ℕ)) (nearest : ℕ) (classes : List (List ℕ))
 
 -- the states of all classes are those that the search takes
 pub all_taken : (query : Query) (nearest : ℕ) (classes : List (List ℕ)) (end : Option ℕ) (found : Option (List ℕ)) (states : List (ℕ × ℕ)) (count : ℕ) →
-    IsPosed query query.goal → IsSearched query nearest classes end → IsFound query found → end ≡ option_map cost found →
+    IsPosed query → HasDistances query → IsSearched query nearest classes end → IsFound query found → end ≡ option_map cost found →
     count ≡ length classes → ListsFirst query.table nearest classes count states → AreTakenBy query states
-all_taken query nearest classes end found states count posed searched own ends whole h =
+all_taken query nearest classes end found states count posed distances searched own ends whole h =
     record { once = h.once; near = near; near_where_none = near_where_none; path = path }
   where
     within : (s : ℕ × ℕ) → Contains states s → HasSum query.table (λ m. m ≤ unwrap_or end query.limit) s
@@ -163,7 +163,7 @@ all_taken query nearest classes end found states count posed searched own ends w
     path : (p : List ℕ) → IsOwnPath query.grid query.start query.goal query.limit query.constraints p → (t : ℕ) → t ≤ cost p → Contains states (at p t, t)
     path p mine t l =
         let allowed : IsAllowed query.grid query.start query.goal (unwrap_or end query.limit) query.constraints p = record { path = mine.member.path; within = omega (arith, limit_cost p mine); obeys = mine.member.obeys } in
-        listed t (at p t) (reached query (unwrap_or end query.limit) (InClasses query nearest classes) (cost p + 1) (setting query nearest classes posed end searched (cost p + 1)) p allowed t l (omega (arith, l)))
+        listed t (at p t) (reached query (unwrap_or end query.limit) (InClasses query nearest classes) (cost p + 1) (setting query nearest classes posed distances end searched (cost p + 1)) p allowed t l (omega (arith, l)))
 
 -- where there is no path, none need be taken
 pub none_taken : (query : Query) (states : List (ℕ × ℕ)) → states ≡ [] → ((p : List ℕ) → ¬ IsAllowed query.grid query.start query.goal query.limit query.constraints p) → AreTakenBy query states

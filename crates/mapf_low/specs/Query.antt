@@ -1,5 +1,5 @@
 -- What the low-level search is asked (Sharon et al. 2015: the low level finds a path for one agent under its constraints).
-use Rattle.std.specs.Prelude.{ℕ, ◌≤◌, List, Option, MatchOption, All, Contains}
+use Rattle.std.specs.Prelude.{ℕ, ◌+◌, ◌≤◌, List, Bool, Option, MatchOption, All, Contains}
 use Rattle.mapf_grid.specs.Grid.{Grid, IsFree, HasSizes}
 use Rattle.mapf_low.specs.declared.constraint.Constraint.{Constraint}
 use Rattle.mapf_low.specs.declared.constraint.Constraint.TheVariants.{Vertex}
@@ -7,6 +7,7 @@ use Rattle.mapf_low.specs.Best.{IsGreatest}
 use Rattle.mapf_low.specs.Constraints.{IsAllowed}
 use Rattle.mapf_low.specs.OwnPath.{IsOwnPath}
 use Rattle.mapf_low.specs.Kept.{HasTwoEnds}
+use Rattle.mapf_low.specs.Times.{AreMarked}
 use Rattle.mapf_low.specs.Walk.{AreDistances}
 use Rattle.mapf_plan.specs.Plan.{most_bound}
 
@@ -19,12 +20,11 @@ pub record Query : Type 0 where
   pub goal : ℕ
   pub limit : ℕ
 
--- start and goal are free, and the table has the distances to this cell, the goal or the start
-pub record IsPosed (query : Query) (cell : ℕ) : Type 0 where
+-- start and goal are free, each edge constraint has two ends, and the limit is not too large
+pub record IsPosed (query : Query) : Type 0 where
   pub sizes : HasSizes query.grid
   pub start : IsFree query.grid query.start
   pub goal : IsFree query.grid query.goal
-  pub distances : AreDistances query.grid cell query.table
   pub ends : All HasTwoEnds query.constraints
   pub limit : query.limit ≤ most_bound
 
@@ -32,10 +32,15 @@ pub record IsPosed (query : Query) (cell : ℕ) : Type 0 where
 abbrev pub MayEnd : Query → ℕ → Type 0
 MayEnd query t = (s : ℕ) → t ≤ s → ¬ Contains query.constraints (Vertex query.goal s)
 
--- it is posed, and the last time at which the goal is forbidden is known
-pub record IsPrepared (query : Query) (cell : ℕ) (last : Option ℕ) : Type 0 where
-  pub posed : IsPosed query cell
+-- it is posed, and it is known when the goal is last forbidden, and which times have constraints
+pub record IsPrepared (query : Query) (last : Option ℕ) (marks : List Bool) : Type 0 where
+  pub posed : IsPosed query
   pub last_is : IsGreatest (λ t. Contains query.constraints (Vertex query.goal t)) last
+  pub marked : AreMarked query.constraints (query.limit + 1) marks
+
+-- the table has the distances to the goal
+abbrev pub HasDistances : Query → Type 0
+HasDistances query = AreDistances query.grid query.goal query.table
 
 -- the agent's own path; none exactly where there is no path that it may take
 abbrev pub IsFound : Query → Option (List ℕ) → Type 0

@@ -1,7 +1,7 @@
 -- Where an agent may be at each time step, as far as it can still reach its goal by a limit; and a path that is read
 -- backwards through that.
 use Rattle.std.specs.Prelude.{◌≡◌, ℕ, ◌+◌, ◌<◌, ◌≤◌, ◌↔◌, List, length, slice_index, slice_index_or, None, MatchOption, Contains}
-use Rattle.mapf_grid.specs.Grid.{IsFree, Next, cells}
+use Rattle.mapf_grid.specs.Grid.{IsFree, Next}
 use Rattle.mapf_low.specs.declared.constraint.Constraint.TheVariants.{Vertex, Edge}
 use Rattle.mapf_low.specs.Query.{Query, MayEnd}
 
@@ -40,7 +40,7 @@ pub record IsReconstructed (query : Query) (At : ℕ → ℕ → Type 0) (path :
   pub back : (t : ℕ) → from ≤ t → t < end →
       IsSmallestBefore query (t + 1) (At t) (slice_index path (t + 1)) (slice_index path t)
 
--- up to this time each cell is a free one of the map, and each later one may be entered from an earlier one
+-- up to this time each cell is free, and each later one may be entered from an earlier one
 pub record AreLinked (query : Query) (At : ℕ → ℕ → Type 0) (end : ℕ) : Type 0 where
-  pub places : (t v : ℕ) → t ≤ end → At t v → IsFree query.grid v × (v < cells query.grid)
+  pub free : (t v : ℕ) → t ≤ end → At t v → IsFree query.grid v
   pub linked : (t v : ℕ) → t < end → At (t + 1) v → (u : ℕ) × ComesFrom query (t + 1) (At t) v u

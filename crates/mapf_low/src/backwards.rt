@@ -2,15 +2,16 @@ ghost use Rattle.std.specs.Prelude.{◌≡◌, ℕ, ◌≤◌, List, IfOk, OnOk,
 ghost use Rattle.mapf_grid.specs.Grid.{IsFree};
 ghost use Rattle.mapf_low.specs.Backwards.{IsLeft, AreDead, IsTraced, HasNoneBefore};
 ghost use Rattle.mapf_low.specs.Constraints.{IsAllowed};
+ghost use Rattle.mapf_low.specs.Earliest.{HasEarliest};
 ghost use Rattle.mapf_low.specs.OwnPath.{IsOwnPath};
 ghost use Rattle.mapf_low.specs.Query.{IsFound};
 ghost use Rattle.mapf_low.specs.Walk.{AreDistances};
 ghost use Rattle.mapf_plan.specs.Path.{cost};
 ghost use Rattle.mapf_plan.specs.Plan.{most_bound};
 
-use crate::backward_query::BackwardQuery;
 use crate::dead_ends::DeadEnds;
 use crate::earliest::earliest_arrivals;
+use crate::query::{Query, Trip};
 use crate::{Constraints, Distances};
 use mapf_grid::{Cell, Map, NoMemory};
 use mapf_plan::Path;
@@ -25,7 +26,7 @@ use std::mem::replace;
 /// it is kept for the next cost, or goes out with the path.
 fn trace(
     alloc: Global,
-    query: &BackwardQuery,
+    query: &Query,
     end: u32,
     dead: &mut DeadEnds,
     cells: &mut Vec<Cell>,
@@ -33,6 +34,7 @@ fn trace(
     requires end { end ≤ query.now.limit }
     requires left { IsLeft query.now dead.old.states end query.now.goal }
     requires dead { AreDead query.now dead.old.states }
+    requires earliest { HasEarliest query.now }
     ensures path { IfOk result (λ answer. IfSome answer (IsTraced query.now end)) }
     ensures dead { OnOk result (AreDead query.now dead.new.states) }
 {
@@ -69,11 +71,12 @@ fn trace(
 /// leads to the goal, and may end there. `None`, if more than `budget` dead ends were met.
 fn first_traced(
     alloc: Global,
-    query: &BackwardQuery,
+    query: &Query,
     first: u32,
     budget: usize,
 ) -> Result<Option<Option<Path>>, NoMemory>
-    requires { HasNoneBefore query.now first }
+    requires before { HasNoneBefore query.now first }
+    requires earliest { HasEarliest query.now }
     ensures { IfOk result (λ answer. IfSome answer (IsFound query.now)) }
 {
     let goal = query.goal();
@@ -96,14 +99,16 @@ fn first_traced(
 /// dead ends were met.
 fn own_path(
     alloc: Global,
-    query: &BackwardQuery,
+    query: &Query,
     least: u32,
     budget: usize,
 ) -> Result<Option<Option<Path>>, NoMemory>
-    requires { (p : List ℕ) → IsAllowed query.now.grid query.now.start query.now.goal query.now.limit query.now.constraints p → least ≤ cost p }
+    requires least { (p : List ℕ) → IsAllowed query.now.grid query.now.start query.now.goal query.now.limit
+        query.now.constraints p → least ≤ cost p }
+    requires earliest { HasEarliest query.now }
     ensures { IfOk result (λ answer. IfSome answer (IsFound query.now)) }
 {
-    match query.earliest(query.goal()) {
+    match query.entry(query.goal()) {
         Some(earliest) => first_traced(alloc, query, least.max(earliest), budget),
         None => Ok(Some(None)),
     }
@@ -139,19 +144,12 @@ pub fn cheapest_backwards(
 {
     // A map's sizes are known from a call alone.
     let _width = map.width();
-    let by_distance = BackwardQuery::new(
-        alloc,
-        map,
-        from_start.table(),
-        start,
-        goal,
-        constraints,
-        bound,
-    )?;
+    let trip = Trip { start, goal };
+    let by_distance = Query::new(alloc, map, from_start.table(), &trip, constraints, bound)?;
     if let Some(answer) = own_path(alloc, &by_distance, least, budget)? {
         return Ok(Some(answer));
     }
     let arrivals = earliest_arrivals(alloc, &by_distance)?;
-    let by_arrival = BackwardQuery::new(alloc, map, &arrivals, start, goal, constraints, bound)?;
+    let by_arrival = Query::new(alloc, map, &arrivals, &trip, constraints, bound)?;
     own_path(alloc, &by_arrival, least, budget)
 }

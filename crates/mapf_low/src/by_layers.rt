@@ -1,5 +1,5 @@
 ghost use Rattle.std.specs.Prelude.{◌↔◌, IsTrue, IfOk, Contains};
-ghost use Rattle.mapf_low.specs.Query.{MayEnd, IsFound};
+ghost use Rattle.mapf_low.specs.Query.{HasDistances, MayEnd, IsFound};
 
 use crate::layer::Layer;
 use crate::layers::{first_layer, next_layer};
@@ -18,6 +18,7 @@ fn ends_in(query: &Query, layer: &Layer, time: u32) -> bool
 
 /// An agent's own path, found by layers over time and read backwards from the first arrival.
 pub fn by_layers(alloc: Global, query: &Query) -> Result<Option<Path>, NoMemory>
+    requires { HasDistances query.now }
     ensures { IfOk result (IsFound query.now) }
 {
     let limit = query.limit();

@@ -3,7 +3,7 @@ ghost use Rattle.mapf_grid.specs.Grid.{IsFree};
 ghost use Rattle.mapf_low.specs.Earliest.{AreEarliest, MayGo, HasEntry, Advances, IsLookedAt, IsAdvanced};
 ghost use Rattle.mapf_plan.specs.Plan.{most_bound};
 
-use crate::backward_query::BackwardQuery;
+use crate::query::Query;
 use crate::table::Table;
 use mapf_grid::{Cell, NoMemory};
 use std::alloc::Global;
@@ -12,9 +12,9 @@ use std::mem::swap;
 /// For each cell a time step before which the agent can't be there, under the constraints of the query; none, if it can't be
 /// there by the limit. The table of the query is not read.
 ///
-/// Time step by time step the agent goes on from the cells that it may have reached to their sides. A cell that was reached
+/// Time step by time step the agent goes on from the cells that it may have reached to their neighbours. A cell that was reached
 /// counts as reached for good, though it may be forbidden later, so an entry may be too low.
-pub fn earliest_arrivals(alloc: Global, query: &BackwardQuery) -> Result<Table, NoMemory>
+pub fn earliest_arrivals(alloc: Global, query: &Query) -> Result<Table, NoMemory>
     ensures { IfOk result (AreEarliest query.now) }
 {
     let mut table = Table::none(alloc, query.cells())?;
@@ -33,7 +33,7 @@ pub fn earliest_arrivals(alloc: Global, query: &BackwardQuery) -> Result<Table, 
 }
 
 /// Gives the start the time step 0, if it isn't forbidden then.
-fn begin(query: &BackwardQuery, table: &mut Table, frontier: &mut Vec<Cell>) -> Result<(), NoMemory>
+fn begin(query: &Query, table: &mut Table, frontier: &mut Vec<Cell>) -> Result<(), NoMemory>
     requires table { table.old ≡ replicate (length query.now.grid.free) None }
     requires frontier { frontier.old.items ≡ [] }
     ensures { OnOk result (IsAdvanced query.now 0 table.new frontier.new.items) }
@@ -48,7 +48,7 @@ fn begin(query: &BackwardQuery, table: &mut Table, frontier: &mut Vec<Cell>) -> 
 
 /// Goes on from each cell of the frontier, where the agent may be at this time step; `next` are the cells to go on from then.
 fn advance(
-    query: &BackwardQuery,
+    query: &Query,
     frontier: &[Cell],
     time: u32,
     table: &mut Table,
@@ -66,10 +66,10 @@ fn advance(
     Ok(())
 }
 
-/// Goes on from a cell, where the agent may be at this time step, to its sides. If not all of them have an entry then, it is to
+/// Goes on from a cell, where the agent may be at this time step, to its neighbours. If not all of them have an entry then, it is to
 /// be gone on from once more.
 fn advance_from(
-    query: &BackwardQuery,
+    query: &Query,
     from: Cell,
     time: u32,
     table: &mut Table,
@@ -82,7 +82,7 @@ fn advance_from(
     ensures looked_at { OnOk result (IsLookedAt query.now time table.new next.new.items from) }
 {
     let mut all_entered = true;
-    for to in query.sides(from).as_slice() {
+    for to in query.neighbours(from).as_slice() {
         all_entered &= enter(query, from, *to, time, table, next)?;
     }
     if !all_entered {
@@ -94,7 +94,7 @@ fn advance_from(
 /// Gives a cell that has no entry the time step after this one, if the agent may go there from `from`. Tells whether the cell
 /// has an entry then.
 fn enter(
-    query: &BackwardQuery,
+    query: &Query,
     from: Cell,
     to: Cell,
     time: u32,

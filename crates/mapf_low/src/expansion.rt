@@ -1,5 +1,5 @@
-ghost use Rattle.std.specs.Prelude.{◌≡◌, ◌⊎◌, ◌↔◌, ℕ, ◌+◌, ◌<◌, ◌≤◌, IsTrue, Some, OnOk, Contains};
-ghost use Rattle.mapf_grid.specs.Grid.{cells, IsFree};
+ghost use Rattle.std.specs.Prelude.{◌≡◌, ◌↔◌, ℕ, ◌+◌, ◌≤◌, IsTrue, Some, OnOk, Contains};
+ghost use Rattle.mapf_grid.specs.Grid.{IsFree};
 ghost use Rattle.mapf_low.specs.Walk.{distance_at};
 ghost use Rattle.mapf_low.specs.Query.{IsPosed};
 ghost use Rattle.mapf_low.specs.Classes.{Grows, IsWithin, Admits, Leads, SomeLeads, Closes, ArePlaced};
@@ -14,7 +14,7 @@ use mapf_grid::{Cell, NoMemory};
 pub fn is_at(query: &Query, cell: Cell, far: u32) -> bool
     ensures { IsTrue result ↔ (distance_at query.now.table cell ≡ Some far) }
 {
-    match query.distance(cell) {
+    match query.entry(cell) {
         Some(distance) => distance == far,
         None => false,
     }
@@ -40,20 +40,20 @@ fn generate(
     Ok(())
 }
 
-/// The same of all sides of a cell.
+/// The same of all neighbours of a cell.
 #[inline]
 fn generate_all(
     query: &Query,
     from: Cell,
-    sides: &[Cell],
+    neighbours: &[Cell],
     time: u32,
     far: u32,
     class: &mut Class,
 ) -> Result<(), NoMemory>
     requires { time ≤ query.now.limit + 1 }
-    ensures { OnOk result (Grows (λ v. Contains sides.now v × Admits query.now time far from v) class.old class.new) }
+    ensures { OnOk result (Grows (λ v. Contains neighbours.now v × Admits query.now time far from v) class.old class.new) }
 {
-    for to in sides {
+    for to in neighbours {
         generate(query, from, *to, time, far, class)?;
     }
     Ok(())
@@ -63,31 +63,24 @@ fn generate_all(
 #[inline]
 fn expand_within(query: &Query, sum: u32, from: Cell, class: &mut Class) -> Result<(), NoMemory>
     requires free { IsFree query.now.grid from }
-    requires inside { from < cells query.now.grid }
     requires near { IsWithin query.now sum from }
     requires sum { sum ≤ query.now.limit }
     ensures { OnOk result (Grows (Leads query.now sum 0 from) class.old class.new) }
 {
-    let near = query.distance(from).unwrap();
+    let near = query.entry(from).unwrap();
     if near == 0 {
         return Ok(());
     }
-    // A wait doesn't bring the goal nearer, so the sides are all.
-    let sides = query.sides(from);
-    generate_all(
-        query,
-        from,
-        sides.as_slice(),
-        sum - near + 1,
-        near - 1,
-        class,
-    )?;
+    // A wait doesn't bring the goal nearer, so the neighbours are all.
+    let time = sum - near + 1;
+    let around = query.neighbours(from);
+    generate_all(query, from, around.as_slice(), time, near - 1, class)?;
     Ok(())
 }
 
 /// Empties a class: expands all its states within it.
 pub fn expand_class(query: &Query, sum: u32, class: &mut Class) -> Result<(), NoMemory>
-    requires posed { IsPosed query.now query.now.goal }
+    requires posed { IsPosed query.now }
     requires placed { ArePlaced query.now sum class.old }
     requires sum { sum ≤ query.now.limit }
     ensures closes { OnOk result (Closes query.now sum class.old class.new) }
@@ -102,51 +95,6 @@ pub fn expand_class(query: &Query, sum: u32, class: &mut Class) -> Result<(), No
     Ok(())
 }
 
-/// Generates a state of a later class: adds a cell to the next one or to the one after, if it is as far from the goal as
-/// `near` or one farther, and nothing forbids to arrive on it at this time step.
-#[inline]
-fn generate_later(
-    query: &Query,
-    from: Cell,
-    to: Cell,
-    time: u32,
-    near: u32,
-    next: &mut Class,
-    after: &mut Class,
-) -> Result<(), NoMemory>
-    requires time { time ≤ query.now.limit + 1 }
-    requires small { near ≤ most_bound }
-    ensures next { OnOk result (Grows (λ v. (to ≡ v) × Admits query.now time near from v) next.old next.new) }
-    ensures after { OnOk result (Grows (λ v. (to ≡ v) × Admits query.now time (near + 1) from v) after.old after.new) }
-{
-    generate(query, from, to, time, near, next)?;
-    generate(query, from, to, time, near + 1, after)?;
-    Ok(())
-}
-
-/// The same of a cell itself and of its sides.
-#[inline]
-fn generate_all_later(
-    query: &Query,
-    from: Cell,
-    sides: &[Cell],
-    time: u32,
-    near: u32,
-    next: &mut Class,
-    after: &mut Class,
-) -> Result<(), NoMemory>
-    requires time { time ≤ query.now.limit + 1 }
-    requires small { near ≤ most_bound }
-    ensures next { OnOk result (Grows (λ v. ((from ≡ v) ⊎ Contains sides.now v) × Admits query.now time near from v) next.old next.new) }
-    ensures after { OnOk result (Grows (λ v. ((from ≡ v) ⊎ Contains sides.now v) × Admits query.now time (near + 1) from v) after.old after.new) }
-{
-    generate_later(query, from, from, time, near, next, after)?;
-    for to in sides {
-        generate_later(query, from, *to, time, near, next, after)?;
-    }
-    Ok(())
-}
-
 /// Expands a state beyond its class: adds the cells that it leads to with a sum that is higher by one or by two.
 #[inline]
 fn expand_beyond(
@@ -157,24 +105,20 @@ fn expand_beyond(
     after: &mut Class,
 ) -> Result<(), NoMemory>
     requires free { IsFree query.now.grid from }
-    requires inside { from < cells query.now.grid }
     requires near { IsWithin query.now sum from }
     requires sum { sum ≤ query.now.limit }
     requires small { sum ≤ most_bound }
     ensures next { OnOk result (Grows (Leads query.now sum 1 from) next.old next.new) }
     ensures after { OnOk result (Grows (Leads query.now sum 2 from) after.old after.new) }
 {
-    let near = query.distance(from).unwrap();
-    let sides = query.sides(from);
-    generate_all_later(
-        query,
-        from,
-        sides.as_slice(),
-        sum - near + 1,
-        near,
-        next,
-        after,
-    )?;
+    let near = query.entry(from).unwrap();
+    let time = sum - near + 1;
+    let around = query.neighbours(from);
+    let neighbours = around.as_slice();
+    generate(query, from, from, time, near, next)?;
+    generate_all(query, from, neighbours, time, near, next)?;
+    // A wait doesn't take the goal farther away, so the neighbours are all.
+    generate_all(query, from, neighbours, time, near + 1, after)?;
     Ok(())
 }
 

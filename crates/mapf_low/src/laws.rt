@@ -10,7 +10,7 @@ ghost use Rattle.mapf_low.specs.OwnPath.{IsOwnPath, OrderIsByLast, OwnPathExists
 ghost use Rattle.mapf_plan.specs.Plan.{most_bound};
 
 use crate::by_layers::by_layers;
-use crate::query::Query;
+use crate::query::{Query, Trip};
 use crate::taken::taken_by;
 use crate::{Constraints, Distances};
 use mapf_grid::{Cell, Map, NoMemory};
@@ -46,18 +46,20 @@ pub fn cheapest_by_layers(
         ((p : List ℕ) → ¬ IsAllowed map.now start goal bound constraints.now p)
         (IsOwnPath map.now start goal bound constraints.now)) }
 {
+    let trip = Trip { start, goal };
+    let table = distances.table();
     // A low limit keeps the layers small. The own path within one limit is that within every higher one.
     let nearest = distances.get(start).unwrap_or(bound).min(bound);
     let mut limit = nearest;
     while limit < bound {
-        let query = Query::new(alloc, map, distances, start, goal, constraints, limit)?;
+        let query = Query::new(alloc, map, table, &trip, constraints, limit)?;
         let found = by_layers(alloc, &query)?;
         if found.is_some() {
             return Ok(found);
         }
         limit = bound.min(2 * limit - nearest + 1);
     }
-    let query = Query::new(alloc, map, distances, start, goal, constraints, bound)?;
+    let query = Query::new(alloc, map, table, &trip, constraints, bound)?;
     by_layers(alloc, &query)
 }
 
@@ -79,6 +81,7 @@ pub fn taken(
     requires bound { bound ≤ most_bound }
     ensures { IfOk result (λ states. AreTaken map.now distances.now start goal bound constraints.now states.items) }
 {
-    let query = Query::new(alloc, map, distances, start, goal, constraints, bound)?;
+    let trip = Trip { start, goal };
+    let query = Query::new(alloc, map, distances.table(), &trip, constraints, bound)?;
     taken_by(alloc, &query)
 }

@@ -1,5 +1,5 @@
-ghost use Rattle.std.specs.Prelude.{◌≡◌, ◌⊎◌, ◌↔◌, ℕ, ◌<◌, IfOk, OnOk, Contains};
-ghost use Rattle.mapf_grid.specs.Grid.{cells, IsFree};
+ghost use Rattle.std.specs.Prelude.{◌≡◌, ◌⊎◌, ◌↔◌, ℕ, IfOk, OnOk, Contains};
+ghost use Rattle.mapf_grid.specs.Grid.{IsFree};
 ghost use Rattle.mapf_low.specs.Layers.{MayEnter, IsFirstLayer, IsNextLayer, InLayers};
 ghost use Rattle.mapf_low.specs.Reached.{IsUsable, MayStep};
 
@@ -28,13 +28,12 @@ fn generate(
 
 /// Adds the cells that the agent may enter from this cell at this time step.
 fn expand(query: &Query, from: Cell, time: u32, reached: &mut Vec<Cell>) -> Result<(), NoMemory>
-    requires free { IsFree query.now.grid from }
-    requires inside { from < cells query.now.grid }
+    requires { IsFree query.now.grid from }
     ensures { OnOk result ((v : ℕ) → Contains reached.new.items v
         ↔ (Contains reached.old.items v ⊎ (IsUsable query.now query.now.limit time v × MayStep query.now time from v))) }
 {
     generate(query, from, from, time, reached)?;
-    for to in query.sides(from).as_slice() {
+    for to in query.neighbours(from).as_slice() {
         generate(query, from, *to, time, reached)?;
     }
     Ok(())
@@ -54,7 +53,7 @@ pub fn first_layer(alloc: Global, query: &Query) -> Result<Layer, NoMemory>
 
 /// The layer at this time step, from that of the time step before.
 pub fn next_layer(alloc: Global, query: &Query, layer: &Layer, time: u32) -> Result<Layer, NoMemory>
-    requires { (v : ℕ) → Contains layer.now v → IsFree query.now.grid v × (v < cells query.now.grid) }
+    requires { (v : ℕ) → Contains layer.now v → IsFree query.now.grid v }
     ensures { IfOk result (IsNextLayer query.now time layer.now) }
 {
     let mut reached = Vec::with_capacity(alloc, 2 * layer.cells().len())?;

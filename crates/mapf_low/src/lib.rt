@@ -1,7 +1,6 @@
 //! Distances, constraints, and one agent's cheapest path under constraints.
 #![tactic(auto)]
 
-mod backward_query;
 mod backwards;
 mod busy;
 mod by_layers;
@@ -23,7 +22,6 @@ mod query;
 mod reached;
 mod reconstruction;
 mod search;
-mod state_table;
 mod states;
 mod table;
 mod taken;

@@ -3,7 +3,7 @@ ghost use Rattle.std.specs.Option.{option_map};
 ghost use Rattle.mapf_grid.specs.Grid.{IsFree};
 ghost use Rattle.mapf_low.specs.Walk.{AreDistances};
 ghost use Rattle.mapf_plan.specs.Path.{cost};
-ghost use Rattle.mapf_low.specs.Query.{IsFound};
+ghost use Rattle.mapf_low.specs.Query.{HasDistances, IsFound};
 ghost use Rattle.mapf_low.specs.Classes.{IsSearched, InClasses};
 ghost use Rattle.mapf_low.specs.Reached.{AreLinked, IsReconstructed};
 ghost use Rattle.mapf_low.specs.Constraints.{IsAllowed};
@@ -11,7 +11,7 @@ ghost use Rattle.mapf_low.specs.OwnPath.{IsOwnPath};
 ghost use Rattle.mapf_plan.specs.Plan.{most_bound};
 
 use crate::chain::is_chain;
-use crate::query::Query;
+use crate::query::{Query, Trip};
 use crate::reconstruction::reconstruct_path;
 use crate::search::{Searched, search};
 use crate::states::States;
@@ -39,6 +39,7 @@ fn read_path(alloc: Global, query: &Query, searched: &Searched, end: u32) -> Res
 
 /// An agent's own path, if it has one, beside the search that found it.
 pub fn find(alloc: Global, query: &Query) -> Result<(Searched, Option<Path>), NoMemory>
+    requires { HasDistances query.now }
     ensures searched { IfOk result (λ r. IsSearched query.now r.0.nearest r.0.classes.items r.0.end) }
     ensures path { IfOk result (λ r. IsFound query.now r.1) }
     ensures end { IfOk result (λ r. r.0.end ≡ option_map cost r.1) }
@@ -55,6 +56,7 @@ pub fn find(alloc: Global, query: &Query) -> Result<(Searched, Option<Path>), No
 
 /// An agent's own path; none is looked for where its goal is forbidden at the limit or later.
 pub fn own_path_of(alloc: Global, query: &Query) -> Result<Option<Path>, NoMemory>
+    requires { HasDistances query.now }
     ensures { IfOk result (IsFound query.now) }
 {
     if !query.may_end(query.limit()) {
@@ -85,6 +87,7 @@ pub fn cheapest(
         ((p : List ℕ) → ¬ IsAllowed map.now start goal bound constraints.now p)
         (IsOwnPath map.now start goal bound constraints.now)) }
 {
-    let query = Query::new(alloc, map, distances, start, goal, constraints, bound)?;
+    let trip = Trip { start, goal };
+    let query = Query::new(alloc, map, distances.table(), &trip, constraints, bound)?;
     own_path_of(alloc, &query)
 }

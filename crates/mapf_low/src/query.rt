@@ -1,24 +1,34 @@
-ghost use Rattle.std.specs.Prelude.{◌≡◌, ◌↔◌, ℕ, ◌+◌, ◌<◌, ◌≤◌, List, IsTrue, IfOk, Contains, None, slice_index_or};
-ghost use Rattle.mapf_grid.specs.Grid.{cells, IsFree, IsBeside};
+ghost use Rattle.std.specs.Prelude.{◌≡◌, ◌↔◌, ℕ, ◌+◌, ◌<◌, ◌≤◌, IsTrue, IfOk, Contains, length};
+ghost use Rattle.mapf_grid.specs.Grid.{IsFree};
 ghost use Rattle.mapf_low.specs.declared.constraint.Constraint.{Constraint};
-ghost use Rattle.mapf_low.specs.Constraints.{IsAllowed};
-ghost use Rattle.mapf_low.specs.Walk.{AreDistances, distance_at};
+ghost use Rattle.mapf_low.specs.Walk.{distance_at};
 ghost use Rattle.mapf_plan.specs.Plan.{most_bound};
 
+mod backwards;
+
+use crate::Constraints;
 use crate::busy::{busy_times, is_busy};
+use crate::table::Table;
 use crate::time::is_past;
-use crate::{Constraints, Distances};
 use mapf_grid::{Cell, Map, NoMemory};
 use smallvec::SmallVec;
 use std::alloc::Global;
 use std::marker::Model;
 
+/// Where an agent begins, and where it ends.
+#[derive(Drop)]
+pub struct Trip {
+    pub start: Cell,
+    pub goal: Cell,
+}
+
 /// What the low-level search is asked: one agent's own path from its start to its goal on a map, under constraints, at a
-/// cost of at most a limit.
+/// cost of at most a limit. It goes by a table of a number for each cell: the search forwards by the distances to the goal, the
+/// search backwards by a time step before which the agent can't be there.
 #[derive(Drop)]
 pub struct Query<'a> {
     map: &'a Map,
-    distances: &'a Distances,
+    table: &'a Table,
     constraints: &'a Constraints,
     start: Cell,
     goal: Cell,
@@ -30,49 +40,46 @@ pub struct Query<'a> {
 }
 
 impl<'a> Model for Query<'a> {
-    ghost use Rattle.std.specs.Prelude.{◌+◌};
     ghost use Rattle.mapf_low.specs.Query.{Query, IsPrepared};
-    ghost use Rattle.mapf_low.specs.Times.{AreMarked};
 
     ghost Value = { Query };
 
-    ghost view = { λ q. record { grid = q.map.now; table = q.distances.now; constraints = q.constraints.now; start = q.start; goal = q.goal; limit = q.limit } };
+    ghost view = { λ q. record { grid = q.map.now; table = q.table.now; constraints = q.constraints.now; start = q.start; goal = q.goal; limit = q.limit } };
 
-    ghost invariant = { λ q. IsPrepared (record { grid = q.map.now; table = q.distances.now; constraints = q.constraints.now; start = q.start; goal = q.goal; limit = q.limit }) q.goal q.last × AreMarked q.constraints.now (q.limit + 1) q.busy_times.items };
+    ghost invariant = { λ q. IsPrepared (record { grid = q.map.now; table = q.table.now; constraints = q.constraints.now; start = q.start; goal = q.goal; limit = q.limit }) q.last q.busy_times.items };
 }
 
 impl<'a> Query<'a> {
     ghost use Rattle.mapf_low.specs.Query.{IsPosed, MayEnd};
     ghost use Rattle.mapf_low.specs.Reached.{IsUsable};
     ghost use Rattle.mapf_low.specs.Classes.{IsAllowedStep};
+    ghost use Rattle.mapf_low.specs.Levels.{IsFreeNeighbour};
+    ghost use Rattle.mapf_low.specs.Times.{IsQuiet};
 
-    /// Asks for the own path between two cells; `distances` are those of the goal on this map.
+    /// Asks for the own path between two cells.
     pub fn new(
         alloc: Global,
         map: &'a Map,
-        distances: &'a Distances,
-        start: Cell,
-        goal: Cell,
+        table: &'a Table,
+        trip: &Trip,
         constraints: &'a Constraints,
         limit: u32,
     ) -> Result<Query<'a>, NoMemory>
-        requires start { IsFree map.now start }
-        requires goal { IsFree map.now goal }
-        requires distances { AreDistances map.now goal distances.now }
+        requires start { IsFree map.now trip.now.start }
+        requires goal { IsFree map.now trip.now.goal }
         requires limit { limit ≤ most_bound }
-        ensures asks { IfOk result (λ q. q ≡ record { grid = map.now; table = distances.now; constraints = constraints.now; start = start; goal = goal; limit = limit }) }
-        ensures posed { IfOk result (λ q. IsPosed q q.goal) }
+        ensures { IfOk result (λ q. q ≡ record { grid = map.now; table = table.now; constraints = constraints.now; start = trip.now.start; goal = trip.now.goal; limit = limit }) }
     {
         // A map's sizes are known from a call alone.
         let _width = map.width();
-        let last = constraints.last_time_at(goal);
+        let last = constraints.last_time_at(trip.goal);
         let busy_times = busy_times(alloc, constraints, limit + 1)?;
         Ok(Query {
             map,
-            distances,
+            table,
             constraints,
-            start,
-            goal,
+            start: trip.start,
+            goal: trip.goal,
             limit,
             busy_times,
             last,
@@ -81,14 +88,16 @@ impl<'a> Query<'a> {
 
     /// Where the agent begins.
     pub fn start(&self) -> Cell
-        ensures { result ≡ self.now.start }
+        ensures start { result ≡ self.now.start }
+        ensures posed { IsPosed self.now }
     {
         self.start
     }
 
     /// Where it ends.
     pub fn goal(&self) -> Cell
-        ensures { result ≡ self.now.goal }
+        ensures goal { result ≡ self.now.goal }
+        ensures posed { IsPosed self.now }
     {
         self.goal
     }
@@ -96,24 +105,31 @@ impl<'a> Query<'a> {
     /// What its path may cost at most.
     pub fn limit(&self) -> u32
         ensures limit { result ≡ self.now.limit }
-        ensures posed { IsPosed self.now self.now.goal }
+        ensures posed { IsPosed self.now }
     {
         self.limit
     }
 
-    /// How far it is from a cell to the goal; none exactly if there is no walk.
-    #[inline]
-    pub fn distance(&self, cell: Cell) -> Option<u32>
-        ensures { result ≡ distance_at self.now.table cell }
+    /// How many cells the map has.
+    pub fn cells(&self) -> u32
+        ensures { result ≡ length self.now.grid.free }
     {
-        self.distances.get(cell)
+        self.map.height() * self.map.width()
     }
 
-    /// The free cells at the four sides of a cell of the map.
+    /// What the table has of a cell.
     #[inline]
-    pub fn sides(&self, cell: Cell) -> SmallVec<Cell, 4>
-        requires { cell < cells self.now.grid }
-        ensures { (v : ℕ) → Contains result.items v ↔ (IsFree self.now.grid v × IsBeside self.now.grid cell v) }
+    pub fn entry(&self, cell: Cell) -> Option<u32>
+        ensures { result ≡ distance_at self.now.table cell }
+    {
+        self.table.get(cell)
+    }
+
+    /// The free neighbours of a free cell.
+    #[inline]
+    pub fn neighbours(&self, cell: Cell) -> SmallVec<Cell, 4>
+        requires { IsFree self.now.grid cell }
+        ensures { (v : ℕ) → Contains result.items v ↔ IsFreeNeighbour self.now.grid cell v }
     {
         self.map.neighbours(cell)
     }
@@ -125,7 +141,15 @@ impl<'a> Query<'a> {
         ensures { IsTrue result ↔ IsAllowedStep self.now time from to }
     {
         !is_busy(&self.busy_times, time)
-            || (self.constraints.allows_at(to, time) && self.allows_step(from, to, time))
+            || (self.allows_at(to, time) && self.allows_step(from, to, time))
+    }
+
+    /// Whether no constraint forbids to be on the cell at this time step.
+    #[inline]
+    pub fn allows_at(&self, cell: Cell, time: u32) -> bool
+        ensures { IsTrue result ↔ (¬ Contains self.now.constraints (Constraint.Vertex cell time)) }
+    {
+        self.constraints.allows_at(cell, time)
     }
 
     /// Whether no constraint forbids the step from `from` to `to` at this time step.
@@ -136,15 +160,24 @@ impl<'a> Query<'a> {
         self.constraints.allows_step(from, to, time)
     }
 
-    /// Whether the agent may be on the cell at this time step, and can still reach its goal by the limit.
+    /// Whether the marks tell that no constraint is of this time step or the next.
+    pub fn is_quiet(&self, time: u32) -> bool
+        ensures { IsTrue result → IsQuiet self.now.constraints time }
+    {
+        time < self.limit
+            && !is_busy(&self.busy_times, time)
+            && !is_busy(&self.busy_times, time + 1)
+    }
+
+    /// Whether the agent may be on the cell at this time step, and its entry in the table can still be added by the limit.
     pub fn is_usable(&self, cell: Cell, time: u32) -> bool
         ensures { IsTrue result ↔ IsUsable self.now self.now.limit time cell }
     {
-        let Some(distance) = self.distances.get(cell) else {
+        let Some(entry) = self.table.get(cell) else {
             return false;
         };
-        let near = u64::from(time) + u64::from(distance) <= u64::from(self.limit);
-        near && self.constraints.allows_at(cell, time)
+        let near = u64::from(time) + u64::from(entry) <= u64::from(self.limit);
+        near && self.allows_at(cell, time)
     }
 
     /// Whether nothing forbids the goal from this time step on.

@@ -1,5 +1,5 @@
 ghost use Rattle.std.specs.Prelude.{◌≡◌, ◌↔◌, ℕ, ◌+◌, ◌<◌, ◌≤◌, IfOk, Contains};
-ghost use Rattle.mapf_grid.specs.Grid.{cells, IsFree, Next};
+ghost use Rattle.mapf_grid.specs.Grid.{IsFree, Next};
 ghost use Rattle.mapf_low.specs.Best.{smaller_of};
 ghost use Rattle.mapf_low.specs.Reached.{ComesFrom, AreLinked, IsSmallestBefore, IsReconstructed};
 ghost use Rattle.mapf_plan.specs.Plan.{most_bound};
@@ -24,11 +24,10 @@ fn smaller(one: Option<Cell>, other: Option<Cell>) -> Option<Cell>
 
 /// The cells that a step may lead to, the cell itself among them.
 fn steps_from(alloc: Global, query: &Query, cell: Cell) -> Result<SmallVec<Cell, 5>, NoMemory>
-    requires free { IsFree query.now.grid cell }
-    requires inside { cell < cells query.now.grid }
+    requires { IsFree query.now.grid cell }
     ensures { IfOk result (λ found. (v : ℕ) → Contains found.items v ↔ Next query.now.grid cell v) }
 {
-    let mut found = SmallVec::from_slice(alloc, query.sides(cell).as_slice())?;
+    let mut found = SmallVec::from_slice(alloc, query.neighbours(cell).as_slice())?;
     found.push(cell)?;
     Ok(found)
 }
@@ -42,7 +41,6 @@ fn smallest_before<R: Reached>(
     time: u32,
 ) -> Result<Cell, NoMemory>
     requires free { IsFree query.now.grid cell }
-    requires inside { cell < cells query.now.grid }
     requires early { time < most_bound }
     requires some { (u : ℕ) × ComesFrom query.now (time + 1) (R.has reached.now time) cell u }
     ensures { IfOk result (IsSmallestBefore query.now (time + 1) (R.has reached.now time) cell) }

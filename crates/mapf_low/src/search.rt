@@ -1,5 +1,5 @@
 ghost use Rattle.std.specs.Prelude.{◌≡◌, ◌↔◌, IsTrue, IfOk, Contains};
-ghost use Rattle.mapf_low.specs.Query.{IsPosed, MayEnd};
+ghost use Rattle.mapf_low.specs.Query.{IsPosed, HasDistances, MayEnd};
 ghost use Rattle.mapf_low.specs.Classes.{IsSearched};
 
 use crate::class::Class;
@@ -49,7 +49,8 @@ fn first_room(nearest: u32) -> usize {
 /// Takes the states, cells at time steps, by rising sum of time and distance to the goal, class by class, up to the first
 /// in which the agent can end; that one is emptied too.
 pub fn search(alloc: Global, query: &Query) -> Result<Searched, NoMemory>
-    ensures posed { IsPosed query.now query.now.goal }
+    requires { HasDistances query.now }
+    ensures posed { IsPosed query.now }
     ensures searched { IfOk result (λ s. IsSearched query.now s.nearest s.classes.items s.end) }
 {
     let limit = query.limit();
@@ -62,7 +63,7 @@ pub fn search(alloc: Global, query: &Query) -> Result<Searched, NoMemory>
             end: None,
         });
     }
-    let nearest = query.distance(start).unwrap();
+    let nearest = query.entry(start).unwrap();
     let mut now = Class::new(alloc);
     let mut next = Class::new(alloc);
     let mut after = Class::new(alloc);

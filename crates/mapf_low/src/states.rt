@@ -20,7 +20,7 @@ impl Reached for States<'_> {
     ghost has = { λ s. InClasses s.query.now s.searched.now.nearest s.searched.now.classes.items };
 
     fn has(&self, cell: Cell, time: u32) -> bool {
-        match self.query.distance(cell) {
+        match self.query.entry(cell) {
             Some(distance) => is_in_class(
                 self.searched,
                 cell,
@@ -59,7 +59,7 @@ pub fn list_class(
     ensures { OnOk result (Lists query.now.table sum class.now states.old.items states.new.items) }
 {
     for cell in class.cells() {
-        let distance = query.distance(*cell).unwrap();
+        let distance = query.entry(*cell).unwrap();
         states.push((*cell, sum - distance))?;
     }
     Ok(())

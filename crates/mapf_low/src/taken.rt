@@ -1,4 +1,5 @@
 ghost use Rattle.std.specs.Prelude.{IfOk};
+ghost use Rattle.mapf_low.specs.Query.{HasDistances};
 ghost use Rattle.mapf_low.specs.Taken.{AreTakenBy};
 
 use crate::own_path::find;
@@ -9,6 +10,7 @@ use std::alloc::Global;
 
 /// The states that the search for an own path takes, in the order in which it takes them.
 pub fn taken_by(alloc: Global, query: &Query) -> Result<Vec<(Cell, u32)>, NoMemory>
+    requires { HasDistances query.now }
     ensures { IfOk result (λ states. AreTakenBy query.now states.items) }
 {
     let mut states = Vec::new(alloc);

@@ -1,12 +1,12 @@
 use Rattle.std.proofs.Common.{subst, sym}
-use Rattle.mapf_low.specs.Earliest.{AreEarliest}
+use Rattle.mapf_low.specs.Earliest.{AreEarliest, HasEarliest}
 use Rattle.mapf_low.specs.Query.{Query}
 use Rattle.mapf_low.proofs.Advancing.{earliest_by}
 use Rattle.mapf_low.proofs.OutOfReach.{distances_earliest}
 use Rattle.mapf_low.proofs.backwards.cheapest_backwards.Goals as goal
 
-pub new-requires-clause-earliest : goal.new-requires-clause-earliest
-new-requires-clause-earliest c =
+pub own_path-requires-clause-earliest : goal.own_path-requires-clause-earliest
+own_path-requires-clause-earliest c =
     let query : Query = record {
       grid = c.args.map.now;
       table = c.table.result.now;
@@ -15,12 +15,14 @@ new-requires-clause-earliest c =
       goal = c.args.goal;
       limit = c.args.bound;
     } in
+    subst HasEarliest (sym c.in_ok-by_distance.ensures) (
     subst (AreEarliest query) (sym c.table.ensures)
-    (distances_earliest query c.args.from_start.now c.width-width.ensures.sizes c.requires.start c.requires.from_start)
+    (distances_earliest query c.args.from_start.now c.width-width.ensures.sizes c.requires.start c.requires.from_start))
 
-pub new-requires-2-clause-earliest : goal.new-requires-2-clause-earliest
-new-requires-2-clause-earliest c =
+pub own_path-requires-2-clause-earliest : goal.own_path-requires-2-clause-earliest
+own_path-requires-2-clause-earliest c =
     let arrivals = c.in_ok-arrivals.arrivals in
     let earliest : AreEarliest c.in_ok-by_distance.by_distance arrivals = c.in_ok-arrivals.ensures in
+    subst HasEarliest (sym c.in_ok-by_arrival.ensures) (
     earliest_by c.args.map.now c.args.constraints.now c.args.start c.args.goal c.args.bound c.table.result.now arrivals arrivals
-    (subst (λ q. AreEarliest q arrivals) c.in_ok-by_distance.ensures.asks earliest)
+    (subst (λ q. AreEarliest q arrivals) c.in_ok-by_distance.ensures earliest))

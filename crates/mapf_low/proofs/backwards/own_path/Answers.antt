@@ -4,14 +4,14 @@ use Rattle.mapf_low.specs.Walk.{distance_at}
 use Rattle.mapf_low.proofs.BackwardCosts.{none_before, none_far}
 use Rattle.mapf_low.proofs.backwards.own_path.Goals as goal
 
-pub first_traced-requires : goal.first_traced-requires
-first_traced-requires c =
+pub first_traced-requires-clause-before : goal.first_traced-requires-clause-before
+first_traced-requires-clause-before c =
     let query = c.args.query.now in
     subst (HasNoneBefore query) (sym c.max.ensures)
-    (none_before query c.goal.ensures.posed c.args.least c.in-Some.earliest
-    (ap (distance_at query.table) (sym c.goal.ensures.goal) ∙ sym c.earliest.ensures ∙ c.in-Some.is) c.requires)
+    (none_before query c.goal.ensures.posed c.requires.earliest c.args.least c.in-Some.earliest
+    (ap (distance_at query.table) (sym c.goal.ensures.goal) ∙ sym c.entry.ensures ∙ c.in-Some.is) c.requires.least)
 
 pub returns-in-None : goal.returns-in-None
 returns-in-None c =
     let query = c.args.query.now in
-    none_far query c.goal.ensures.posed (ap (distance_at query.table) (sym c.goal.ensures.goal) ∙ sym c.earliest.ensures ∙ c.in-None.is)
+    none_far query c.goal.ensures.posed c.requires.earliest (ap (distance_at query.table) (sym c.goal.ensures.goal) ∙ sym c.entry.ensures ∙ c.in-None.is)

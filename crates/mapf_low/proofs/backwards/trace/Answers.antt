@@ -31,7 +31,7 @@ loop-time-preserved-in-Some c =
     record {
       inside = omega (arith, c.loop-time.invariant.inside);
       placed = placed_more query c.args.end c.loop-time.dead.states path t c.index-cell.result.now c.in-Some.before
-          (omega (arith, c.loop-time.invariant.inside)) c.requires.end c.goal-goal.ensures.posed c.loop-time.invariant.dead
+          (omega (arith, c.loop-time.invariant.inside)) c.requires.end c.requires.earliest c.loop-time.invariant.dead
           (subst (λ k. IsPlaced query c.loop-time.dead.states path k c.args.end) up c.loop-time.invariant.placed) at
           (subst (IsSmallest (ComesFrom query (t + 1) (IsLeft query c.loop-time.dead.states t) c.index-cell.result.now)) c.in-Some.is c.smallest_before.ensures);
       dead = c.loop-time.invariant.dead;
@@ -47,14 +47,14 @@ returns-then-time-end-clause-path c =
     c.index-cell.ensures ∙ get_or_default path c.loop-time.time c.index-cell.result.now 0 (omega (arith, c.loop-time.invariant.placed.long, c.loop-time.invariant.inside))
     ∙ ap (λ k. slice_index path k) last ∙ c.loop-time.invariant.placed.ends in
     subst₂ (λ k v. ¬ CanBe query k v) (let e : t + 1 ≡ c.args.end = omega (arith, last) in e) at
-    (not_can query c.loop-time.dead.states t c.index-cell.result.now (omega (arith, c.loop-time.invariant.inside, c.requires.end)) c.goal-goal.ensures.posed c.loop-time.invariant.dead
+    (not_can query c.loop-time.dead.states t c.index-cell.result.now (omega (arith, c.loop-time.invariant.inside, c.requires.end)) c.requires.earliest c.loop-time.invariant.dead
     (subst (IsSmallest (ComesFrom query (t + 1) (IsLeft query c.loop-time.dead.states t) c.index-cell.result.now)) c.in-None.is c.smallest_before.ensures))
 
 pub returns-then-time-end-clause-dead : goal.returns-then-time-end-clause-dead
 returns-then-time-end-clause-dead c =
     let query = c.args.query.now in
     let t = c.loop-time.time - 1 in
-    dead_more query c.loop-time.dead.states t c.index-cell.result.now (omega (arith, c.loop-time.invariant.inside, c.requires.end)) c.goal-goal.ensures.posed c.loop-time.invariant.dead
+    dead_more query c.loop-time.dead.states t c.index-cell.result.now (omega (arith, c.loop-time.invariant.inside, c.requires.end)) c.requires.earliest c.loop-time.invariant.dead
     (subst (IsSmallest (ComesFrom query (t + 1) (IsLeft query c.loop-time.dead.states t) c.index-cell.result.now)) c.in-None.is c.smallest_before.ensures)
     c.add.new.self.states
     (subst (λ k. IsJoined (c.index-cell.result.now, k) c.loop-time.dead.states c.add.new.self.states) (let up : c.loop-time.time ≡ t + 1 = omega arith in up) c.in_ok-add-in-None.ensures.states)
@@ -67,7 +67,7 @@ loop-time-preserved c =
       inside = omega (arith, c.loop-time.invariant.inside);
       placed = placed_fewer query c.args.end c.loop-time.dead.states c.add.new.self.states c.loop-time.cells.items c.loop-time.time c.index-cell.result.now
           c.loop-time.invariant.placed c.in_ok-add-in-None.ensures.states;
-      dead = dead_more query c.loop-time.dead.states t c.index-cell.result.now (omega (arith, c.loop-time.invariant.inside, c.requires.end)) c.goal-goal.ensures.posed c.loop-time.invariant.dead
+      dead = dead_more query c.loop-time.dead.states t c.index-cell.result.now (omega (arith, c.loop-time.invariant.inside, c.requires.end)) c.requires.earliest c.loop-time.invariant.dead
           (subst (IsSmallest (ComesFrom query (t + 1) (IsLeft query c.loop-time.dead.states t) c.index-cell.result.now)) c.in-None.is c.smallest_before.ensures)
           c.add.new.self.states
           (subst (λ k. IsJoined (c.index-cell.result.now, k) c.loop-time.dead.states c.add.new.self.states) (let up : c.loop-time.time ≡ t + 1 = omega arith in up) c.in_ok-add-in-None.ensures.states);
@@ -77,5 +77,5 @@ pub returns-clause-path : goal.returns-clause-path
 returns-clause-path c =
     let none : c.loop-time.time ≡ 0 = omega arith in
     subst (λ p. IsTraced c.args.query.now c.args.end (Some p)) (sym (c.of.ensures ∙ ap (λ v. v.items) c.replace.ensures.value))
-    (placed_all c.args.query.now c.args.end c.loop-time.dead.states c.loop-time.cells.items c.goal-goal.ensures.posed
+    (placed_all c.args.query.now c.args.end c.loop-time.dead.states c.loop-time.cells.items c.requires.earliest
     (subst (λ k. IsPlaced c.args.query.now c.loop-time.dead.states c.loop-time.cells.items k c.args.end) none c.loop-time.invariant.placed))

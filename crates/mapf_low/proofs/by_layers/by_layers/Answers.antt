@@ -48,7 +48,7 @@ reconstruct_path-requires c =
     let inside : time < length layers = omega arith in
     let here : c.index-layer.result.now ≡ layer_at layers time = c.index-layer.ensures ∙ get_or_default layers time c.index-layer.result.now [] inside in
     let set : Setting c.args.query.now c.args.query.now.limit (InLayers layers) (length layers) =
-    record { posed = c.limit-limit.ensures.posed; reached_are = layers_reach c.args.query.now layers c.loop-time.invariant.layers_are } in
+    record { posed = c.limit-limit.ensures.posed; distances = c.requires; reached_are = layers_reach c.args.query.now layers c.loop-time.invariant.layers_are } in
     record {
       linked = are_linked c.args.query.now c.args.query.now.limit (InLayers layers) (length layers) time set inside;
       arrived = subst (λ layer. Contains layer c.args.query.now.goal) here (c.ends_in.ensures.0 c.if-ends_in.true).0;
@@ -62,14 +62,14 @@ next_layer-requires c =
     let inside : time < length layers = omega arith in
     let here : c.index-layer.result.now ≡ layer_at layers time = c.index-layer.ensures ∙ get_or_default layers time c.index-layer.result.now [] inside in
     let set : Setting c.args.query.now c.args.query.now.limit (InLayers layers) (length layers) =
-    record { posed = c.limit-limit.ensures.posed; reached_are = layers_reach c.args.query.now layers c.loop-time.invariant.layers_are } in
-    λ v i. (are_linked c.args.query.now c.args.query.now.limit (InLayers layers) (length layers) time set inside).places time v (omega arith) (subst (λ layer. Contains layer v) here i)
+    record { posed = c.limit-limit.ensures.posed; distances = c.requires; reached_are = layers_reach c.args.query.now layers c.loop-time.invariant.layers_are } in
+    λ v i. (are_linked c.args.query.now c.args.query.now.limit (InLayers layers) (length layers) time set inside).free time v (omega arith) (subst (λ layer. Contains layer v) here i)
 
 pub returns : goal.returns
 returns c =
     let layers = c.loop-time.layers.items in
     let set : Setting c.args.query.now c.args.query.now.limit (InLayers layers) (length layers) =
-    record { posed = c.limit-limit.ensures.posed; reached_are = layers_reach c.args.query.now layers c.loop-time.invariant.layers_are } in
+    record { posed = c.limit-limit.ensures.posed; distances = c.requires; reached_are = layers_reach c.args.query.now layers c.loop-time.invariant.layers_are } in
     let all : c.loop-time.time ≡ c.args.query.now.limit + 1 = omega arith in
     none_by_limit c.args.query.now c.args.query.now.limit (InLayers layers) (length layers) set (omega arith)
     (subst (λ n. (t : ℕ) → t < n → ¬ EndsAt c.args.query.now (InLayers layers) t) all c.loop-time.invariant.before)
@@ -82,7 +82,7 @@ returns-then-is_empty c =
     let here : c.index-layer.result.now ≡ layer_at layers time = c.index-layer.ensures ∙ get_or_default layers time c.index-layer.result.now [] inside in
     let empty : layer_at layers time ≡ [] = sym here ∙ c.is_empty.ensures.0 c.if-is_empty.true in
     let set : Setting c.args.query.now c.args.query.now.limit (InLayers layers) (length layers) =
-    record { posed = c.limit-limit.ensures.posed; reached_are = layers_reach c.args.query.now layers c.loop-time.invariant.layers_are } in
+    record { posed = c.limit-limit.ensures.posed; distances = c.requires; reached_are = layers_reach c.args.query.now layers c.loop-time.invariant.layers_are } in
     none_through c.args.query.now c.args.query.now.limit (InLayers layers) (length layers) set time inside c.loop-time.invariant.before
     (subst (λ layer. (v : ℕ) → ¬ Contains layer v) (sym empty) (λ v i. omega (arith, i.1)))
 
@@ -94,7 +94,7 @@ returns-then-ends_in c =
     let here : c.index-layer.result.now ≡ layer_at layers time = c.index-layer.ensures ∙ get_or_default layers time c.index-layer.result.now [] inside in
     let met = c.ends_in.ensures.0 c.if-ends_in.true in
     let set : Setting c.args.query.now c.args.query.now.limit (InLayers layers) (length layers) =
-    record { posed = c.limit-limit.ensures.posed; reached_are = layers_reach c.args.query.now layers c.loop-time.invariant.layers_are } in
+    record { posed = c.limit-limit.ensures.posed; distances = c.requires; reached_are = layers_reach c.args.query.now layers c.loop-time.invariant.layers_are } in
     own c.args.query.now c.args.query.now.limit (InLayers layers) (length layers) set time c.in_ok-path.path inside (omega arith)
     c.in_ok-path.ensures
     (subst (λ layer. Contains layer c.args.query.now.goal) here met.0, met.1)

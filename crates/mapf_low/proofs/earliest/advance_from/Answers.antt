@@ -1,14 +1,14 @@
 use Rattle.std.proofs.Common.{◌≡◌, ◌+◌, ℕ, [], ◌∷◌, ◌++◌, true, length, Contains, subst, sym, arith}
 use Rattle.std.proofs.lemmas.Option.{slice_get_within}
-use Rattle.mapf_low.specs.Levels.{IsFreeSide}
+use Rattle.mapf_low.specs.Levels.{IsFreeNeighbour}
 use Rattle.mapf_low.proofs.Advancing.{advances_both, advances_waits, tried_more, looked_all, looked_waits}
 use Rattle.mapf_low.proofs.earliest.advance_from.Goals as goal
 
 pub enter-requires-clause-inside : goal.enter-requires-clause-inside
 enter-requires-clause-inside c =
-    let side : IsFreeSide c.args.query.now.grid c.args.from c.to-item.result =
-    (c.sides.ensures c.to-item.result).0 (subst (λ xs. Contains xs c.to-item.result) c.as_slice-to-items.ensures (c.loop-to.to-index, c.loop-to-test.true, sym c.to-item.is)) in
-    omega (arith, slice_get_within c.args.query.now.grid.free c.to-item.result true side.0, c.requires.table, c.loop-to.invariant.advances.same_length)
+    let neighbour : IsFreeNeighbour c.args.query.now.grid c.args.from c.to-item.result =
+    (c.neighbours.ensures c.to-item.result).0 (subst (λ xs. Contains xs c.to-item.result) c.as_slice-to-items.ensures (c.loop-to.to-index, c.loop-to-test.true, sym c.to-item.is)) in
+    omega (arith, slice_get_within c.args.query.now.grid.free c.to-item.result true neighbour.0, c.requires.table, c.loop-to.invariant.advances.same_length)
 
 pub loop-to-preserved : goal.loop-to-preserved
 loop-to-preserved c =
@@ -28,17 +28,17 @@ returns-in_ok-push-clause-advances c =
 
 pub returns-in_ok-push-clause-looked_at : goal.returns-in_ok-push-clause-looked_at
 returns-in_ok-push-clause-looked_at c =
-    let sides = c.as_slice-to-items.result.now in
-    let whole : c.loop-to.to-index ≡ length sides = omega arith in
-    let of : (v : ℕ) → IsFreeSide c.args.query.now.grid c.args.from v → Contains sides v =
-    subst (λ xs. (v : ℕ) → IsFreeSide c.args.query.now.grid c.args.from v → Contains xs v) (sym c.as_slice-to-items.ensures) (λ v s. (c.sides.ensures v).1 s) in
+    let neighbours = c.as_slice-to-items.result.now in
+    let whole : c.loop-to.to-index ≡ length neighbours = omega arith in
+    let of : (v : ℕ) → IsFreeNeighbour c.args.query.now.grid c.args.from v → Contains neighbours v =
+    subst (λ xs. (v : ℕ) → IsFreeNeighbour c.args.query.now.grid c.args.from v → Contains xs v) (sym c.as_slice-to-items.ensures) (λ v s. (c.neighbours.ensures v).1 s) in
     rw c.in_ok-push.ensures.items
-    (looked_waits c.args.query.now c.args.time c.args.from c.loop-to.table sides c.loop-to.to-index c.loop-to.all_entered whole of c.loop-to.invariant.tried c.loop-to.next.items)
+    (looked_waits c.args.query.now c.args.time c.args.from c.loop-to.table neighbours c.loop-to.to-index c.loop-to.all_entered whole of c.loop-to.invariant.tried c.loop-to.next.items)
 
 pub returns-else-not-all_entered-clause-looked_at : goal.returns-else-not-all_entered-clause-looked_at
 returns-else-not-all_entered-clause-looked_at c =
-    let sides = c.as_slice-to-items.result.now in
-    let whole : c.loop-to.to-index ≡ length sides = omega arith in
-    let of : (v : ℕ) → IsFreeSide c.args.query.now.grid c.args.from v → Contains sides v =
-    subst (λ xs. (v : ℕ) → IsFreeSide c.args.query.now.grid c.args.from v → Contains xs v) (sym c.as_slice-to-items.ensures) (λ v s. (c.sides.ensures v).1 s) in
-    looked_all c.args.query.now c.args.time c.args.from c.loop-to.table sides c.loop-to.to-index c.loop-to.all_entered whole of c.loop-to.invariant.tried c.loop-to.next.items c.if-not-all_entered.false
+    let neighbours = c.as_slice-to-items.result.now in
+    let whole : c.loop-to.to-index ≡ length neighbours = omega arith in
+    let of : (v : ℕ) → IsFreeNeighbour c.args.query.now.grid c.args.from v → Contains neighbours v =
+    subst (λ xs. (v : ℕ) → IsFreeNeighbour c.args.query.now.grid c.args.from v → Contains xs v) (sym c.as_slice-to-items.ensures) (λ v s. (c.neighbours.ensures v).1 s) in
+    looked_all c.args.query.now c.args.time c.args.from c.loop-to.table neighbours c.loop-to.to-index c.loop-to.all_entered whole of c.loop-to.invariant.tried c.loop-to.next.items c.if-not-all_entered.false

@@ -1,25 +1,31 @@
 use Rattle.mapf_low.specs.Walk.{distance_at}
 use Rattle.std.proofs.Common.{◌≡◌, ◌↔◌, ◌+◌, ◌-◌, ℕ, Some, Contains, subst, sym, ◌∙◌, arith}
-use Rattle.mapf_grid.specs.Grid.{IsFree, IsBeside}
-use Rattle.mapf_low.proofs.Leading.{leads_are}
+use Rattle.mapf_low.specs.Levels.{IsFreeNeighbour}
+use Rattle.mapf_low.proofs.Leading.{leads_are, neighbours_suffice, with_itself}
 use Rattle.mapf_low.proofs.expansion.expand_beyond.Goals as goal
 
 pub returns-clause-next : goal.returns-clause-next
 returns-clause-next c =
-    let near_is : distance_at c.args.query.now.table c.args.from ≡ Some c.unwrap-near.result = sym c.distance.ensures ∙ c.unwrap-near.ensures in
-    let apart : c.unwrap-near.result + 1 ≡ c.unwrap-near.result + 1 = omega arith in
-    let time : c.args.sum - c.unwrap-near.result + 1 ≡ c.args.sum - c.unwrap-near.result + 1 = omega arith in
-    leads_are c.args.query.now c.args.sum 1 c.args.from c.unwrap-near.result c.unwrap-near.result (c.args.sum - c.unwrap-near.result + 1)
-    c.as_slice.result.now c.args.next.now c.generate_all_later.new.next c.requires.free near_is apart time
-    (subst (λ xs. (v : ℕ) → Contains xs v ↔ (IsFree c.args.query.now.grid v × IsBeside c.args.query.now.grid c.args.from v)) (sym c.as_slice.ensures) c.sides-sides.ensures)
-    c.in_ok-generate_all_later.ensures.next
+    let query = c.args.query.now in
+    let near = c.unwrap-near.result in
+    let neighbours = c.as_slice-neighbours.result.now in
+    let near_is : distance_at query.table c.args.from ≡ Some near = sym c.entry.ensures ∙ c.unwrap-near.ensures in
+    let apart : near + 1 ≡ near + 1 = omega arith in
+    let time : c.args.sum - near + 1 ≡ c.args.sum - near + 1 = omega arith in
+    leads_are query c.args.sum 1 c.args.from near near (c.args.sum - near + 1) neighbours c.args.next.now c.generate_all.new.class c.requires.free near_is apart time
+    (subst (λ xs. (v : ℕ) → Contains xs v ↔ IsFreeNeighbour query.grid c.args.from v) (sym c.as_slice-neighbours.ensures) c.neighbours-around.ensures)
+    (with_itself query (c.args.sum - near + 1) near c.args.from neighbours c.args.next.now c.generate.new.class c.generate_all.new.class
+    c.in_ok-generate.ensures c.in_ok-generate_all.ensures)
 
 pub returns-clause-after : goal.returns-clause-after
 returns-clause-after c =
-    let near_is : distance_at c.args.query.now.table c.args.from ≡ Some c.unwrap-near.result = sym c.distance.ensures ∙ c.unwrap-near.ensures in
-    let apart : c.unwrap-near.result + 1 + 1 ≡ c.unwrap-near.result + 2 = omega arith in
-    let time : c.args.sum - c.unwrap-near.result + 1 ≡ c.args.sum - c.unwrap-near.result + 1 = omega arith in
-    leads_are c.args.query.now c.args.sum 2 c.args.from c.unwrap-near.result (c.unwrap-near.result + 1) (c.args.sum - c.unwrap-near.result + 1)
-    c.as_slice.result.now c.args.after.now c.generate_all_later.new.after c.requires.free near_is apart time
-    (subst (λ xs. (v : ℕ) → Contains xs v ↔ (IsFree c.args.query.now.grid v × IsBeside c.args.query.now.grid c.args.from v)) (sym c.as_slice.ensures) c.sides-sides.ensures)
-    c.in_ok-generate_all_later.ensures.after
+    let query = c.args.query.now in
+    let near = c.unwrap-near.result in
+    let neighbours = c.as_slice-neighbours.result.now in
+    let near_is : distance_at query.table c.args.from ≡ Some near = sym c.entry.ensures ∙ c.unwrap-near.ensures in
+    let apart : near + 1 + 1 ≡ near + 2 = omega arith in
+    let time : c.args.sum - near + 1 ≡ c.args.sum - near + 1 = omega arith in
+    leads_are query c.args.sum 2 c.args.from near (near + 1) (c.args.sum - near + 1) neighbours c.args.after.now c.generate_all-2.new.class c.requires.free near_is apart time
+    (subst (λ xs. (v : ℕ) → Contains xs v ↔ IsFreeNeighbour query.grid c.args.from v) (sym c.as_slice-neighbours.ensures) c.neighbours-around.ensures)
+    (neighbours_suffice query (c.args.sum - near + 1) (near + 1) c.args.from near neighbours c.args.after.now c.generate_all-2.new.class
+    near_is (λ e. omega (arith, e)) c.in_ok-generate_all-2.ensures)

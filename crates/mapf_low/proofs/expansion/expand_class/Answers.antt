@@ -11,7 +11,7 @@ expand_within-requires c =
     let inside : c.loop-place.place < length c.loop-place.class = subst (λ xs. c.loop-place.place < length xs) c.cells.ensures.cells c.loop-place-test.true in
     let is : c.index-cells-place.result ≡ get_or c.loop-place.class c.loop-place.place c.index-cells-place.result = subst (λ xs. c.index-cells-place.result ≡ get_or xs c.loop-place.place c.index-cells-place.result) c.cells-in-loop-place.ensures.cells c.index-cells-place.is in
     let placed = c.loop-place.invariant.placed c.index-cells-place.result (c.loop-place.place, inside, sym is) in
-    record { free = placed.0; inside = placed.1; near = placed.2; sum = c.requires.sum }
+    record { free = placed.0; near = placed.2; sum = c.requires.sum }
 
 pub loop-place-smaller : goal.loop-place-smaller
 loop-place-smaller c =

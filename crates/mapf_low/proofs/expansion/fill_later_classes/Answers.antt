@@ -12,7 +12,7 @@ loop-from-init c = record {
 pub expand_beyond-requires : goal.expand_beyond-requires
 expand_beyond-requires c =
     let placed = c.requires.placed c.from-item.result (subst (λ xs. Contains xs c.from-item.result) c.cells-from-items.ensures.cells (c.loop-from.from-index, c.loop-from-test.true, sym c.from-item.is)) in
-    record { free = placed.0; inside = placed.1; near = placed.2; sum = c.requires.sum; small = c.requires.small }
+    record { free = placed.0; near = placed.2; sum = c.requires.sum; small = c.requires.small }
 
 pub loop-from-preserved : goal.loop-from-preserved
 loop-from-preserved c = record {

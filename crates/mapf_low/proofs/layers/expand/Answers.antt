@@ -1,5 +1,5 @@
 use Rattle.std.proofs.Common.{◌≡◌, ◌↔◌, ℕ, length, Contains, subst, sym, arith}
-use Rattle.mapf_grid.specs.Grid.{IsFree, IsBeside}
+use Rattle.mapf_low.specs.Levels.{IsFreeNeighbour}
 use Rattle.mapf_low.specs.Layers.{MayEnter}
 use Rattle.mapf_low.proofs.Growing.{grown_none, grown_more, grown_all}
 use Rattle.mapf_low.proofs.Rising.{expanded_is}
@@ -16,7 +16,7 @@ loop-to-preserved c =
 pub returns : goal.returns
 returns c =
     let whole : c.loop-to.to-index ≡ length c.as_slice-to-items.result.now = omega arith in
-    let beside : (v : ℕ) → Contains c.as_slice-to-items.result.now v ↔ (IsFree c.args.query.now.grid v × IsBeside c.args.query.now.grid c.args.from v) =
-    subst (λ xs. (v : ℕ) → Contains xs v ↔ (IsFree c.args.query.now.grid v × IsBeside c.args.query.now.grid c.args.from v)) (sym c.as_slice-to-items.ensures) c.sides.ensures in
-    expanded_is c.args.query.now c.args.time c.args.from c.as_slice-to-items.result.now c.args.reached.now.items c.generate.new.reached.items c.loop-to.reached.items c.requires.free beside c.in_ok-generate.ensures
+    let beside : (v : ℕ) → Contains c.as_slice-to-items.result.now v ↔ IsFreeNeighbour c.args.query.now.grid c.args.from v =
+    subst (λ xs. (v : ℕ) → Contains xs v ↔ IsFreeNeighbour c.args.query.now.grid c.args.from v) (sym c.as_slice-to-items.ensures) c.neighbours.ensures in
+    expanded_is c.args.query.now c.args.time c.args.from c.as_slice-to-items.result.now c.args.reached.now.items c.generate.new.reached.items c.loop-to.reached.items c.requires beside c.in_ok-generate.ensures
     (grown_all (λ v. MayEnter c.args.query.now c.args.time c.args.from v) c.as_slice-to-items.result.now c.generate.new.reached.items c.loop-to.reached.items c.loop-to.to-index whole c.loop-to.invariant)

@@ -6,7 +6,7 @@ use Rattle.mapf_low.proofs.layers.first_layer.Goals.{then-is_usable+in_ok-push, 
 
 pub returns : goal.returns
 returns c =
-    subst (λ start. (v : ℕ) → Contains c.of.result v ↔ ((v ≡ start) × IsUsable c.args.query.now c.args.query.now.limit 0 v)) c.start-start.ensures (
+    subst (λ start. (v : ℕ) → Contains c.of.result v ↔ ((v ≡ start) × IsUsable c.args.query.now c.args.query.now.limit 0 v)) c.start-start.ensures.start (
     elim c.if-is_usable.branch [
       | then-is_usable+in_ok-push w ↦
           first_open (λ v. IsUsable c.args.query.now c.args.query.now.limit 0 v) c.of.result c.if-is_usable.cells.items c.start-start.result c.of.ensures

@@ -5,7 +5,7 @@ use Rattle.mapf_low.proofs.reconstruction.reconstruct_path.Goals as goal
 
 pub loop-time-init : goal.loop-time-init
 loop-time-init g c = read_first c.args.query.now (g.R.Reached.has c.args.reached.now) c.in_ok-cells.cells.items c.args.end
-    (subst (λ x. c.in_ok-cells.cells.items ≡ replicate (c.args.end + 1) x) c.goal.ensures (c.in_ok-cells.ensures.items_if_clones_equal (λ y h. h))) c.requires.arrived
+    (subst (λ x. c.in_ok-cells.cells.items ≡ replicate (c.args.end + 1) x) c.goal.ensures.goal (c.in_ok-cells.ensures.items_if_clones_equal (λ y h. h))) c.requires.arrived
 
 pub loop-time-preserved : goal.loop-time-preserved
 loop-time-preserved g c =
@@ -26,7 +26,7 @@ smallest_before-requires g c =
     (subst (λ t. IsReconstructed c.args.query.now (g.R.Reached.has c.args.reached.now) c.loop-time.cells.items t c.args.end) up c.loop-time.invariant.0)
     (subst (λ t. g.R.Reached.has c.args.reached.now t (slice_index c.loop-time.cells.items t)) up c.loop-time.invariant.1)
     c.index.ensures in
-    record { free = needs.0.0; inside = needs.0.1; early = omega arith; some = needs.1 }
+    record { free = needs.0; early = omega arith; some = needs.1 }
 
 pub returns : goal.returns
 returns g c =

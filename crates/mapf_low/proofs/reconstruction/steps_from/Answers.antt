@@ -4,5 +4,5 @@ use Rattle.mapf_low.proofs.reconstruction.steps_from.Goals as goal
 
 pub returns : goal.returns
 returns c =
-    all_ways c.args.query.now.grid c.args.cell c.sides.result.items c.push.new.self.items c.requires.free c.sides.ensures
+    all_ways c.args.query.now.grid c.args.cell c.neighbours.result.items c.push.new.self.items c.requires c.neighbours.ensures
     (c.in_ok-push.ensures.ok ∙ ap (λ xs. xs ++ c.args.cell ∷ []) (c.in_ok-found.ensures.ok ∙ c.as_slice-2.ensures))

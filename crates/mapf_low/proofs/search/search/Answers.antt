@@ -11,25 +11,25 @@ use Rattle.mapf_low.proofs.search.search.Goals as goal
 
 pub loop-sum-init : goal.loop-sum-init
 loop-sum-init c =
-    let ground = ground_of c.args.query.now c.start-start.result c.unwrap-nearest.result c.distance.result c.limit-limit.ensures.posed c.start-start.ensures c.distance.ensures c.unwrap-nearest.ensures in
+    let ground = ground_of c.args.query.now c.start-start.result c.unwrap-nearest.result c.entry.result c.limit-limit.ensures.posed c.requires c.start-start.ensures.start c.entry.ensures c.unwrap-nearest.ensures in
     let none : c.new-classes.result.items ≡ [] = c.new-classes.ensures.items in
     record {
       long = omega (arith, ap length none);
       searching =
           search_first c.args.query.now c.unwrap-nearest.result ground c.new-classes.result.items c.make_room.new.self c.add.new.self c.new-next.result c.new-after.result
           none (c.in_ok-make_room.ensures ∙ c.new-now.ensures) c.new-next.ensures c.new-after.ensures c.limit-limit.ensures.posed.start
-          (subst (λ s. IsUsable c.args.query.now c.args.query.now.limit 0 s) c.start-start.ensures (c.is_usable.ensures.0 c.if-not-is_usable.false)).0 (subst (λ s. IsAdded s c.make_room.new.self c.add.new.self) c.start-start.ensures c.in_ok-add.ensures);
+          (subst (λ s. IsUsable c.args.query.now c.args.query.now.limit 0 s) c.start-start.ensures.start (c.is_usable.ensures.0 c.if-not-is_usable.false)).0 (subst (λ s. IsAdded s c.make_room.new.self c.add.new.self) c.start-start.ensures.start c.in_ok-add.ensures);
     }
 
 pub expand_class-requires-clause-placed : goal.expand_class-requires-clause-placed
 expand_class-requires-clause-placed c =
-    let ground = ground_of c.args.query.now c.start-start.result c.unwrap-nearest.result c.distance.result c.limit-limit.ensures.posed c.start-start.ensures c.distance.ensures c.unwrap-nearest.ensures in
+    let ground = ground_of c.args.query.now c.start-start.result c.unwrap-nearest.result c.entry.result c.limit-limit.ensures.posed c.requires c.start-start.ensures.start c.entry.ensures c.unwrap-nearest.ensures in
     subst (λ n. ArePlaced c.args.query.now n c.loop-sum.now) (sym c.loop-sum.invariant.long)
     (placed_now c.args.query.now c.unwrap-nearest.result ground c.loop-sum.classes.items c.loop-sum.now c.loop-sum.next c.loop-sum.after c.loop-sum.invariant.searching)
 
 pub returns-then-can_end-clause-searched : goal.returns-then-can_end-clause-searched
 returns-then-can_end-clause-searched c =
-    let ground = ground_of c.args.query.now c.start-start.result c.unwrap-nearest.result c.distance.result c.limit-limit.ensures.posed c.start-start.ensures c.distance.ensures c.unwrap-nearest.ensures in
+    let ground = ground_of c.args.query.now c.start-start.result c.unwrap-nearest.result c.entry.result c.limit-limit.ensures.posed c.requires c.start-start.ensures.start c.entry.ensures c.unwrap-nearest.ensures in
     let long = c.loop-sum.invariant.long in
     let closes : Closes c.args.query.now (c.unwrap-nearest.result + length c.loop-sum.classes.items) c.loop-sum.now c.expand_class.new.class =
     subst (λ n. Closes c.args.query.now n c.loop-sum.now c.expand_class.new.class) long c.in_ok-expand_class.ensures.closes in
@@ -52,7 +52,7 @@ returns-then-can_end-clause-searched c =
 
 pub returns-then-is_empty-2-clause-searched : goal.returns-then-is_empty-2-clause-searched
 returns-then-is_empty-2-clause-searched c =
-    let ground = ground_of c.args.query.now c.start-start.result c.unwrap-nearest.result c.distance.result c.limit-limit.ensures.posed c.start-start.ensures c.distance.ensures c.unwrap-nearest.ensures in
+    let ground = ground_of c.args.query.now c.start-start.result c.unwrap-nearest.result c.entry.result c.limit-limit.ensures.posed c.requires c.start-start.ensures.start c.entry.ensures c.unwrap-nearest.ensures in
     let long = c.loop-sum.invariant.long in
     let closes : Closes c.args.query.now (c.unwrap-nearest.result + length c.loop-sum.classes.items) c.loop-sum.now c.expand_class.new.class =
     subst (λ n. Closes c.args.query.now n c.loop-sum.now c.expand_class.new.class) long c.in_ok-expand_class.ensures.closes in
@@ -83,7 +83,7 @@ returns-then-is_empty-2-clause-searched c =
 
 pub loop-sum-preserved : goal.loop-sum-preserved
 loop-sum-preserved c =
-    let ground = ground_of c.args.query.now c.start-start.result c.unwrap-nearest.result c.distance.result c.limit-limit.ensures.posed c.start-start.ensures c.distance.ensures c.unwrap-nearest.ensures in
+    let ground = ground_of c.args.query.now c.start-start.result c.unwrap-nearest.result c.entry.result c.limit-limit.ensures.posed c.requires c.start-start.ensures.start c.entry.ensures c.unwrap-nearest.ensures in
     let long = c.loop-sum.invariant.long in
     let closes : Closes c.args.query.now (c.unwrap-nearest.result + length c.loop-sum.classes.items) c.loop-sum.now c.expand_class.new.class =
     subst (λ n. Closes c.args.query.now n c.loop-sum.now c.expand_class.new.class) long c.in_ok-expand_class.ensures.closes in
@@ -109,9 +109,9 @@ loop-sum-preserved c =
 
 pub returns-clause-searched : goal.returns-clause-searched
 returns-clause-searched c =
-    let ground = ground_of c.args.query.now c.start-start.result c.unwrap-nearest.result c.distance.result c.limit-limit.ensures.posed c.start-start.ensures c.distance.ensures c.unwrap-nearest.ensures in
+    let ground = ground_of c.args.query.now c.start-start.result c.unwrap-nearest.result c.entry.result c.limit-limit.ensures.posed c.requires c.start-start.ensures.start c.entry.ensures c.unwrap-nearest.ensures in
     let long = c.loop-sum.invariant.long in
-    let near : 0 + c.unwrap-nearest.result ≤ c.args.query.now.limit = match_at (distance_at c.args.query.now.table c.args.query.now.start) c.unwrap-nearest.result (λ n. 0 + n ≤ c.args.query.now.limit) ground.nearest_is (subst (λ s. IsUsable c.args.query.now c.args.query.now.limit 0 s) c.start-start.ensures (c.is_usable.ensures.0 c.if-not-is_usable.false)).1 in
+    let near : 0 + c.unwrap-nearest.result ≤ c.args.query.now.limit = match_at (distance_at c.args.query.now.table c.args.query.now.start) c.unwrap-nearest.result (λ n. 0 + n ≤ c.args.query.now.limit) ground.nearest_is (subst (λ s. IsUsable c.args.query.now c.args.query.now.limit 0 s) c.start-start.ensures.start (c.is_usable.ensures.0 c.if-not-is_usable.false)).1 in
     let last : c.loop-sum.sum ≡ c.args.query.now.limit + 1 = omega (arith, near) in
     searched_as c.args.query.now c.of-2.result.nearest _ c.of-2.result.classes.items _ c.of-2.result.end _ c.of-2.ensures.nearest c.of-2.ensures.classes c.of-2.ensures.end (
     searched_none c.args.query.now c.unwrap-nearest.result ground c.loop-sum.classes.items

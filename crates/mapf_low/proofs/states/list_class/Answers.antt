@@ -7,7 +7,7 @@ use Rattle.mapf_low.proofs.states.list_class.Goals as goal
 
 pub loop-cell-preserved : goal.loop-cell-preserved
 loop-cell-preserved c =
-    let near : distance_at c.args.query.now.table c.cell-item.result ≡ Some c.unwrap-distance.result = sym c.distance.ensures ∙ c.unwrap-distance.ensures in
+    let near : distance_at c.args.query.now.table c.cell-item.result ≡ Some c.unwrap-distance.result = sym c.entry.ensures ∙ c.unwrap-distance.ensures in
     let here : Contains c.args.class.now c.cell-item.result = subst (λ xs. Contains xs c.cell-item.result) c.cells-cell-items.ensures.cells (c.loop-cell.cell-index, c.loop-cell-test.true, sym c.cell-item.is) in
     let within : c.unwrap-distance.result ≤ c.args.sum = match_at (distance_at c.args.query.now.table c.cell-item.result) c.unwrap-distance.result (λ n. n ≤ c.args.sum) near (c.requires.within c.cell-item.result here) in
     lists_more c.args.query.now.table c.args.sum c.cells-cell-items.result.now c.args.states.now.items c.loop-cell.states.items c.push.new.self.items c.loop-cell.cell-index c.cell-item.result c.unwrap-distance.result

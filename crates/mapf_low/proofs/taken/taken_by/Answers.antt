@@ -23,7 +23,7 @@ pub returns : goal.returns
 returns c =
     let whole : c.loop-more.more ≡ length c.in_ok-searched.searched.classes.items = omega arith in
     all_taken c.args.query.now c.in_ok-searched.searched.nearest c.in_ok-searched.searched.classes.items
-    c.in_ok-searched.searched.end c.in_ok-searched._path c.loop-more.states.items c.loop-more.more c.limit.ensures.posed c.in_ok-searched.ensures.searched c.in_ok-searched.ensures.path c.in_ok-searched.ensures.end whole c.loop-more.invariant
+    c.in_ok-searched.searched.end c.in_ok-searched._path c.loop-more.states.items c.loop-more.more c.limit.ensures.posed c.requires c.in_ok-searched.ensures.searched c.in_ok-searched.ensures.path c.in_ok-searched.ensures.end whole c.loop-more.invariant
 
 pub returns-then-not-may_end : goal.returns-then-not-may_end
 returns-then-not-may_end c =

@@ -7,13 +7,13 @@ pub returns : goal.returns
 returns c =
     let query : Query = record {
       grid = c.self.inside.map.now;
-      table = c.self.inside.distances.now;
+      table = c.self.inside.table.now;
       constraints = c.self.inside.constraints.now;
       start = c.self.inside.start;
       goal = c.self.inside.goal;
       limit = c.self.inside.limit;
     } in
     subst (λ q. IsTrue c.is_past.result ↔ MayEnd q c.args.time) c.self.view_is (
-      (λ t. past_may_end query c.args.time c.self.inside.last c.self.invariant.0.last_is (subst IsTrue c.is_past.ensures t)),
-      (λ e. subst IsTrue (sym c.is_past.ensures) (may_end_past query c.args.time c.self.inside.last c.self.invariant.0.last_is e)),
+      (λ t. past_may_end query c.args.time c.self.inside.last c.self.invariant.last_is (subst IsTrue c.is_past.ensures t)),
+      (λ e. subst IsTrue (sym c.is_past.ensures) (may_end_past query c.args.time c.self.inside.last c.self.invariant.last_is e)),
     )

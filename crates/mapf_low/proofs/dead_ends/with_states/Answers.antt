@@ -1,7 +1,7 @@
 use Rattle.std.proofs.Common.{rules, ℕ, subst, sym, ap, ◌∙◌}
 use Rattle.mapf_low.proofs.StateTables.{HasOnly, put_items, only_none, only_more}
-use Rattle.mapf_low.proofs.state_table.with_states.Goals as goal
-use Rattle.mapf_low.proofs.state_table.with_states.Goals.{in-Some, in_default}
+use Rattle.mapf_low.proofs.dead_ends.with_states.Goals as goal
+use Rattle.mapf_low.proofs.dead_ends.with_states.Goals.{in-Some, in_default}
 
 pub loop-state-init : goal.loop-state-init
 loop-state-init c =

@@ -1,5 +1,5 @@
 use Rattle.std.proofs.Common.{ℕ, List, Option, Some, Contains, subst}
-use Rattle.mapf_low.proofs.state_table.widen.Goals as goal
+use Rattle.mapf_low.proofs.dead_ends.widen.Goals as goal
 
 pub returns-clause-states : goal.returns-clause-states
 returns-clause-states c =

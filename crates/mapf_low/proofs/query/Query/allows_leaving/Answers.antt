@@ -1,6 +1,6 @@
 use Rattle.std.proofs.Common.{◌+◌, refl}
 use Rattle.mapf_low.specs.declared.constraint.Constraint.TheVariants.{Vertex, Edge}
-use Rattle.mapf_low.proofs.backward_query.BackwardQuery.allows.Goals as goal
+use Rattle.mapf_low.proofs.query.Query.allows_leaving.Goals as goal
 
 pub returns-then-quiet : goal.returns-then-quiet
 returns-then-quiet c =

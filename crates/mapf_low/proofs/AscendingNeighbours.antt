@@ -48,20 +48,20 @@ module _ (query : Query) (dead : List (ℕ × ℕ)) (t to : ℕ) (g : Grid) (is 
   abbrev Enters : ℕ → Type 0
   Enters v = ComesFrom query (t + 1) (IsLeft query dead t) to v
 
-  -- what is asked of the map about one side
-  abbrev OfSide : (Grid → ℕ → ℕ → Type 0) → Option ℕ → Type 0
-  OfSide K side = (v : ℕ) → (side ≡ Some v) ↔ (K g to v × IsFree g v)
+  -- what is asked of the map about one neighbour
+  abbrev OfNeighbour : (Grid → ℕ → ℕ → Type 0) → Option ℕ → Type 0
+  OfNeighbour K neighbour = (v : ℕ) → (neighbour ≡ Some v) ↔ (K g to v × IsFree g v)
 
   -- and of the search about one cell
   abbrev IfLeft : Option ℕ → Option ℕ → Type 0
-  IfLeft side o = (v : ℕ) → (o ≡ Some v) ↔ ((side ≡ Some v) × MayLead query dead t v to)
+  IfLeft neighbour o = (v : ℕ) → (o ≡ Some v) ↔ ((neighbour ≡ Some v) × MayLead query dead t v to)
 
-  -- together they give the cell at that side, if it may be entered from there
-  side_gives : (K : Grid → ℕ → ℕ → Type 0) → ((v : ℕ) → K query.grid to v → IsBeside query.grid v to) → (side o : Option ℕ) → OfSide K side → IfLeft side o → Gives (K query.grid to) Enters o
-  side_gives K beside side o of_side if_left v = (to_way, λ h. (if_left v).1 ((here v).1 (h.0, h.1.1.0.0), (h.1.0, h.1.1.1)))
+  -- together they give that neighbour, if it may be entered from there
+  neighbour_gives : (K : Grid → ℕ → ℕ → Type 0) → ((v : ℕ) → K query.grid to v → IsBeside query.grid v to) → (neighbour o : Option ℕ) → OfNeighbour K neighbour → IfLeft neighbour o → Gives (K query.grid to) Enters o
+  neighbour_gives K beside neighbour o of_neighbour if_left v = (to_way, λ h. (if_left v).1 ((here v).1 (h.0, h.1.1.0.0), (h.1.0, h.1.1.1)))
     where
-      here : (v : ℕ) → (side ≡ Some v) ↔ (K query.grid to v × IsFree query.grid v)
-      here = subst (λ h. (v : ℕ) → (side ≡ Some v) ↔ (K h to v × IsFree h v)) is of_side
+      here : (v : ℕ) → (neighbour ≡ Some v) ↔ (K query.grid to v × IsFree query.grid v)
+      here = subst (λ h. (v : ℕ) → (neighbour ≡ Some v) ↔ (K h to v × IsFree h v)) is of_neighbour
 
       to_way : o ≡ Some v → K query.grid to v × Enters v
       to_way e =
@@ -69,17 +69,17 @@ module _ (query : Query) (dead : List (ℕ × ℕ)) (t to : ℕ) (g : Grid) (is 
           let b = (here v).0 a.0 in
           (b.0, (a.1.0, ((b.1, free, inr (beside v b.0)), a.1.1)))
 
-  above_gives : (side o : Option ℕ) → OfSide IsAbove side → IfLeft side o → Gives (IsAbove query.grid to) Enters o
-  above_gives = side_gives IsAbove (λ v h. inl (inr h))
+  above_gives : (neighbour o : Option ℕ) → OfNeighbour IsAbove neighbour → IfLeft neighbour o → Gives (IsAbove query.grid to) Enters o
+  above_gives = neighbour_gives IsAbove (λ v h. inl (inr h))
 
-  left_gives : (side o : Option ℕ) → OfSide IsAtLeft side → IfLeft side o → Gives (IsAtLeft query.grid to) Enters o
-  left_gives = side_gives IsAtLeft (λ v h. inl (inl h))
+  left_gives : (neighbour o : Option ℕ) → OfNeighbour IsAtLeft neighbour → IfLeft neighbour o → Gives (IsAtLeft query.grid to) Enters o
+  left_gives = neighbour_gives IsAtLeft (λ v h. inl (inl h))
 
-  right_gives : (side o : Option ℕ) → OfSide IsAtRight side → IfLeft side o → Gives (IsAtRight query.grid to) Enters o
-  right_gives = side_gives IsAtRight (λ v h. inr (inl h))
+  right_gives : (neighbour o : Option ℕ) → OfNeighbour IsAtRight neighbour → IfLeft neighbour o → Gives (IsAtRight query.grid to) Enters o
+  right_gives = neighbour_gives IsAtRight (λ v h. inr (inl h))
 
-  below_gives : (side o : Option ℕ) → OfSide IsBelow side → IfLeft side o → Gives (IsBelow query.grid to) Enters o
-  below_gives = side_gives IsBelow (λ v h. inr (inr h))
+  below_gives : (neighbour o : Option ℕ) → OfNeighbour IsBelow neighbour → IfLeft neighbour o → Gives (IsBelow query.grid to) Enters o
+  below_gives = neighbour_gives IsBelow (λ v h. inr (inr h))
 
   same_gives : (o : Option ℕ) → IfLeft (Some to) o → Gives (IsSame query.grid to) Enters o
   same_gives o if_left v = (to_way, λ h. (if_left v).1 (some h.0, (h.1.0, h.1.1.1)))
@@ -155,7 +155,7 @@ module _ (query : Query) (dead : List (ℕ × ℕ)) (t to : ℕ) (g : Grid) (is 
             go (from_right h) = absurd (not_right w p h)
             go (from_below h) = h
 
-  module _ (above above_o left left_o : Option ℕ) (ask_above : OfSide IsAbove above) (if_above : IfLeft above above_o) (no_above : is_some above_o ≡ false) (ask_left : OfSide IsAtLeft left) (if_left : IfLeft left left_o) where
+  module _ (above above_o left left_o : Option ℕ) (ask_above : OfNeighbour IsAbove above) (if_above : IfLeft above above_o) (no_above : is_some above_o ≡ false) (ask_left : OfNeighbour IsAtLeft left) (if_left : IfLeft left left_o) where
     not_above : (w : ℕ) → Enters w → ¬ IsAbove query.grid to w
     not_above = none_given (IsAbove query.grid to) Enters above_o (above_gives above above_o ask_above if_above) no_above
 
@@ -174,7 +174,7 @@ module _ (query : Query) (dead : List (ℕ × ℕ)) (t to : ℕ) (g : Grid) (is 
       pub third_smallest : is_some same_o ≡ true → IsSmallest (ComesFrom query (t + 1) (IsLeft query dead t) to) same_o
       third_smallest some = smallest_given (IsSame query.grid to) Enters same_o (same_gives same_o if_same) some (same_least not_above not_left)
 
-      module _ (no_same : is_some same_o ≡ false) (right right_o : Option ℕ) (ask_right : OfSide IsAtRight right) (if_right : IfLeft right right_o) where
+      module _ (no_same : is_some same_o ≡ false) (right right_o : Option ℕ) (ask_right : OfNeighbour IsAtRight right) (if_right : IfLeft right right_o) where
         not_same : (w : ℕ) → Enters w → ¬ IsSame query.grid to w
         not_same = none_given (IsSame query.grid to) Enters same_o (same_gives same_o if_same) no_same
 
@@ -186,7 +186,7 @@ module _ (query : Query) (dead : List (ℕ × ℕ)) (t to : ℕ) (g : Grid) (is 
         fourth_smallest some = smallest_given (IsAtRight query.grid to) Enters right_o gives_right some (right_least not_above not_left not_same)
 
         -- the one below, if any, where there is no other
-        pub last_smallest : is_some right_o ≡ false → (below below_o : Option ℕ) → OfSide IsBelow below → IfLeft below below_o → IsSmallest (ComesFrom query (t + 1) (IsLeft query dead t) to) below_o
+        pub last_smallest : is_some right_o ≡ false → (below below_o : Option ℕ) → OfNeighbour IsBelow below → IfLeft below below_o → IsSmallest (ComesFrom query (t + 1) (IsLeft query dead t) to) below_o
         last_smallest no_right below below_o ask_below if_below =
             smallest_last (IsBelow query.grid to) Enters below_o (below_gives below below_o ask_below if_below) (λ v w k l. omega (arith, k, l))
             (only_below not_above not_left not_same (none_given (IsAtRight query.grid to) Enters right_o gives_right no_right))
