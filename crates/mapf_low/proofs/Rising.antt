@@ -14,7 +14,7 @@ use Rattle.mapf_low.specs.declared.constraint.Constraint.TheVariants.{Edge}
 use Rattle.mapf_low.specs.Layers.{MayEnter}
 use Rattle.mapf_low.specs.Reached.{IsUsable, MayStep, ComesFrom}
 use Rattle.mapf_low.proofs.Growing.{members_push, all_in_front, Grown}
-use Rattle.mapf_low.proofs.LevelSearch.{Next_back}
+use Rattle.mapf_low.proofs.distances.LevelSearch.{Next_back}
 use Rattle.mapf_low.specs.Best.{IsSmallest}
 use Rattle.mapf_low.proofs.Bests.{smallest_same}
 

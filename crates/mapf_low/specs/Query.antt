@@ -20,6 +20,10 @@ pub record Query : Type 0 where
   pub goal : ℕ
   pub limit : ℕ
 
+abbrev pub query_of : Grid → List (Option ℕ) → List Constraint → (start goal limit : ℕ) → Query
+query_of grid table constraints start goal limit =
+    record { grid = grid; table = table; constraints = constraints; start = start; goal = goal; limit = limit }
+
 -- start and goal are free, each edge constraint has two ends, and the limit is not too large
 pub record IsPosed (query : Query) : Type 0 where
   pub sizes : HasSizes query.grid

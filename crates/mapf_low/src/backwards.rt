@@ -1,16 +1,19 @@
 ghost use Rattle.std.specs.Prelude.{◌≡◌, ℕ, ◌≤◌, List, IfOk, OnOk, IfSome, MatchOption};
 ghost use Rattle.mapf_grid.specs.Grid.{IsFree};
-ghost use Rattle.mapf_low.specs.Backwards.{IsLeft, AreDead, IsTraced, HasNoneBefore};
+ghost use Rattle.mapf_low.specs.Backwards.Tracing.{IsLeft, AreDead, IsTraced, HasNoneBefore};
 ghost use Rattle.mapf_low.specs.Constraints.{IsAllowed};
-ghost use Rattle.mapf_low.specs.Earliest.{HasEarliest};
+ghost use Rattle.mapf_low.specs.Backwards.Earliest.{HasEarliest};
 ghost use Rattle.mapf_low.specs.OwnPath.{IsOwnPath};
 ghost use Rattle.mapf_low.specs.Query.{IsFound};
 ghost use Rattle.mapf_low.specs.Walk.{AreDistances};
 ghost use Rattle.mapf_plan.specs.Path.{cost};
 ghost use Rattle.mapf_plan.specs.Plan.{most_bound};
 
-use crate::dead_ends::DeadEnds;
-use crate::earliest::earliest_arrivals;
+pub(crate) mod dead_ends;
+mod earliest;
+
+use crate::backwards::dead_ends::DeadEnds;
+use crate::backwards::earliest::earliest_arrivals;
 use crate::query::{Query, Trip};
 use crate::{Constraints, Distances};
 use mapf_grid::{Cell, Map, NoMemory};
@@ -69,7 +72,7 @@ fn trace(
 
 /// The own path that is asked for, which costs at least `first`: what a list of steps of the first cost gives at which one
 /// leads to the goal, and may end there. `None`, if more than `budget` dead ends were met.
-fn first_traced(
+fn trace_first(
     alloc: Global,
     query: &Query,
     first: u32,
@@ -109,7 +112,7 @@ fn own_path(
     ensures { IfOk result (λ answer. IfSome answer (IsFound query.now)) }
 {
     match query.entry(query.goal()) {
-        Some(earliest) => first_traced(alloc, query, least.max(earliest), budget),
+        Some(earliest) => trace_first(alloc, query, least.max(earliest), budget),
         None => Ok(Some(None)),
     }
 }

@@ -1,8 +1,11 @@
 ghost use Rattle.std.specs.Prelude.{◌↔◌, IsTrue, IfOk, Contains};
 ghost use Rattle.mapf_low.specs.Query.{HasDistances, MayEnd, IsFound};
 
-use crate::layer::Layer;
-use crate::layers::{first_layer, next_layer};
+mod layer;
+mod layers;
+
+use crate::by_layers::layer::Layer;
+use crate::by_layers::layers::{first_layer, next_layer};
 use crate::query::Query;
 use crate::reconstruction::reconstruct_path;
 use mapf_grid::NoMemory;
@@ -17,7 +20,7 @@ fn ends_in(query: &Query, layer: &Layer, time: u32) -> bool
 }
 
 /// An agent's own path, found by layers over time and read backwards from the first arrival.
-pub fn by_layers(alloc: Global, query: &Query) -> Result<Option<Path>, NoMemory>
+pub(crate) fn by_layers(alloc: Global, query: &Query) -> Result<Option<Path>, NoMemory>
     requires { HasDistances query.now }
     ensures { IfOk result (IsFound query.now) }
 {

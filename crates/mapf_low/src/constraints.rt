@@ -1,5 +1,7 @@
+pub(crate) mod times;
+
 use crate::Constraint;
-use crate::time::{later, time_at};
+use crate::constraints::times::{later, time_at};
 use mapf_grid::{Cell, NoMemory};
 use std::alloc::Global;
 use std::marker::Model;

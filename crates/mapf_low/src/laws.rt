@@ -4,14 +4,14 @@
 ghost use Rattle.std.specs.Prelude.{ℕ, ◌≤◌, List, IfOk, MatchOption};
 ghost use Rattle.mapf_grid.specs.Grid.{IsFree};
 ghost use Rattle.mapf_low.specs.Walk.{AreDistances};
-ghost use Rattle.mapf_low.specs.Taken.{AreTaken};
+ghost use Rattle.mapf_low.specs.Forwards.Taken.{AreTaken};
 ghost use Rattle.mapf_low.specs.Constraints.{IsAllowed};
 ghost use Rattle.mapf_low.specs.OwnPath.{IsOwnPath, OrderIsByLast, OwnPathExists};
 ghost use Rattle.mapf_plan.specs.Plan.{most_bound};
 
 use crate::by_layers::by_layers;
+use crate::forwards::taken::list_states;
 use crate::query::{Query, Trip};
-use crate::taken::taken_by;
 use crate::{Constraints, Distances};
 use mapf_grid::{Cell, Map, NoMemory};
 use mapf_plan::Path;
@@ -83,5 +83,5 @@ pub fn taken(
 {
     let trip = Trip { start, goal };
     let query = Query::new(alloc, map, distances.table(), &trip, constraints, bound)?;
-    taken_by(alloc, &query)
+    list_states(alloc, &query)
 }

@@ -7,9 +7,8 @@ ghost use Rattle.mapf_plan.specs.Plan.{most_bound};
 mod backwards;
 
 use crate::Constraints;
-use crate::busy::{busy_times, is_busy};
-use crate::table::Table;
-use crate::time::is_past;
+use crate::constraints::times::{busy_times, is_busy, is_past};
+use crate::distances::table::Table;
 use mapf_grid::{Cell, Map, NoMemory};
 use smallvec::SmallVec;
 use std::alloc::Global;
@@ -17,16 +16,16 @@ use std::marker::Model;
 
 /// Where an agent begins, and where it ends.
 #[derive(Drop)]
-pub struct Trip {
-    pub start: Cell,
-    pub goal: Cell,
+pub(crate) struct Trip {
+    pub(crate) start: Cell,
+    pub(crate) goal: Cell,
 }
 
 /// What the low-level search is asked: one agent's own path from its start to its goal on a map, under constraints, at a
 /// cost of at most a limit. It goes by a table of a number for each cell: the search forwards by the distances to the goal, the
 /// search backwards by a time step before which the agent can't be there.
 #[derive(Drop)]
-pub struct Query<'a> {
+pub(crate) struct Query<'a> {
     map: &'a Map,
     table: &'a Table,
     constraints: &'a Constraints,
@@ -40,24 +39,25 @@ pub struct Query<'a> {
 }
 
 impl<'a> Model for Query<'a> {
-    ghost use Rattle.mapf_low.specs.Query.{Query, IsPrepared};
+    ghost use Rattle.mapf_low.specs.Query.{Query, IsPrepared, query_of};
 
     ghost Value = { Query };
 
-    ghost view = { λ q. record { grid = q.map.now; table = q.table.now; constraints = q.constraints.now; start = q.start; goal = q.goal; limit = q.limit } };
+    ghost view = { λ q. query_of q.map.now q.table.now q.constraints.now q.start q.goal q.limit };
 
-    ghost invariant = { λ q. IsPrepared (record { grid = q.map.now; table = q.table.now; constraints = q.constraints.now; start = q.start; goal = q.goal; limit = q.limit }) q.last q.busy_times.items };
+    ghost invariant = { λ q. IsPrepared (query_of q.map.now q.table.now q.constraints.now q.start q.goal q.limit)
+        q.last q.busy_times.items };
 }
 
 impl<'a> Query<'a> {
-    ghost use Rattle.mapf_low.specs.Query.{IsPosed, MayEnd};
+    ghost use Rattle.mapf_low.specs.Query.{IsPosed, MayEnd, query_of};
     ghost use Rattle.mapf_low.specs.Reached.{IsUsable};
-    ghost use Rattle.mapf_low.specs.Classes.{IsAllowedStep};
-    ghost use Rattle.mapf_low.specs.Levels.{IsFreeNeighbour};
+    ghost use Rattle.mapf_low.specs.Forwards.FLevels.{IsAllowedStep};
+    ghost use Rattle.mapf_low.specs.Distances.Levels.{IsFreeNeighbour};
     ghost use Rattle.mapf_low.specs.Times.{IsQuiet};
 
     /// Asks for the own path between two cells.
-    pub fn new(
+    pub(crate) fn new(
         alloc: Global,
         map: &'a Map,
         table: &'a Table,
@@ -68,7 +68,8 @@ impl<'a> Query<'a> {
         requires start { IsFree map.now trip.now.start }
         requires goal { IsFree map.now trip.now.goal }
         requires limit { limit ≤ most_bound }
-        ensures { IfOk result (λ q. q ≡ record { grid = map.now; table = table.now; constraints = constraints.now; start = trip.now.start; goal = trip.now.goal; limit = limit }) }
+        ensures { IfOk result
+            (λ q. q ≡ query_of map.now table.now constraints.now trip.now.start trip.now.goal limit) }
     {
         // A map's sizes are known from a call alone.
         let _width = map.width();
@@ -87,7 +88,7 @@ impl<'a> Query<'a> {
     }
 
     /// Where the agent begins.
-    pub fn start(&self) -> Cell
+    pub(crate) fn start(&self) -> Cell
         ensures start { result ≡ self.now.start }
         ensures posed { IsPosed self.now }
     {
@@ -95,7 +96,7 @@ impl<'a> Query<'a> {
     }
 
     /// Where it ends.
-    pub fn goal(&self) -> Cell
+    pub(crate) fn goal(&self) -> Cell
         ensures goal { result ≡ self.now.goal }
         ensures posed { IsPosed self.now }
     {
@@ -103,7 +104,7 @@ impl<'a> Query<'a> {
     }
 
     /// What its path may cost at most.
-    pub fn limit(&self) -> u32
+    pub(crate) fn limit(&self) -> u32
         ensures limit { result ≡ self.now.limit }
         ensures posed { IsPosed self.now }
     {
@@ -111,7 +112,7 @@ impl<'a> Query<'a> {
     }
 
     /// How many cells the map has.
-    pub fn cells(&self) -> u32
+    pub(crate) fn cells(&self) -> u32
         ensures { result ≡ length self.now.grid.free }
     {
         self.map.height() * self.map.width()
@@ -119,7 +120,7 @@ impl<'a> Query<'a> {
 
     /// What the table has of a cell.
     #[inline]
-    pub fn entry(&self, cell: Cell) -> Option<u32>
+    pub(crate) fn entry(&self, cell: Cell) -> Option<u32>
         ensures { result ≡ distance_at self.now.table cell }
     {
         self.table.get(cell)
@@ -127,7 +128,7 @@ impl<'a> Query<'a> {
 
     /// The free neighbours of a free cell.
     #[inline]
-    pub fn neighbours(&self, cell: Cell) -> SmallVec<Cell, 4>
+    pub(crate) fn neighbours(&self, cell: Cell) -> SmallVec<Cell, 4>
         requires { IsFree self.now.grid cell }
         ensures { (v : ℕ) → Contains result.items v ↔ IsFreeNeighbour self.now.grid cell v }
     {
@@ -136,7 +137,7 @@ impl<'a> Query<'a> {
 
     /// Whether the agent may arrive on `to` from `from` at this time step.
     #[inline]
-    pub fn allows(&self, from: Cell, to: Cell, time: u32) -> bool
+    pub(crate) fn allows(&self, from: Cell, to: Cell, time: u32) -> bool
         requires { time ≤ self.now.limit + 1 }
         ensures { IsTrue result ↔ IsAllowedStep self.now time from to }
     {
@@ -146,7 +147,7 @@ impl<'a> Query<'a> {
 
     /// Whether no constraint forbids to be on the cell at this time step.
     #[inline]
-    pub fn allows_at(&self, cell: Cell, time: u32) -> bool
+    pub(crate) fn allows_at(&self, cell: Cell, time: u32) -> bool
         ensures { IsTrue result ↔ (¬ Contains self.now.constraints (Constraint.Vertex cell time)) }
     {
         self.constraints.allows_at(cell, time)
@@ -154,14 +155,14 @@ impl<'a> Query<'a> {
 
     /// Whether no constraint forbids the step from `from` to `to` at this time step.
     #[inline]
-    pub fn allows_step(&self, from: Cell, to: Cell, time: u32) -> bool
+    pub(crate) fn allows_step(&self, from: Cell, to: Cell, time: u32) -> bool
         ensures { IsTrue result ↔ (¬ Contains self.now.constraints (Constraint.Edge from to time)) }
     {
         self.constraints.allows_step(from, to, time)
     }
 
     /// Whether the marks tell that no constraint is of this time step or the next.
-    pub fn is_quiet(&self, time: u32) -> bool
+    pub(crate) fn is_quiet(&self, time: u32) -> bool
         ensures { IsTrue result → IsQuiet self.now.constraints time }
     {
         time < self.limit
@@ -170,7 +171,7 @@ impl<'a> Query<'a> {
     }
 
     /// Whether the agent may be on the cell at this time step, and its entry in the table can still be added by the limit.
-    pub fn is_usable(&self, cell: Cell, time: u32) -> bool
+    pub(crate) fn is_usable(&self, cell: Cell, time: u32) -> bool
         ensures { IsTrue result ↔ IsUsable self.now self.now.limit time cell }
     {
         let Some(entry) = self.table.get(cell) else {
@@ -181,7 +182,7 @@ impl<'a> Query<'a> {
     }
 
     /// Whether nothing forbids the goal from this time step on.
-    pub fn may_end(&self, time: u32) -> bool
+    pub(crate) fn may_end(&self, time: u32) -> bool
         ensures { IsTrue result ↔ MayEnd self.now time }
     {
         is_past(self.last, time)

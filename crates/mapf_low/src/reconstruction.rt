@@ -5,11 +5,22 @@ ghost use Rattle.mapf_low.specs.Reached.{ComesFrom, AreLinked, IsSmallestBefore,
 ghost use Rattle.mapf_plan.specs.Plan.{most_bound};
 
 use crate::query::Query;
-use crate::reached::Reached;
 use mapf_grid::{Cell, NoMemory};
 use mapf_plan::Path;
 use smallvec::SmallVec;
 use std::alloc::Global;
+
+/// Where an agent may be at each time step.
+pub(crate) trait Reached {
+    ghost use Rattle.std.specs.Prelude.{◌↔◌, ℕ, IsTrue};
+
+    /// It may be at this time on this cell.
+    ghost has: { Self → ℕ → ℕ → Type 0 };
+
+    /// Whether it may be on the cell at this time step.
+    fn has(&self, cell: Cell, time: u32) -> bool
+        ensures { IsTrue result ↔ has self.now time cell };
+}
 
 /// The smaller of two cells, where there is one.
 fn smaller(one: Option<Cell>, other: Option<Cell>) -> Option<Cell>
@@ -55,7 +66,7 @@ fn smallest_before<R: Reached>(
 }
 
 /// The path that arrives on the goal at this time step, read backwards by the smallest earlier cell.
-pub fn reconstruct_path<R: Reached>(
+pub(crate) fn reconstruct_path<R: Reached>(
     alloc: Global,
     query: &Query,
     reached: &R,

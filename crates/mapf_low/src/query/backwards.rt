@@ -4,13 +4,13 @@ ghost use Rattle.mapf_low.specs.declared.constraint.Constraint.{Constraint};
 ghost use Rattle.mapf_low.specs.Walk.{distance_at};
 ghost use Rattle.mapf_low.specs.Best.{IsSmallest};
 ghost use Rattle.mapf_low.specs.Reached.{ComesFrom};
-ghost use Rattle.mapf_low.specs.Backwards.{IsLeft, MayLead};
-ghost use Rattle.mapf_low.specs.Earliest.{MayGo};
+ghost use Rattle.mapf_low.specs.Backwards.Tracing.{IsLeft, MayLead};
+ghost use Rattle.mapf_low.specs.Backwards.Earliest.{MayGo};
 ghost use Rattle.mapf_low.specs.Times.{IsQuiet};
 ghost use Rattle.mapf_plan.specs.Plan.{most_bound};
 
 use super::Query;
-use crate::dead_ends::DeadEnds;
+use crate::backwards::dead_ends::DeadEnds;
 use mapf_grid::Cell;
 
 // What the search backwards asks: its table tells of each cell a time step before which the agent can't be there.
@@ -28,14 +28,14 @@ impl Query<'_> {
 
     /// Whether nothing rules out so far that the agent is on the cell at this time step: it is late enough, the cell is not
     /// forbidden, and the state is no dead end.
-    pub fn is_left(&self, dead: &DeadEnds, cell: Cell, time: u32) -> bool
+    pub(crate) fn is_left(&self, dead: &DeadEnds, cell: Cell, time: u32) -> bool
         ensures { IsTrue result ↔ IsLeft self.now dead.now.states time cell }
     {
         self.is_late_enough(cell, time) && self.allows_at(cell, time) && !dead.contains(cell, time)
     }
 
     /// Whether no constraint forbids to be on `from` at this time step, and to be on `to` at the next by a step from there.
-    pub fn may_go(&self, from: Cell, to: Cell, time: u32) -> bool
+    pub(crate) fn may_go(&self, from: Cell, to: Cell, time: u32) -> bool
         requires { time < most_bound }
         ensures { IsTrue result ↔ MayGo self.now time from to }
     {
@@ -82,7 +82,7 @@ impl Query<'_> {
 
     /// The smallest cell from which a step leads to `to`, of those where nothing rules out so far that the agent is there at
     /// this time step; none, if all are ruled out.
-    pub fn smallest_before(&self, dead: &DeadEnds, to: Cell, time: u32) -> Option<Cell>
+    pub(crate) fn smallest_before(&self, dead: &DeadEnds, to: Cell, time: u32) -> Option<Cell>
         requires free { IsFree self.now.grid to }
         requires inside { to < cells self.now.grid }
         requires early { time < most_bound }

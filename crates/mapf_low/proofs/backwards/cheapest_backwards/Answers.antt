@@ -1,20 +1,13 @@
 use Rattle.std.proofs.Common.{subst, sym}
-use Rattle.mapf_low.specs.Earliest.{AreEarliest, HasEarliest}
-use Rattle.mapf_low.specs.Query.{Query}
-use Rattle.mapf_low.proofs.Advancing.{earliest_by}
-use Rattle.mapf_low.proofs.OutOfReach.{distances_earliest}
+use Rattle.mapf_low.specs.Backwards.Earliest.{AreEarliest, HasEarliest}
+use Rattle.mapf_low.specs.Query.{query_of}
+use Rattle.mapf_low.proofs.backwards.Advancing.{earliest_by}
+use Rattle.mapf_low.proofs.backwards.OutOfReach.{distances_earliest}
 use Rattle.mapf_low.proofs.backwards.cheapest_backwards.Goals as goal
 
 pub own_path-requires-clause-earliest : goal.own_path-requires-clause-earliest
 own_path-requires-clause-earliest c =
-    let query : Query = record {
-      grid = c.args.map.now;
-      table = c.table.result.now;
-      constraints = c.args.constraints.now;
-      start = c.args.start;
-      goal = c.args.goal;
-      limit = c.args.bound;
-    } in
+    let query = query_of c.args.map.now c.table.result.now c.args.constraints.now c.args.start c.args.goal c.args.bound in
     subst HasEarliest (sym c.in_ok-by_distance.ensures) (
     subst (AreEarliest query) (sym c.table.ensures)
     (distances_earliest query c.args.from_start.now c.width-width.ensures.sizes c.requires.start c.requires.from_start))

@@ -1,10 +1,10 @@
 use Rattle.std.proofs.Common.{◌≡◌, ◌+◌, ◌-◌, ◌<◌, slice_index, Some, subst, subst₂, sym, ap, ◌∙◌, arith}
 use Rattle.std.proofs.lemmas.List.{get_or_default}
 use Rattle.mapf_grid.specs.Grid.{IsFree, cells}
-use Rattle.mapf_low.specs.Backwards.{CanBe, IsLeft, IsJoined, IsTraced}
+use Rattle.mapf_low.specs.Backwards.Tracing.{CanBe, IsLeft, IsJoined, IsTraced}
 use Rattle.mapf_low.specs.Best.{IsSmallest}
 use Rattle.mapf_low.specs.Reached.{ComesFrom}
-use Rattle.mapf_low.proofs.Placing.{IsPlaced, placed_more, placed_fewer, placed_free, placed_inside, placed_all, not_can, dead_more}
+use Rattle.mapf_low.proofs.backwards.Placing.{IsPlaced, placed_more, placed_fewer, placed_free, placed_inside, placed_all, not_can, dead_more}
 use Rattle.mapf_low.proofs.backwards.trace.Goals as goal
 
 pub smallest_before-requires : goal.smallest_before-requires

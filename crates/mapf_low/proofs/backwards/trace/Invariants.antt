@@ -1,6 +1,6 @@
 use Rattle.std.proofs.Common.{◌≤◌, ◌+◌, ◌*◌}
-use Rattle.mapf_low.specs.Backwards.{AreDead}
-use Rattle.mapf_low.proofs.Placing.{IsPlaced}
+use Rattle.mapf_low.specs.Backwards.Tracing.{AreDead}
+use Rattle.mapf_low.proofs.backwards.Placing.{IsPlaced}
 use Rattle.mapf_low.proofs.backwards.trace.Given as goal
 
 abbrev pub invariant-loop-time : goal.invariant-loop-time

@@ -3,11 +3,11 @@ use Rattle.std.proofs.lemmas.List.{get_or_default}
 use Rattle.mapf_low.specs.Query.{MayEnd}
 use Rattle.mapf_low.specs.Layers.{layer_at, InLayers, IsNextLayer}
 use Rattle.mapf_low.specs.Reached.{EndsAt}
-use Rattle.mapf_low.proofs.LayersGrow.{layers_one, layers_push, not_yet}
+use Rattle.mapf_low.proofs.by_layers.LayersGrow.{layers_one, layers_push, not_yet}
 use Rattle.mapf_low.proofs.Reading.{are_linked}
 use Rattle.mapf_low.proofs.Rising.{not_true}
 use Rattle.mapf_low.proofs.FirstArrival.{Setting, own, none_through, none_by_limit}
-use Rattle.mapf_low.proofs.Layering.{AreLayers, layers_reach}
+use Rattle.mapf_low.proofs.by_layers.Layering.{AreLayers, layers_reach}
 use Rattle.mapf_low.proofs.by_layers.by_layers.Goals as goal
 
 pub loop-time-init : goal.loop-time-init

@@ -1,5 +1,5 @@
 use Rattle.std.proofs.Common.{take}
-use Rattle.mapf_low.specs.Levels.{Marks, IsFreeNeighbourOfSome, TellUnseen, distances_of}
+use Rattle.mapf_low.specs.Distances.Levels.{Marks, IsFreeNeighbourOfSome, TellUnseen, distances_of}
 use Rattle.mapf_low.proofs.distances.fill_next_level.Given as goal
 
 abbrev pub invariant-loop-cell : goal.invariant-loop-cell

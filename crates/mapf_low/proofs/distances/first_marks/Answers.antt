@@ -1,7 +1,7 @@
 use Rattle.std.proofs.Common.{◌≤◌, false, length, map, sym, ◌∙◌, arith}
 use Rattle.std.proofs.Math.ListN.{get_or-map}
 use Rattle.std.proofs.lemmas.List.{ext_get_or, length-map}
-use Rattle.mapf_low.specs.Mark.{blocked, first_mark}
+use Rattle.mapf_low.specs.Distances.Mark.{blocked, first_mark}
 use Rattle.mapf_low.proofs.distances.first_marks.Goals as goal
 
 pub returns : goal.returns

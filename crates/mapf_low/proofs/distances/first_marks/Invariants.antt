@@ -1,5 +1,5 @@
 use Rattle.std.proofs.Common.{◌≡◌, ℕ, ◌<◌, false, length, get_or}
-use Rattle.mapf_low.specs.Mark.{blocked, first_mark}
+use Rattle.mapf_low.specs.Distances.Mark.{blocked, first_mark}
 use Rattle.mapf_low.proofs.distances.first_marks.Given as goal
 
 -- each cell so far has its mark

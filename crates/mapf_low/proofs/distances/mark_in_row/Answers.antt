@@ -1,13 +1,13 @@
 use Rattle.std.proofs.Common.{◌≡◌, ℕ, ◌+◌, ◌/◌, true, is_some, sym, ap, refl, ◌∙◌, subst}
 use Rattle.mapf_grid.specs.Grid.{IsFree}
-use Rattle.mapf_low.specs.Levels.{IsUnseen, distances_of}
-use Rattle.mapf_low.proofs.Marking.{Marks-same, Marks-known, some_from_test}
-use Rattle.mapf_low.proofs.Telling.{marked_or}
+use Rattle.mapf_low.specs.Distances.Levels.{IsUnseen, distances_of}
+use Rattle.mapf_low.proofs.distances.Marking.{Marks-same, Marks-known, some_from_test}
+use Rattle.mapf_low.proofs.distances.Telling.{marked_or}
 use Rattle.mapf_low.proofs.distances.mark_in_row.Goals as goal
 use Rattle.mapf_low.proofs.distances.mark_in_row.Goals.{else-is_unseen-via-then-is_unseen+else-is_some, else-is_unseen-via-else-is_unseen}
 
-pub returns-in_ok-mark-clause-marks : goal.returns-in_ok-mark-clause-marks
-returns-in_ok-mark-clause-marks c =
+pub returns-in_ok-mark_cell-clause-marks : goal.returns-in_ok-mark_cell-clause-marks
+returns-in_ok-mark_cell-clause-marks c =
     let grid = c.args.map.now in
     let left = c.args.left in
     let cell = c.args.cell in
@@ -16,8 +16,8 @@ returns-in_ok-mark-clause-marks c =
     let at = (c.at_right.ensures right.0).0 right.1 in
     let row : (left + 1) / grid.width ≡ left / grid.width = subst (λ k. k / grid.width ≡ left / grid.width) at.0 at.1 in
     Marks-same (◌≡◌ cell) (λ v. ((cell ≡ v) × ((left + 1) / grid.width ≡ left / grid.width)) × IsFree grid v)
-    c.args.distance (distances_of c.args.marks.now) (distances_of c.mark.new.marks) c.args.next.now.items c.mark.new.next.items
-    (λ v. (λ e. ((e, row), subst (IsFree grid) e free), λ h. h.0.0)) c.in_ok-mark.ensures.marks
+    c.args.distance (distances_of c.args.marks.now) (distances_of c.mark_cell.new.marks) c.args.next.now.items c.mark_cell.new.next.items
+    (λ v. (λ e. ((e, row), subst (IsFree grid) e free), λ h. h.0.0)) c.in_ok-mark_cell.ensures.marks
 
 pub returns-else-is_unseen-clause-marks : goal.returns-else-is_unseen-clause-marks
 returns-else-is_unseen-clause-marks c =

@@ -1,6 +1,6 @@
 use Rattle.std.proofs.Common.{sym, ◌∙◌, arith}
-use Rattle.mapf_low.specs.Levels.{IsFreeNeighbour, distances_of}
-use Rattle.mapf_low.proofs.Marking.{Marks-same, Marks-four, neighbours-four, same_left, same_right}
+use Rattle.mapf_low.specs.Distances.Levels.{IsFreeNeighbour, distances_of}
+use Rattle.mapf_low.proofs.distances.Marking.{Marks-same, Marks-four, neighbours-four, same_left, same_right}
 use Rattle.mapf_low.proofs.Places.{free_below}
 use Rattle.mapf_low.proofs.distances.mark_neighbours.Goals as goal
 

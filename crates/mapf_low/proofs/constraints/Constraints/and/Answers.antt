@@ -1,7 +1,7 @@
 use Rattle.std.proofs.Common.{◌≡◌, ◌↔◌, ◌⊎◌, ℕ, Result, MatchResult, Contains, insert, subst, sym, ◌∙◌, ap}
 use Rattle.mapf_low.specs.declared.constraint.Constraint.{Constraint}
 use Rattle.mapf_low.specs.Kept.{IsKept}
-use Rattle.mapf_low.proofs.Adding.{Adds, adds}
+use Rattle.mapf_low.proofs.constraints.Adding.{Adds, adds}
 use Rattle.mapf_low.proofs.constraints.Constraints.and.Goals as goal
 use Rattle.mapf_low.proofs.constraints.Constraints.and.Goals.{in-Err+in_ok-insert, in_default}
 

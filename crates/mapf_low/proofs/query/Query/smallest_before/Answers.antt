@@ -1,6 +1,6 @@
 use Rattle.std.proofs.Common.{sym, ap, ◌∙◌}
 use Rattle.mapf_low.specs.Query.{Query}
-use Rattle.mapf_low.proofs.AscendingNeighbours.{second_smallest, third_smallest, fourth_smallest, last_smallest}
+use Rattle.mapf_low.proofs.backwards.AscendingNeighbours.{second_smallest, third_smallest, fourth_smallest, last_smallest}
 use Rattle.mapf_low.proofs.query.Query.smallest_before.Goals as goal
 
 pub returns-then-is_some-2 : goal.returns-then-is_some-2

@@ -1,0 +1,3 @@
+-- The search by layers over time.
+pub mod Layering
+pub mod LayersGrow

@@ -1,0 +1,23 @@
+use Rattle.std.proofs.Common.{Contains}
+use Rattle.mapf_low.specs.declared.constraint.Constraint.TheVariants.{Edge}
+use Rattle.mapf_low.specs.Layers.{MayEnter}
+use Rattle.mapf_low.specs.Reached.{IsUsable}
+use Rattle.mapf_low.proofs.Rising.{pushed, not_pushed, not_true}
+use Rattle.mapf_low.proofs.by_layers.layers.generate.Goals as goal
+use Rattle.mapf_low.proofs.by_layers.layers.generate.Goals.{else-is_usable-via-then-is_usable+else-allows_step, else-is_usable-via-else-is_usable}
+
+pub returns-in_ok-push : goal.returns-in_ok-push
+returns-in_ok-push c =
+    pushed (λ v. MayEnter c.args.query.now c.args.time c.args.from v) c.args.reached.now.items c.push.new.self.items c.args.to c.in_ok-push.ensures.items
+    (c.is_usable.ensures.0 c.if-is_usable.true, c.allows_step.ensures.0 c.if-allows_step.true)
+
+pub returns-else-is_usable : goal.returns-else-is_usable
+returns-else-is_usable c =
+    not_pushed (λ v. MayEnter c.args.query.now c.args.time c.args.from v) c.args.reached.now.items c.args.to none
+  where
+    none : ¬ MayEnter c.args.query.now c.args.time c.args.from c.args.to
+    none =
+        elim c.else-is_usable.branch [
+          | else-is_usable-via-then-is_usable+else-allows_step w ↦ (λ m. not_true w.allows_step.result (¬ Contains c.args.query.now.constraints (Edge c.args.from c.args.to c.args.time)) w.allows_step.ensures w.if-allows_step.false m.1)
+          | else-is_usable-via-else-is_usable w ↦ (λ m. not_true c.is_usable.result (IsUsable c.args.query.now c.args.query.now.limit c.args.time c.args.to) c.is_usable.ensures w.if-is_usable.false m.0)
+        ]

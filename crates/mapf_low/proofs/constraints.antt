@@ -1,0 +1,5 @@
+-- Sets of constraints.
+pub mod Adding
+pub mod SortedSets
+pub mod ConstraintOrder
+pub mod Marked

@@ -1,4 +1,0 @@
-use Rattle.mapf_low.proofs.own_path.cheapest.Goals as goal
-
-pub own_path_of-requires : goal.own_path_of-requires
-own_path_of-requires c = rw (c.in_ok-query.ensures, c.table.ensures) c.requires.distances

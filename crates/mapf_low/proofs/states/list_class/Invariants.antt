@@ -1,6 +1,0 @@
-use Rattle.std.proofs.Common.{take}
-use Rattle.mapf_low.specs.Taken.{Lists}
-use Rattle.mapf_low.proofs.states.list_class.Given as goal
-
-abbrev pub invariant-loop-cell : goal.invariant-loop-cell
-invariant-loop-cell l = Lists l.query.table l.sum (take l.cell-index l.cell-items) l.fn.states.items l.states.items

@@ -1,0 +1,5 @@
+-- The search forwards, by f-levels.
+pub mod FLevels
+pub mod Chain
+pub mod Spread
+pub mod Taken

@@ -1,0 +1,102 @@
+ghost use Rattle.std.specs.Prelude.{◌≡◌, ℕ, ◌≤◌, List, IfOk, MatchOption};
+ghost use Rattle.std.specs.Option.{option_map};
+ghost use Rattle.mapf_grid.specs.Grid.{IsFree};
+ghost use Rattle.mapf_low.specs.Walk.{AreDistances};
+ghost use Rattle.mapf_plan.specs.Path.{cost};
+ghost use Rattle.mapf_low.specs.Query.{HasDistances, IsFound};
+ghost use Rattle.mapf_low.specs.Forwards.FLevels.{IsSearched, InFLevels};
+ghost use Rattle.mapf_low.specs.Reached.{AreLinked, IsReconstructed};
+ghost use Rattle.mapf_low.specs.Constraints.{IsAllowed};
+ghost use Rattle.mapf_low.specs.OwnPath.{IsOwnPath};
+ghost use Rattle.mapf_plan.specs.Plan.{most_bound};
+
+mod cell_hasher;
+mod chain;
+mod expansion;
+mod f_level;
+mod searched;
+mod states;
+pub(crate) mod taken;
+
+use crate::forwards::chain::is_chain;
+use crate::forwards::searched::{Searched, search};
+use crate::forwards::states::States;
+use crate::query::{Query, Trip};
+use crate::reconstruction::reconstruct_path;
+use crate::{Constraints, Distances};
+use mapf_grid::{Cell, Map, NoMemory};
+use mapf_plan::Path;
+use std::alloc::Global;
+
+/// The path that arrives on the goal at this time step, read from the states that were reached.
+fn read_path(alloc: Global, query: &Query, searched: &Searched, end: u32) -> Result<Path, NoMemory>
+    requires linked { AreLinked query.now (InFLevels query.now searched.now.nearest searched.now.levels.items) end }
+    requires arrived { InFLevels query.now searched.now.nearest searched.now.levels.items end query.now.goal }
+    requires short { end ≤ most_bound }
+    ensures { IfOk result (λ path. IsReconstructed query.now
+        (InFLevels query.now searched.now.nearest searched.now.levels.items) path 0 end) }
+{
+    if end == searched.nearest && searched.levels.len() == 1 {
+        let level = &searched.levels[0];
+        if is_chain(query, end, level) {
+            return Ok(Path::of(Vec::from_slice(alloc, level.cells())?));
+        }
+    }
+    let states = States { query, searched };
+    reconstruct_path(alloc, query, &states, end)
+}
+
+/// An agent's own path, if it has one, beside the search that found it.
+pub(crate) fn find(alloc: Global, query: &Query) -> Result<(Searched, Option<Path>), NoMemory>
+    requires { HasDistances query.now }
+    ensures searched { IfOk result (λ r. IsSearched query.now r.0.nearest r.0.levels.items r.0.end) }
+    ensures path { IfOk result (λ r. IsFound query.now r.1) }
+    ensures end { IfOk result (λ r. r.0.end ≡ option_map cost r.1) }
+{
+    let searched = search(alloc, query)?;
+    match searched.end {
+        None => Ok((searched, None)),
+        Some(end) => {
+            let path = read_path(alloc, query, &searched, end)?;
+            Ok((searched, Some(path)))
+        }
+    }
+}
+
+/// An agent's own path; none is looked for where its goal is forbidden at the limit or later.
+pub(crate) fn own_path_of(alloc: Global, query: &Query) -> Result<Option<Path>, NoMemory>
+    requires { HasDistances query.now }
+    ensures { IfOk result (IsFound query.now) }
+{
+    if !query.may_end(query.limit()) {
+        return Ok(None);
+    }
+    let (_searched, path) = find(alloc, query)?;
+    Ok(path)
+}
+
+/// An agent's own path: of its paths of cost at most `bound` that obey the constraints at all times the least by
+/// cost, and among equal costs the one with the smaller cell at the last place where two differ.
+///
+/// `distances` are those of the goal on this map. Only `NoMemory` is an error.
+pub fn cheapest(
+    alloc: Global,
+    map: &Map,
+    distances: &Distances,
+    start: Cell,
+    goal: Cell,
+    constraints: &Constraints,
+    bound: u32,
+) -> Result<Option<Path>, NoMemory>
+    requires start { IsFree map.now start }
+    requires goal { IsFree map.now goal }
+    requires distances { AreDistances map.now goal distances.now }
+    requires bound { bound ≤ most_bound }
+    ensures { IfOk result (λ found. MatchOption found
+        ((p : List ℕ) → ¬ IsAllowed map.now start goal bound constraints.now p)
+        (IsOwnPath map.now start goal bound constraints.now)) }
+{
+    let trip = Trip { start, goal };
+    let query = Query::new(alloc, map, distances.table(), &trip, constraints, bound)?;
+    own_path_of(alloc, &query)
+}
