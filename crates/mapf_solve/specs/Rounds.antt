@@ -54,8 +54,3 @@ AreOfGoals inst jobs = jobs ≡ map (wanted_table inst) (range_with_len 0 (lengt
 -- the child is the one that was asked for
 abbrev pub FitsSide : WantedChild → Option Node → Type 0
 FitsSide j found = IsChildOf j.query.problem j.node j.query.side found
-
--- a child that was worked out, and the job that it is for
-pub record WorkedChild : Type 0 where
-  pub job : WantedChild
-  pub child : Option Node

@@ -27,3 +27,7 @@ abbrev pub WentOn : Problem → ℕ → Option (List ℕ) → Searched → Resul
 WentOn p n from s (Ok Working) = (s.outcome ≡ Ok None) × TakesBetween p from s.last n
 WentOn p n from s (Ok Finished) = (m : ℕ) × (m ≤ n) × TakesBetween p from s.last m
 WentOn p n from s (Err _) = Unit {0}
+
+-- it went on so by some number of nodes: by one at least, and by so many at most
+abbrev pub WentUpTo : Problem → ℕ → Option (List ℕ) → Searched → Result Progress NoMemory → Type 0
+WentUpTo p most from s r = (n : ℕ) × (1 ≤ n) × (n ≤ most) × WentOn p n from s r

@@ -1,14 +1,13 @@
 //! Sessions: a search takes nodes with a source whose owner works ahead, and workers beside it work out children of nodes that wait.
 
-mod ahead;
 mod brands;
 mod desk;
+mod known;
 mod lookahead;
 mod means;
 mod session;
 mod side_job;
 mod source;
-mod worked;
 
 pub(crate) use brands::OneProblem;
 pub(crate) use lookahead::Lookahead;

@@ -1,14 +1,18 @@
 //! The workers of a board, beside its owner.
-ghost use Rattle.std.specs.Prelude.{◌≡◌, All, IfOk, vec_len};
-ghost use Rattle.mapf_board.specs.Workers.{IsWorkerOf, IsIdle, workers_of};
+ghost use Rattle.std.specs.Prelude.{◌≡◌, All, IfOk, Some};
+ghost use Rattle.mapf_board.specs.Owners.{IsOwnerOf, current_in};
+ghost use Rattle.mapf_board.specs.Views.{job_in};
+ghost use Rattle.mapf_board.specs.Workers.{IsCrewOf, IsIdle, IsWorkerOf};
 
 use super::Live;
+use super::left::Left;
+use super::owner::Owner;
 use super::worker::WorkerSeat;
 use crate::gate::Gate;
 use crate::no_memory::NoMemory;
 use crate::supply::Supply;
-use crate::work::Work;
-use std::alloc::AllocError;
+use crate::work::{Pair, Work};
+use std::alloc::{AllocError, Global};
 use std::thread::{Threads, join, map_vec};
 
 /// The seats of all workers of a live board, of whom none has a claim.
@@ -16,17 +20,13 @@ use std::thread::{Threads, join, map_vec};
 pub struct Crew<'s, W: Work> {
     live: &'s Live<W>,
     seats: Vec<WorkerSeat<W>>,
-    ghost all: { vec_len seats ≡ workers_of live.now },
-    ghost workers: { All (IsWorkerOf live.now) seats.items },
-    ghost idle: { All IsIdle seats.items },
+    ghost crew: { IsCrewOf live.now seats.items },
 }
 
 impl<'s, W: Work> Crew<'s, W> {
     /// These are the seats of all workers of the board.
     pub fn of(live: &'s Live<W>, seats: Vec<WorkerSeat<W>>) -> Crew<'s, W>
-        requires all { vec_len seats ≡ workers_of live.now }
-        requires workers { All (IsWorkerOf live.now) seats.items }
-        requires idle { All IsIdle seats.items }
+        requires { IsCrewOf live.now seats.items }
         ensures { result.live.now ≡ live.now }
     {
         Crew { live, seats }
@@ -34,9 +34,7 @@ impl<'s, W: Work> Crew<'s, W> {
 
     /// The seats.
     pub fn into_seats(self) -> Vec<WorkerSeat<W>>
-        ensures all { vec_len result ≡ workers_of self.entry.live.now }
-        ensures workers { All (IsWorkerOf self.entry.live.now) result.items }
-        ensures idle { All IsIdle result.items }
+        ensures { IsCrewOf self.entry.live.now result.items }
     {
         let Crew { seats, .. } = self;
         seats
@@ -49,11 +47,24 @@ pub fn seats_of<W: Work>(
     crew: Result<Crew<'_, W>, NoMemory>,
 ) -> Result<Vec<WorkerSeat<W>>, NoMemory>
     requires { IfOk crew (λ crew. crew.live.now ≡ live.now) }
-    ensures all { IfOk result (λ seats. vec_len seats ≡ workers_of live.now) }
-    ensures workers { IfOk result (λ seats. All (IsWorkerOf live.now) seats.items) }
-    ensures idle { IfOk result (λ seats. All IsIdle seats.items) }
+    ensures { IfOk result (λ seats. IsCrewOf live.now seats.items) }
 {
     Ok(crew?.into_seats())
+}
+
+/// Closes a board behind its crew: what is left there of jobs that the owner has there still. An error is that memory ran out,
+/// for the crew or to close the board.
+pub fn close_behind<W: Work>(
+    alloc: Global,
+    live: Live<W>,
+    owner: Owner<W>,
+    seats: Result<Vec<WorkerSeat<W>>, NoMemory>,
+) -> Result<Vec<(usize, Left<Pair<W>, W::Job>)>, NoMemory>
+    requires owner { IsOwnerOf live owner }
+    requires crew { IfOk seats (λ seats. IsCrewOf live seats.items) }
+    ensures { IfOk result (λ left. All (λ x. current_in owner x.0 ≡ Some (job_in x.1)) left.items) }
+{
+    live.close(alloc, owner, seats?).map_err(|_| NoMemory)
 }
 
 /// The owner's part, and beside it each worker takes its turns at the board in a thread of its own. The crew comes back; an

@@ -8,7 +8,7 @@ ghost use Rattle.mapf_solve.specs.Sessions.{AreSidesOf, IsGivenOf};
 
 use crate::sessions::brands::{OneBoard, OneProblem};
 use crate::sessions::side_job::{SideJob, SideWork};
-use mapf_board::{Found, Left, Live, MOST_SLOTS, Owner, Pair, Work};
+use mapf_board::{Found, Left, Live, MOST_SLOTS, Owner, Pair};
 use std::marker::PhantomData;
 
 /// One of the slots of a board.
@@ -25,21 +25,24 @@ impl Slot {
     {
         Slot { number }
     }
+
+    /// The slot's bit in a word.
+    fn bit(self) -> u64 {
+        1 << self.number
+    }
 }
 
 /// What a board gives back for a job.
 pub(crate) type Given<'p> = Left<Pair<SideWork<'p>>, SideJob<'p>>;
 
-/// The owner of a live board of as many slots as a board may have, and the work that is done there. Each job of the board is
-/// for a child of a node of the problem's tree.
+/// The owner of a live board of as many slots as a board may have. Each job of the board is for a child of a node of the
+/// problem's tree.
+#[derive(Drop)]
 pub(crate) struct Desk<'p, 's, P: OneProblem, B: OneBoard> {
     live: &'s Live<SideWork<'p>>,
-    work: &'s SideWork<'p>,
     owner: Owner<SideWork<'p>>,
-    /// Which slots have a job.
-    used: [bool; MOST_SLOTS],
-    /// How many slots have a job, so that no slot is looked at where none has.
-    jobs: usize,
+    /// The bits of the slots that have a job.
+    used: u64,
     of: PhantomData<(P, B)>,
     ghost board: { board_of live.now ≡ B.board },
     ghost slots: { size_of live.now ≡ MOST_SLOTS },
@@ -47,25 +50,10 @@ pub(crate) struct Desk<'p, 's, P: OneProblem, B: OneBoard> {
     ghost sides: { AreSidesOf P.problem (currents owner) },
 }
 
-// By hand, so that a proof about what holds a desk sees a call where it is dropped, and not its fields.
-impl<'p, 's, P: OneProblem, B: OneBoard> Drop for Desk<'p, 's, P, B> {
-    fn drop(self) {
-        let Desk {
-            live: _,
-            work: _,
-            owner: _,
-            used: _,
-            jobs: _,
-            of: _,
-        } = self;
-    }
-}
-
 impl<'p, 's, P: OneProblem, B: OneBoard> Desk<'p, 's, P, B> {
     /// The desk of the owner of a board that has no job yet.
     pub(crate) fn new(
         live: &'s Live<SideWork<'p>>,
-        work: &'s SideWork<'p>,
         owner: Owner<SideWork<'p>>,
     ) -> Desk<'p, 's, P, B>
         requires board { board_of live.now ≡ B.board }
@@ -75,10 +63,8 @@ impl<'p, 's, P: OneProblem, B: OneBoard> Desk<'p, 's, P, B> {
     {
         Desk {
             live,
-            work,
             owner,
-            used: [false; MOST_SLOTS],
-            jobs: 0,
+            used: 0,
             of: PhantomData,
         }
     }
@@ -88,35 +74,28 @@ impl<'p, 's, P: OneProblem, B: OneBoard> Desk<'p, 's, P, B> {
         ensures owns { IsOwnerAt B.board MOST_SLOTS result }
         ensures sides { AreSidesOf P.problem (currents result) }
     {
-        let Desk {
-            live: _,
-            work: _,
-            owner,
-            used: _,
-            jobs: _,
-            of: _,
-        } = self;
+        let Desk { owner, .. } = self;
         owner
     }
 
     /// Whether the slot has a job.
     pub(crate) fn is_used(&self, slot: Slot) -> bool {
-        self.used[slot.number]
+        self.used & slot.bit() != 0
     }
 
     /// Whether any slot has a job.
     pub(crate) fn has_jobs(&self) -> bool {
-        self.jobs > 0
+        self.used != 0
     }
 
     /// The first slot that has no job.
     pub(crate) fn free_slot(&self) -> Option<Slot> {
-        for number in 0..MOST_SLOTS {
-            if !self.used[number] {
-                return Some(Slot::at(number));
-            }
+        let number = self.used.trailing_ones() as usize;
+        if number < MOST_SLOTS {
+            Some(Slot::at(number))
+        } else {
+            None
         }
-        None
     }
 
     /// Posts a job in a slot, if that has none.
@@ -124,8 +103,7 @@ impl<'p, 's, P: OneProblem, B: OneBoard> Desk<'p, 's, P, B> {
         requires { job.query.problem ≡ P.problem }
     {
         if self.live.post(&mut self.owner, slot.number, job).is_ok() {
-            self.used[slot.number] = true;
-            self.jobs = self.jobs.saturating_add(1);
+            self.used |= slot.bit();
         }
     }
 
@@ -134,8 +112,7 @@ impl<'p, 's, P: OneProblem, B: OneBoard> Desk<'p, 's, P, B> {
         ensures { IfOk result (IsGivenOf P.problem) }
     {
         let left = self.live.collect(&mut self.owner, slot.number)?;
-        self.used[slot.number] = false;
-        self.jobs = self.jobs.saturating_sub(1);
+        self.used &= !slot.bit();
         Ok(left)
     }
 
@@ -144,20 +121,8 @@ impl<'p, 's, P: OneProblem, B: OneBoard> Desk<'p, 's, P, B> {
         ensures { IfSome result (λ job. job.query.problem ≡ P.problem) }
     {
         let job = self.live.withdraw(&mut self.owner, slot.number).ok()?;
-        self.used[slot.number] = false;
-        self.jobs = self.jobs.saturating_sub(1);
+        self.used &= !slot.bit();
         Some(job)
-    }
-
-    /// What becomes of a job that is performed now.
-    pub(crate) fn perform(&self, job: SideJob<'p>) -> Given<'p>
-        requires { job.query.problem ≡ P.problem }
-        ensures { IsGivenOf P.problem result }
-    {
-        match self.work.perform(job) {
-            Ok(pair) => Left::Answer(pair),
-            Err(job) => Left::Job(job),
-        }
     }
 
     /// Shuts the board.

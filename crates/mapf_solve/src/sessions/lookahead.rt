@@ -1,28 +1,29 @@
-//! What sessions of a search hand on: own paths, and children that were worked ahead.
+//! What sessions of a search hand on: own paths, and what is known of children of nodes that wait.
 
-ghost use Rattle.std.specs.Prelude.{◌≡◌, ◌≤◌, All, IfOk, IfSome};
+ghost use Rattle.std.specs.Prelude.{◌≡◌, ◌<◌, ◌≤◌, All, IfErr, IfOk, IfSome, vec_len};
 ghost use Rattle.mapf_board.specs.declared.limits.TheConstants.{MOST_WORKERS};
 ghost use Rattle.mapf_tree.specs.Family.{IsBranching, IsChildOf};
 ghost use Rattle.mapf_tree.specs.SideQuery.{IsQueryOf};
 ghost use Rattle.mapf_solve.specs.Sessions.{IsGivenOf};
 
-use crate::sessions::ahead::{Ahead, Known};
 use crate::sessions::brands::OneProblem;
 use crate::sessions::desk::{Given, Slot};
+use crate::sessions::known::{Entry, Known, Worked};
 use crate::sessions::side_job::{SideJob, SideWork};
-use crate::sessions::worked::Worked;
-use mapf_board::{Left, Pair};
+use mapf_board::{Left, Pair, Work};
 use mapf_grid::NoMemory;
-use mapf_tree::{Node, OwnPaths, Problem, Side, SideQuery};
+use mapf_tree::{Key, Node, OwnPaths, Problem, Side, SideQuery};
 use std::alloc::Global;
+use std::cmp::Ordering;
 
 /// The own paths that a search knows, what is known of children of its waiting nodes, and how jobs for them are numbered.
 pub(crate) struct Lookahead<'p, P: OneProblem> {
     alloc: Global,
     own_paths: OwnPaths<'p>,
-    ahead: Ahead<'p, P>,
+    /// The greatest key first, and a right side before a left one: what is next to be asked for is the last.
+    entries: Vec<Entry<'p, P>>,
     /// Of how many waiting nodes children are worked ahead.
-    nodes: usize,
+    pub(crate) nodes: usize,
     /// The number of the next job.
     next: u64,
     ghost is_of: { own_paths ≡ P.problem },
@@ -34,7 +35,7 @@ impl<'p, P: OneProblem> Drop for Lookahead<'p, P> {
         let Lookahead {
             alloc: _,
             own_paths: _,
-            ahead: _,
+            entries: _,
             nodes: _,
             next: _,
         } = self;
@@ -55,80 +56,89 @@ impl<'p, P: OneProblem> Lookahead<'p, P> {
         Ok(Lookahead {
             alloc,
             own_paths: OwnPaths::new(alloc, problem)?,
-            ahead: Ahead::new(alloc),
+            entries: Vec::new(alloc),
             nodes: 4 * workers,
             next,
         })
     }
 
-    /// Of how many waiting nodes children are worked ahead.
-    pub(crate) fn nodes(&self) -> usize {
-        self.nodes
+    /// The job for a child of a node, to be posted in this slot, where nothing is known of that child: neither its path, nor
+    /// that it was worked ahead. None where memory runs out, too.
+    pub(crate) fn job(&mut self, node: &Node, side: Side, slot: Slot) -> Option<SideJob<'p>>
+        requires { IsBranching P.problem node.now }
+        ensures { IfSome result (λ job. job.query.problem ≡ P.problem) }
+    {
+        let query = self.unknown_query(node, side)?;
+        let from_start = self.own_paths.from_start(&query);
+        let copy = node.copy(self.alloc).ok()?;
+        self.add(node, side, Known::Posted(slot));
+        let number = self.next;
+        self.next = number.saturating_add(1);
+        Some(SideJob::of(copy, query, from_start, number))
     }
 
-    /// The own path that a side of a node asks for, where nothing is known of that child: neither its path, nor that it was
-    /// worked ahead. None where memory runs out, too.
-    pub(crate) fn unknown_query(&mut self, node: &Node, side: Side) -> Option<SideQuery<'p>>
+    /// The own path that a side of a node asks for, where nothing is known of that child. None where memory runs out, too.
+    fn unknown_query(&mut self, node: &Node, side: Side) -> Option<SideQuery<'p>>
         requires { IsBranching P.problem node.now }
         ensures query { IfSome result (IsQueryOf node.now) }
         ensures problem { IfSome result (λ q. q.problem ≡ P.problem) }
     {
-        if self.ahead.has(node, side) {
+        if self.place_of(node, side).is_ok() {
             return None;
         }
         match self.own_paths.unknown_query(node, side) {
             Ok(Some(query)) => Some(query),
             Ok(None) => {
-                self.ahead.add(node, side, Known::Unposted);
+                self.add(node, side, Known::Unposted);
                 None
             }
             Err(_) => None,
         }
     }
 
-    /// The job for the side of a node that this query is of, which is posted in this slot. None where memory runs out.
-    pub(crate) fn job(
-        &mut self,
-        node: &Node,
-        query: SideQuery<'p>,
-        slot: Slot,
-    ) -> Option<SideJob<'p>>
-        requires node { IsBranching P.problem node.now }
-        requires query { IsQueryOf node.now query }
-        requires problem { query.problem ≡ P.problem }
-        ensures { IfSome result (λ job. job.query.problem ≡ P.problem) }
+    /// This is known of a child of a node, unless memory runs out.
+    fn add(&mut self, node: &Node, side: Side, known: Known<'p, P>) {
+        if let Err(place) = self.place_of(node, side) {
+            if let Some(key) = copy_of(self.alloc, node.key()) {
+                let _added = self.entries.insert(place, Entry { key, side, known });
+            }
+        }
+    }
+
+    /// Where the entry of a child of a node stands, or else where it is to be put in.
+    fn place_of(&self, node: &Node, side: Side) -> Result<usize, usize>
+        ensures there { IfOk result (λ place. place < vec_len self.now.entries) }
+        ensures new { IfErr result (λ place. place ≤ vec_len self.now.entries) }
     {
-        let from_start = self.own_paths.from_start(&query);
-        let copy = node.copy(self.alloc).ok()?;
-        self.ahead.add(node, query.side(), Known::Posted(slot));
-        let number = self.next;
-        self.next = number.saturating_add(1);
-        Some(SideJob::of(copy, query, from_start, number))
+        let mut place = self.entries.len();
+        while place > 0 {
+            let entry = &self.entries[place - 1];
+            match entry.key.cmp(node.key()).then(entry.side.cmp(&side)) {
+                Ordering::Less => place -= 1,
+                Ordering::Equal => return Ok(place - 1),
+                Ordering::Greater => break,
+            }
+        }
+        Err(place)
     }
 
     /// The slot of the job for a child of a node, if it was posted.
     pub(crate) fn slot_of(&self, node: &Node, side: Side) -> Option<Slot> {
-        self.ahead.slot_of(node, side)
-    }
-
-    /// The child on one side of the node whose turn it is, if a worker found it; what is known of it is remembered no longer.
-    pub(crate) fn take(&mut self, node: &Node, side: Side) -> Option<Option<Node>>
-        requires { IsBranching P.problem node.now }
-        ensures { IfSome result (IsChildOf P.problem node.now side) }
-    {
-        match self.ahead.take(node, side)? {
-            Known::Worked(worked) => worked.child_of(node, side),
-            Known::Posted(_) | Known::Unposted => None,
+        let place = self.place_of(node, side).ok()?;
+        match &self.entries[place].known {
+            Known::Posted(slot) => Some(*slot),
+            Known::Worked(_) | Known::Unposted => None,
         }
     }
 
-    /// The child that a worker found, whose path is remembered.
-    fn learn(&mut self, pair: Pair<SideWork<'p>>) -> Worked<'p, P>
-        requires { pair.0.query.problem ≡ P.problem }
+    /// Performs a job that nobody claimed, and keeps what becomes of it.
+    pub(crate) fn perform(&mut self, job: SideJob<'p>)
+        requires { job.query.problem ≡ P.problem }
     {
-        let (job, child) = pair.parts();
-        let child = self.own_paths.learn(job.node(), job.query(), child);
-        Worked::of(job, child)
+        match SideWork::new(self.alloc).perform(job) {
+            Ok(pair) => self.learn(pair),
+            Err(job) => self.give_up(&job),
+        }
     }
 
     /// Keeps what a worker left, where the job's node still waits: the child, or that there was no memory for it.
@@ -136,17 +146,9 @@ impl<'p, P: OneProblem> Lookahead<'p, P> {
         requires { IsGivenOf P.problem given }
     {
         match given {
-            Left::Answer(pair) => self.keep_pair(pair),
-            Left::Job(job) => self.ahead.note_undone(&job),
+            Left::Answer(pair) => self.learn(pair),
+            Left::Job(job) => self.give_up(&job),
         }
-    }
-
-    /// Keeps a child that a worker found, where the job's node still waits.
-    fn keep_pair(&mut self, pair: Pair<SideWork<'p>>)
-        requires { pair.0.query.problem ≡ P.problem }
-    {
-        let worked = self.learn(pair);
-        self.ahead.note_worked(worked);
     }
 
     /// Keeps what a board leaves that is closed: the children that were found, and no job.
@@ -155,25 +157,71 @@ impl<'p, P: OneProblem> Lookahead<'p, P> {
     {
         for (_slot, given) in left {
             match given {
-                Left::Answer(pair) => self.keep_pair(pair),
-                Left::Job(job) => self.ahead.forget(&job),
+                Left::Answer(pair) => self.learn(pair),
+                Left::Job(job) => self.forget(&job),
             }
         }
     }
 
-    /// The children of a node on both sides, of which these are known.
-    pub(crate) fn children(
-        &mut self,
-        node: &Node,
-        left: Option<Option<Node>>,
-        right: Option<Option<Node>>,
-    ) -> Result<(Option<Node>, Option<Node>), NoMemory>
-        requires node { IsBranching P.problem node.now }
-        requires left { IfSome left (IsChildOf P.problem node.now Side.Left) }
-        requires right { IfSome right (IsChildOf P.problem node.now Side.Right) }
+    /// Remembers the path of a child that was worked out, and keeps the child where its node still waits.
+    fn learn(&mut self, pair: Pair<SideWork<'p>>)
+        requires { pair.0.query.problem ≡ P.problem }
+    {
+        let (job, child) = pair.parts();
+        let child = self.own_paths.learn(job.node(), job.query(), child);
+        if let Ok(place) = self.place_of(job.node(), job.side()) {
+            self.entries[place].known = Known::Worked(Worked::of(job, child));
+        }
+    }
+
+    /// There was no memory for this job.
+    fn give_up(&mut self, job: &SideJob<'p>) {
+        if let Ok(place) = self.place_of(job.node(), job.side()) {
+            self.entries[place].known = Known::Unposted;
+        }
+    }
+
+    /// Nothing is known any more of the child that a job is for.
+    fn forget(&mut self, job: &SideJob<'p>) {
+        if let Ok(place) = self.place_of(job.node(), job.side()) {
+            self.entries.remove(place);
+        }
+    }
+
+    /// The children of the node whose turn it is, of which what was worked ahead is used.
+    pub(crate) fn children(&mut self, node: &Node) -> Result<(Option<Node>, Option<Node>), NoMemory>
+        requires { IsBranching P.problem node.now }
         ensures left { IfOk result (λ sides. IsChildOf P.problem node.now Side.Left sides.0) }
         ensures right { IfOk result (λ sides. IsChildOf P.problem node.now Side.Right sides.1) }
     {
+        let left = self.take(node, Side::Left);
+        let right = self.take(node, Side::Right);
         self.own_paths.children_from(node, left, right)
     }
+
+    /// The child on one side of the node whose turn it is, left before right, if it was worked ahead. What is known of it is
+    /// remembered no longer.
+    fn take(&mut self, node: &Node, side: Side) -> Option<Option<Node>>
+        requires { IsBranching P.problem node.now }
+        ensures { IfSome result (IsChildOf P.problem node.now side) }
+    {
+        let last = self.entries.last()?;
+        if last.side != side || last.key != *node.key() {
+            return None;
+        }
+        let Entry { known, .. } = self.entries.pop()?;
+        match known {
+            Known::Worked(worked) => worked.child_of(node, side),
+            Known::Posted(_) | Known::Unposted => None,
+        }
+    }
+}
+
+/// An equal key. None where memory runs out.
+fn copy_of(alloc: Global, key: &Key) -> Option<Key> {
+    Some(Key {
+        cost: key.cost,
+        depth: key.depth,
+        name: key.name.copy(alloc).ok()?,
+    })
 }

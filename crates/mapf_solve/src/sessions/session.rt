@@ -1,11 +1,10 @@
 //! A session: a search goes on with a source whose owner works ahead, and workers beside it.
 
-ghost use Rattle.std.specs.Prelude.{◌≡◌, ℕ, ◌≤◌, All, IfOk, None, Ok, Some, vec_len};
-ghost use Rattle.mapf_board.specs.Owners.{IsOwnerAt, IsOwnerOf, board_of, current_in, currents};
-ghost use Rattle.mapf_board.specs.Views.{job_in};
-ghost use Rattle.mapf_board.specs.Workers.{IsIdle, IsWorkerOf, size_of, workers_of};
+ghost use Rattle.std.specs.Prelude.{◌≡◌, IfOk, None, Ok};
+ghost use Rattle.mapf_board.specs.Owners.{IsOwnerOf, board_of, currents};
+ghost use Rattle.mapf_board.specs.Workers.{IsCrewOf, size_of};
 ghost use Rattle.mapf_board.specs.declared.limits.TheConstants.{MOST_SLOTS};
-ghost use Rattle.mapf_solve.specs.Sessions.{AreSidesOf, WentOn};
+ghost use Rattle.mapf_solve.specs.Sessions.{AreSidesOf, WentOn, WentUpTo};
 
 use crate::sessions::brands::{OneBoard, OneProblem};
 use crate::sessions::desk::Desk;
@@ -14,12 +13,10 @@ use crate::sessions::means::Means;
 use crate::sessions::side_job::SideWork;
 use crate::sessions::source::SessionSource;
 use mapf_board::{
-    Crew, Gate, Left, Live, MOST_SLOTS, Owner, Pair, Supply, Work, WorkerSeat, seats_of,
-    work_beside,
+    Crew, Gate, Live, MOST_SLOTS, Owner, Supply, WorkerSeat, close_behind, seats_of, work_beside,
 };
 use mapf_grid::NoMemory;
 use mapf_tree::{Progress, Search};
-use std::alloc::Global;
 use std::marker::Brand;
 use std::thread::Threads;
 
@@ -29,20 +26,11 @@ const QUIET_NODES: u64 = 256;
 /// A search and its source of children.
 ///
 /// They are one value, so that a closure that has both has one lifetime of the problem, and not one for each of them.
+#[derive(Drop)]
 struct Led<'p, 's, P: OneProblem, B: OneBoard, G> {
     search: Search<'p>,
     source: SessionSource<'p, 's, P, B, G>,
     ghost of_problem: { search.problem ≡ P.problem },
-}
-
-// By hand, so that a proof about what holds one sees a call where it is dropped, and not its fields.
-impl<'p, 's, P: OneProblem, B: OneBoard, G> Drop for Led<'p, 's, P, B, G> {
-    fn drop(self) {
-        let Led {
-            search: _,
-            source: _,
-        } = self;
-    }
 }
 
 impl<'p, 's, P: OneProblem, B: OneBoard, G: Gate> Led<'p, 's, P, B, G> {
@@ -56,17 +44,8 @@ impl<'p, 's, P: OneProblem, B: OneBoard, G: Gate> Led<'p, 's, P, B, G> {
             mut source,
         } = self;
         let progress = search.go(&mut source, nodes);
-        source.shut();
+        source.desk.shut();
         (Led { search, source }, progress)
-    }
-
-    /// The search and its source.
-    fn into_parts(self) -> (Search<'p>, SessionSource<'p, 's, P, B, G>)
-        ensures search { result.0 ≡ self.entry.search }
-        ensures problem { result.0.problem ≡ P.problem }
-    {
-        let Led { search, source } = self;
-        (search, source)
     }
 }
 
@@ -83,24 +62,23 @@ fn lead_with_workers<
 >(
     means: &Means<'_, R, G, S>,
     crew: Crew<'s, SideWork<'p>>,
-    work: &SideWork<'p>,
     led: Led<'p, 's, P, B, G>,
 ) -> (
     (Led<'p, 's, P, B, G>, Result<Progress, NoMemory>),
     Result<Crew<'s, SideWork<'p>>, mapf_board::NoMemory>,
 )
     requires { led.search.outcome ≡ Ok None }
-    ensures went { (n : ℕ) × (1 ≤ n) × (n ≤ means.now.pace.session_nodes) × WentOn P.problem n led.entry.search.last result.0.0.search result.0.1 }
+    ensures went { WentUpTo P.problem means.now.pace.session_nodes led.entry.search.last result.0.0.search result.0.1 }
     ensures crew { IfOk result.1 (λ back. back.live.now ≡ crew.entry.live.now) }
 {
     let nodes = means.pace.session_nodes;
-    if !led.source.has_jobs() {
+    if !led.source.desk.has_jobs() {
         return (led.lead(nodes.min(QUIET_NODES)), Ok(crew));
     }
     let (crew, led) = work_beside(
         means.rt,
         crew,
-        work,
+        &SideWork::new(means.alloc),
         means.pace.worker_turns,
         means.gate,
         means.supply,
@@ -140,50 +118,22 @@ fn session_at<
     requires slots { size_of live.now ≡ MOST_SLOTS }
     requires owns { IsOwnerOf live.now owner }
     requires sides { AreSidesOf P.problem (currents owner) }
-    requires all { vec_len seats ≡ workers_of live.now }
-    requires workers { All (IsWorkerOf live.now) seats.items }
-    requires idle { All IsIdle seats.items }
+    requires crew { IsCrewOf live.now seats.items }
     requires problem { search.problem ≡ P.problem }
     requires open_yet { search.outcome ≡ Ok None }
     ensures problem { result.0.0.problem ≡ P.problem }
-    ensures went { (n : ℕ) × (1 ≤ n) × (n ≤ means.now.pace.session_nodes) × WentOn P.problem n search.entry.last result.0.0 result.1 }
+    ensures went { WentUpTo P.problem means.now.pace.session_nodes search.entry.last result.0.0 result.1 }
     ensures owns { IsOwnerOf live.now result.2 }
     ensures sides { AreSidesOf P.problem (currents result.2) }
-    ensures all { IfOk result.3 (λ seats. vec_len seats ≡ workers_of live.now) }
-    ensures workers { IfOk result.3 (λ seats. All (IsWorkerOf live.now) seats.items) }
-    ensures idle { IfOk result.3 (λ seats. All IsIdle seats.items) }
+    ensures crew { IfOk result.3 (λ seats. IsCrewOf live.now seats.items) }
 {
-    let work = SideWork::new(means.alloc);
-    let desk = Desk::<P, B>::new(live, &work, owner);
-    let mut source = SessionSource::new(known, desk, means.gate);
-    source.begin(search.waiting());
+    let desk = Desk::<P, B>::new(live, owner);
+    let source = SessionSource::begin(known, desk, means.gate, search.waiting());
     let led = Led { search, source };
-    let ((led, progress), crew) = lead_with_workers(means, Crew::of(live, seats), &work, led);
-    let (search, source) = led.into_parts();
+    let ((led, progress), crew) = lead_with_workers(means, Crew::of(live, seats), led);
+    let Led { search, source } = led;
     let (known, owner) = source.into_parts();
     ((search, known), progress, owner, seats_of(live, crew))
-}
-
-/// What a board leaves that is closed, unless memory ran out.
-fn left_behind<W: Work>(
-    alloc: Global,
-    live: Live<W>,
-    owner: Owner<W>,
-    seats: Result<Vec<WorkerSeat<W>>, mapf_board::NoMemory>,
-) -> Result<Vec<(usize, Left<Pair<W>, W::Job>)>, NoMemory>
-    requires owner { IsOwnerOf live owner }
-    requires all { IfOk seats (λ seats. vec_len seats ≡ workers_of live) }
-    requires workers { IfOk seats (λ seats. All (IsWorkerOf live) seats.items) }
-    requires idle { IfOk seats (λ seats. All IsIdle seats.items) }
-    ensures { IfOk result (λ left. All (λ x. current_in owner x.0 ≡ Some (job_in x.1)) left.items) }
-{
-    let Ok(seats) = seats else {
-        return Err(NoMemory);
-    };
-    match live.close(alloc, owner, seats) {
-        Ok(left) => Ok(left),
-        Err(_) => Err(NoMemory),
-    }
 }
 
 /// One session: nodes are taken, and workers beside work out children of those that wait. How the search went on, for one node
@@ -196,7 +146,7 @@ pub(crate) fn session<'p, P: OneProblem + Send + Sync, R: Threads + Sync, G: Gat
     requires problem { search.problem ≡ P.problem }
     requires open_yet { search.outcome ≡ Ok None }
     ensures problem { IfOk result (λ r. r.0.problem ≡ P.problem) }
-    ensures went { IfOk result (λ r. (n : ℕ) × (1 ≤ n) × (n ≤ means.now.pace.session_nodes) × WentOn P.problem n search.entry.last r.0 (Ok r.2)) }
+    ensures went { IfOk result (λ r. WentUpTo P.problem means.now.pace.session_nodes search.entry.last r.0 (Ok r.2)) }
 {
     let Ok((live, owner, seats)) = Live::<SideWork<'p>>::new(means.alloc, MOST_SLOTS, means.workers)
     else {
@@ -205,7 +155,9 @@ pub(crate) fn session<'p, P: OneProblem + Send + Sync, R: Threads + Sync, G: Gat
     let ((search, mut known), progress, owner, seats) = session_at::<P, Brand, R, G, S>(
         means, &live, owner, seats, search, known,
     );
-    let left = left_behind(means.alloc, live, owner, seats)?;
+    let Ok(left) = close_behind(means.alloc, live, owner, seats) else {
+        return Err(NoMemory);
+    };
     known.keep_all(left);
     Ok((search, known, progress?))
 }

@@ -1,9 +1,9 @@
 //! A session as a search's source of children.
 
-ghost use Rattle.std.specs.Prelude.{◌≡◌, IfOk, IfSome, IsSome, IsTrue};
+ghost use Rattle.std.specs.Prelude.{◌≡◌, IfSome, IsSome, IsTrue};
 ghost use Rattle.mapf_board.specs.Owners.{IsOwnerAt, currents};
 ghost use Rattle.mapf_board.specs.declared.limits.TheConstants.{MOST_SLOTS};
-ghost use Rattle.mapf_tree.specs.Family.{IsBranching, IsChildOf};
+ghost use Rattle.mapf_tree.specs.Family.{IsBranching};
 ghost use Rattle.mapf_tree.specs.Nodes.{AllStand};
 ghost use Rattle.mapf_solve.specs.Sessions.{AreSidesOf};
 
@@ -18,39 +18,34 @@ use mapf_tree::{Children, Node, OpenList, Problem, Side};
 /// The owner's part of a session: the search's source of children, of which some are worked ahead on a board.
 ///
 /// Its methods know nothing of the gate: only as a source of children it calls it.
+#[derive(Drop)]
 pub(crate) struct SessionSource<'p, 's, P: OneProblem, B: OneBoard, G> {
     known: Lookahead<'p, P>,
-    desk: Desk<'p, 's, P, B>,
+    pub(crate) desk: Desk<'p, 's, P, B>,
     gate: &'s G,
     /// For so many turns no job is looked for, since lately there was none.
     quiet: usize,
 }
 
-// By hand, so that a proof about what holds one sees a call where it is dropped, and not its fields.
-impl<'p, 's, P: OneProblem, B: OneBoard, G> Drop for SessionSource<'p, 's, P, B, G> {
-    fn drop(self) {
-        let SessionSource {
-            known: _,
-            desk: _,
-            gate: _,
-            quiet: _,
-        } = self;
-    }
-}
-
 impl<'p, 's, P: OneProblem, B: OneBoard, G> SessionSource<'p, 's, P, B, G> {
-    /// The source of a session in which no job was posted yet.
-    pub(crate) fn new(
+    /// The source of a session that begins with jobs for these nodes. The first node is taken of the same ones, so there is
+    /// nothing to be posted before that.
+    pub(crate) fn begin(
         known: Lookahead<'p, P>,
         desk: Desk<'p, 's, P, B>,
         gate: &'s G,
-    ) -> SessionSource<'p, 's, P, B, G> {
-        SessionSource {
+        waiting: &OpenList,
+    ) -> SessionSource<'p, 's, P, B, G>
+        requires { AllStand P.problem waiting.now }
+    {
+        let mut source = SessionSource {
             known,
             desk,
             gate,
-            quiet: 0,
-        }
+            quiet: 1,
+        };
+        source.post_all(waiting);
+        source
     }
 
     /// What sessions hand on, and the board's owner.
@@ -58,31 +53,8 @@ impl<'p, 's, P: OneProblem, B: OneBoard, G> SessionSource<'p, 's, P, B, G> {
         ensures owns { IsOwnerAt B.board MOST_SLOTS result.1 }
         ensures sides { AreSidesOf P.problem (currents result.1) }
     {
-        let SessionSource {
-            known,
-            desk,
-            gate: _,
-            quiet: _,
-        } = self;
+        let SessionSource { known, desk, .. } = self;
         (known, desk.into_owner())
-    }
-
-    /// Whether a job is on the board.
-    pub(crate) fn has_jobs(&self) -> bool {
-        self.desk.has_jobs()
-    }
-
-    /// Shuts the board.
-    pub(crate) fn shut(&mut self) {
-        self.desk.shut();
-    }
-
-    /// Posts the first jobs. The first node is taken of the same ones, so there is nothing to be posted before that.
-    pub(crate) fn begin(&mut self, waiting: &OpenList)
-        requires { AllStand P.problem waiting.now }
-    {
-        self.post_all(waiting);
-        self.quiet = 1;
     }
 
     /// Works ahead, before one of these nodes is taken: collects what is done, and posts jobs. Where none is to be posted, the
@@ -96,19 +68,16 @@ impl<'p, 's, P: OneProblem, B: OneBoard, G> SessionSource<'p, 's, P, B, G> {
         }
         self.collect_all();
         if !self.post_all(waiting) {
-            self.quiet = self.known.nodes();
+            self.quiet = self.known.nodes;
         }
     }
 
     /// Collects what is done.
     fn collect_all(&mut self) {
-        if !self.desk.has_jobs() {
-            return;
-        }
         for number in 0..MOST_SLOTS {
             let slot = Slot::at(number);
             if self.desk.is_used(slot) {
-                self.keep_done(slot);
+                let _done = self.keep_done(slot);
             }
         }
     }
@@ -119,7 +88,7 @@ impl<'p, 's, P: OneProblem, B: OneBoard, G> SessionSource<'p, 's, P, B, G> {
         requires { AllStand P.problem waiting.now }
     {
         let mut has_posted = false;
-        for node in waiting.first(self.known.nodes()) {
+        for node in waiting.first(self.known.nodes) {
             if may_have_jobs(node) && self.post_sides(node) {
                 has_posted = true;
             }
@@ -143,10 +112,7 @@ impl<'p, 's, P: OneProblem, B: OneBoard, G> SessionSource<'p, 's, P, B, G> {
         let Some(slot) = self.desk.free_slot() else {
             return false;
         };
-        let Some(query) = self.known.unknown_query(node, side) else {
-            return false;
-        };
-        let Some(job) = self.known.job(node, query, slot) else {
+        let Some(job) = self.known.job(node, side, slot) else {
             return false;
         };
         self.desk.post(slot, job);
@@ -159,37 +125,21 @@ impl<'p, 's, P: OneProblem, B: OneBoard, G> SessionSource<'p, 's, P, B, G> {
         ensures { IfSome result (λ job. job.query.problem ≡ P.problem) }
     {
         let slot = self.known.slot_of(node, side)?;
-        match self.desk.collect(slot) {
-            Ok(given) => {
-                self.known.keep(given);
-                return None;
-            }
-            Err(Found::Claimed(_)) => return None,
-            Err(_) => {}
-        }
+        let Err(Found::Posted) = self.keep_done(slot) else {
+            return None;
+        };
         let job = self.desk.withdraw(slot);
         if job.is_none() {
-            self.keep_done(slot);
+            let _done = self.keep_done(slot);
         }
         job
     }
 
-    /// Keeps what is done in a slot.
-    fn keep_done(&mut self, slot: Slot) {
-        if let Ok(given) = self.desk.collect(slot) {
-            self.known.keep(given);
-        }
-    }
-
-    /// The children of the node whose turn it is, of which what was worked ahead is used.
-    fn children(&mut self, node: &Node) -> Result<(Option<Node>, Option<Node>), NoMemory>
-        requires { IsBranching P.problem node.now }
-        ensures left { IfOk result (λ sides. IsChildOf P.problem node.now Side.Left sides.0) }
-        ensures right { IfOk result (λ sides. IsChildOf P.problem node.now Side.Right sides.1) }
-    {
-        let left = self.known.take(node, Side::Left);
-        let right = self.known.take(node, Side::Right);
-        self.known.children(node, left, right)
+    /// Keeps what is done in a slot. An error is the state that was found.
+    fn keep_done(&mut self, slot: Slot) -> Result<(), Found> {
+        let given = self.desk.collect(slot)?;
+        self.known.keep(given);
+        Ok(())
     }
 }
 
@@ -207,12 +157,11 @@ impl<'p, 's, P: OneProblem, B: OneBoard, G: Gate> Children for SessionSource<'p,
             if let Some(job) = self.fetch(node, side) {
                 let number = job.number();
                 self.gate.enter(number);
-                let given = self.desk.perform(job);
+                self.known.perform(job);
                 self.gate.leave(number);
-                self.known.keep(given);
             }
         }
-        self.children(node)
+        self.known.children(node)
     }
 
     fn ahead(&mut self, _problem: &Problem, waiting: &OpenList) {

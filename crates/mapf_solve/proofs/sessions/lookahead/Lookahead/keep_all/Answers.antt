@@ -3,8 +3,8 @@ use Rattle.mapf_board.proofs.Sums.{All_first, All_rest}
 use Rattle.mapf_solve.specs.Sessions.{IsGivenOf}
 use Rattle.mapf_solve.proofs.sessions.lookahead.Lookahead.keep_all.Goals as goal
 
-pub keep_pair-requires : goal.keep_pair-requires
-keep_pair-requires g c =
+pub learn-requires : goal.learn-requires
+learn-requires g c =
     subst (IsGivenOf g.P.OneProblem.problem) c.in-Answer.is (All_first (λ x. IsGivenOf g.P.OneProblem.problem x.1) _ _ _ c.in-Some.ensures.steps.0 c.loop-slot.invariant)
 
 pub loop-slot-preserved-in-Answer : goal.loop-slot-preserved-in-Answer

@@ -1,6 +1,6 @@
-use Rattle.std.proofs.Common.{sym, ap, subst, ◌∙◌}
+use Rattle.std.proofs.Common.{◌∙◌, ap, subst, sym}
 use Rattle.mapf_tree.specs.SideQuery.{SideQuery}
-use Rattle.mapf_solve.specs.Rounds.{WantedChild, FitsSide}
+use Rattle.mapf_solve.specs.Rounds.{FitsSide, WantedChild}
 use Rattle.mapf_solve.proofs.WorkedAhead.{same_child}
 use Rattle.mapf_solve.proofs.sessions.lookahead.Lookahead.learn.Goals as goal
 

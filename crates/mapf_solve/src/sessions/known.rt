@@ -1,13 +1,33 @@
-//! A child of a node that waits, which a worker found before the node's turn.
+//! What is known of children of nodes that wait.
 
 ghost use Rattle.std.specs.Prelude.{◌≡◌, IfSome, IsTrue};
 ghost use Rattle.mapf_tree.specs.Family.{IsBranching, IsChildOf};
 ghost use Rattle.mapf_solve.specs.Rounds.{FitsSide};
 
 use crate::sessions::brands::OneProblem;
+use crate::sessions::desk::Slot;
 use crate::sessions::side_job::SideJob;
-use mapf_tree::{Node, Side};
+use mapf_tree::{Key, Node, Side};
 use std::marker::{Model, PhantomData};
+
+/// What is known of a child of a node that waits.
+#[derive(Drop)]
+pub(crate) enum Known<'p, P: OneProblem> {
+    /// Its job is in this slot.
+    Posted(Slot),
+    /// It was worked out ahead.
+    Worked(Worked<'p, P>),
+    /// A worker gave its job back for want of memory, or its path is known: no job is posted for it.
+    Unposted,
+}
+
+/// What is known of the child on this side of the node of this key.
+#[derive(Drop)]
+pub(crate) struct Entry<'p, P: OneProblem> {
+    pub(crate) key: Key,
+    pub(crate) side: Side,
+    pub(crate) known: Known<'p, P>,
+}
 
 /// A child, and the job that it fits: one for a side of a node of the problem's tree.
 #[derive(Drop)]
@@ -18,12 +38,13 @@ pub(crate) struct Worked<'p, P: OneProblem> {
 }
 
 impl<'p, P: OneProblem> Model for Worked<'p, P> {
-    ghost use Rattle.std.specs.Prelude.{◌≡◌};
-    ghost use Rattle.mapf_solve.specs.Rounds.{FitsSide, WorkedChild};
+    ghost use Rattle.std.specs.Prelude.{◌≡◌, Option};
+    ghost use Rattle.mapf_tree.specs.Nodes.{Node};
+    ghost use Rattle.mapf_solve.specs.Rounds.{FitsSide, WantedChild};
 
-    ghost Value = { WorkedChild };
+    ghost Value = { WantedChild × Option Node };
 
-    ghost view = { λ w. record { job = w.job; child = w.child } };
+    ghost view = { λ w. (w.job, w.child) };
 
     ghost invariant = { λ w. (w.job.query.problem ≡ P.problem) × FitsSide w.job w.child };
 }
@@ -39,11 +60,6 @@ impl<'p, P: OneProblem> Worked<'p, P> {
             child,
             of: PhantomData,
         }
-    }
-
-    /// The job.
-    pub(crate) fn job(&self) -> &SideJob<'p> {
-        &self.job
     }
 
     /// The child, where the job names this node and this side.
