@@ -35,3 +35,4 @@ pub mod OpenNodes
 pub mod TurnLemmas
 pub mod Remaining
 pub mod GoingOn
+pub mod LowerBounds

@@ -23,6 +23,19 @@ use Rattle.mapf_tree.proofs.SearchLaws.{dec_reached, waits_above, x_waits, none_
 use Rattle.mapf_tree.proofs.TakenNodes.{distinct}
 use Rattle.mapf_tree.proofs.Unique.{same_member, answer_is_unique}
 
+-- a node that no solution comes before costs no more than any valid plan: within the bound a solution costs no more than the plan
+pub none_is_cheaper : (p : Problem) (m : PlannedNode) → IsMember p m → ((s : PlannedNode) → IsSolution p s → ¬ Precedes (key s) (key m)) →
+    (plan : List (List ℕ)) → IsValid p.rule p.inst plan → plan_cost m.1 ≤ plan_cost plan
+none_is_cheaper p m member no_later plan valid =
+    ⊎_elim (λ over. omega (arith, over, member.plan.within)) within (cases_lt p.bound (plan_cost plan))
+  where
+    within : plan_cost plan ≤ p.bound → plan_cost m.1 ≤ plan_cost plan
+    within h =
+        let w = cheaper_solution p plan valid h in
+        let l : plan_cost m.1 ≤ plan_cost w.0.1 =
+        first_le (plan_cost m.1) (plan_cost w.0.1) (length m.0.name ∷ map turn m.0.name) (length w.0.0.name ∷ map turn w.0.0.name) (no_later w.0 w.1) in
+        omega (arith, l, w.2)
+
 module _ (p : Problem) (last : Option (List ℕ)) (Waits : PlannedNode → Type 0) (at : IsSearchAt p last Waits) where
   module _ (x : PlannedNode) (least : IsLeast key Waits x) where
     waits : IsWaiting p last x
@@ -54,6 +67,10 @@ module _ (p : Problem) (last : Option (List ℕ)) (Waits : PlannedNode → Type 
     -- no solution comes before x
     none_solves_before : (s : PlannedNode) → IsSolution p s → ¬ Precedes (key s) (key x)
     none_solves_before s is l = at.none_yet s is.planned (before_is_reached s is.planned l) is.no_conflict
+
+    -- so no plan without conflict costs less than x
+    pub least_is_below : (plan : List (List ℕ)) → IsValid p.rule p.inst plan → plan_cost x.1 ≤ plan_cost plan
+    least_is_below = none_is_cheaper p x waits.member none_solves_before
 
     -- a node with a conflict comes before each solution
     in_cut : (¬ HasNoConflict p.rule x.1) → IsInCut p x
@@ -116,20 +133,9 @@ as_stated p given never is = go p.nodes refl
 pub as_given_up : (p : Problem) (n : ℕ) (m : PlannedNode) (given : Answer) → p.nodes ≡ Some n → IsCutAt p n m → given ≡ answer.GaveUp n (plan_cost m.1) → IsAnswerOf p given
 as_given_up p n m given e is said = subst (λ o. IsAnswerUpTo o p given) (sym e) (inl (m, is, said))
 
--- that node costs no more than any valid plan: within the bound a solution costs no more than the plan
+-- that node costs no more than any valid plan
 pub cut_is_below : (p : Problem) (n : ℕ) (m : PlannedNode) → IsCutAt p n m → (plan : List (List ℕ)) → IsValid p.rule p.inst plan → plan_cost m.1 ≤ plan_cost plan
-cut_is_below p n m is plan valid =
-    ⊎_elim (λ over. omega (arith, over, is.0.member.plan.within)) within (cases_lt p.bound (plan_cost plan))
-  where
-    no_later : (s : PlannedNode) → IsSolution p s → ¬ Precedes (key s) (key m)
-    no_later s solves = ⊎_elim (λ cut l. asymmetric (key s) (key m) l (cut.1 s solves)) (λ first. first.least s solves) is.1
-
-    within : plan_cost plan ≤ p.bound → plan_cost m.1 ≤ plan_cost plan
-    within h =
-        let w = cheaper_solution p plan valid h in
-        let l : plan_cost m.1 ≤ plan_cost w.0.1 =
-        first_le (plan_cost m.1) (plan_cost w.0.1) (length m.0.name ∷ map turn m.0.name) (length w.0.0.name ∷ map turn w.0.0.name) (no_later w.0 w.1) in
-        omega (arith, l, w.2)
+cut_is_below p n m is = none_is_cheaper p m is.0.member (λ s solves. ⊎_elim (λ cut l. asymmetric (key s) (key m) l (cut.1 s solves)) (λ first. first.least s solves) is.1)
 
 -- one node is at a place: two would be as many as the later one has before it
 earlier_at : (p : Problem) (n : ℕ) (a b : PlannedNode) → IsAtPlace p n a → IsAtPlace p n b → ¬ Precedes (key a) (key b)

@@ -1,8 +1,8 @@
 -- One turn of a search over nodes.
-use Rattle.std.proofs.Common.{◌≡◌, ◌⊎◌, ℕ, ◌+◌, ◌<◌, List, [], ◌∷◌, Bool, true, false, Option, Some, None, is_some, IsSome, not, Result, Ok, inl, inr, subst, sym, refl, ap, ◌∙◌, ⊎_elim, arith, Contains}
+use Rattle.std.proofs.Common.{◌≡◌, ◌⊎◌, ℕ, ◌+◌, ◌<◌, ◌≤◌, min, List, [], ◌∷◌, Bool, true, false, Option, Some, None, is_some, IsSome, not, Result, Ok, inl, inr, subst, sym, refl, ap, ◌∙◌, ⊎_elim, arith, Contains}
 use Rattle.mapf_grid.specs.declared.fault.NoMemory.{NoMemory}
 use Rattle.mapf_grid.specs.Least.{IsLeast}
-use Rattle.mapf_plan.specs.Plan.{plan_cost, most_nodes, HasNoConflict}
+use Rattle.mapf_plan.specs.Plan.{plan_cost, HasNoConflict, IsValid}
 use Rattle.mapf_plan.specs.declared.conflict.Conflict.{Conflict}
 use Rattle.mapf_tree.specs.declared.key.Key.{Key}
 use Rattle.mapf_tree.specs.declared.side.Side.TheVariants.{Left, Right}
@@ -13,12 +13,12 @@ use Rattle.mapf_tree.specs.OpenList.{IsRising, IsAddedIfSome}
 use Rattle.mapf_plan.specs.declared.answer.Answer.{Answer}
 use Rattle.mapf_plan.specs.declared.answer.Answer.TheVariants as answer
 use Rattle.mapf_tree.specs.Problem.{Problem, IsLimit}
-use Rattle.mapf_tree.specs.Search.{IsReached, IsWaiting, IsTakenTo, NoneSolves, IsLawful, IsCounted, TakesBetween}
+use Rattle.mapf_tree.specs.Search.{IsReached, IsWaiting, IsTakenTo, NoneSolves, IsLawful, IsCounted, TakesBetween, most_counted}
 use Rattle.mapf_tree.specs.Turns.{IsSearchAt, IsTurnOf, IsTurned, IsGivenUp, GoesUpTo, TakesOne}
 use Rattle.mapf_tree.specs.Nodes.{Node, node_key, AllStand, HasNodeFor}
 use Rattle.mapf_grid.proofs.Members.{nowhere, here}
 use Rattle.mapf_tree.proofs.SearchLaws.{reached_now, reached_then, next_waits, ends_at_first, ends_at_none, starts}
-use Rattle.mapf_tree.proofs.Limits.{is_cut, solved_before, empty_before, as_stated, as_given_up}
+use Rattle.mapf_tree.proofs.Limits.{least_is_below, is_cut, solved_before, empty_before, as_stated, as_given_up}
 use Rattle.mapf_tree.proofs.GoingOn.{takes_none, takes_more}
 use Rattle.mapf_tree.proofs.OpenNodes.{first_is_least, key-stands, none_stands, conflict_stands, solved_turn, branched_turn, root_node, node_adds, AddsSide}
 
@@ -26,6 +26,10 @@ module _ (p : Problem) (last : Option (List ℕ)) (old : List Node) (taken : IsT
   -- the search over the nodes that wait
   at : IsSearchAt p last (HasNodeFor p old)
   at = record { waits = taken.waits; none_yet = none }
+
+  -- the least that waits costs no more than any plan without conflict
+  pub least_below : (x : PlannedNode) → IsLeast key (HasNodeFor p old) x → (plan : List (List ℕ)) → IsValid p.rule p.inst plan → plan_cost x.1 ≤ plan_cost plan
+  least_below x least = least_is_below p last (HasNodeFor p old) at x least
 
   -- if nothing waits, there is no solution
   pub none_left : old ≡ [] → IsAnswer p None
@@ -123,17 +127,23 @@ one_more p old new x k n up e turn =
     ⊎_elim (λ less. less) (λ none. absurd (nowhere (subst (λ ns. Contains ns turn.least.member.0) none turn.least.member.1))) (up n e)
 
 -- the count at first
-pub counted_first : (p : Problem) (outcome : Result (Option Answer) NoMemory) → IsCounted p None 0 outcome
-counted_first p outcome = λ e n limit. (takes_none p None, omega arith)
+pub counted_first : (p : Problem) → IsCounted p None 0
+counted_first p = ((λ below. takes_none p None), (λ n limit. omega arith))
 
--- the count after a turn that branched
-pub counted_more : (p : Problem) (old new : List Node) (last : Option (List ℕ)) (outcome : Result (Option Answer) NoMemory) (k more : ℕ) (key : Key) → IsCounted p last k outcome → GoesUpTo p old k
-    → IsTurned p old new (variant.Branched key) → TakesOne p last (Some (key_rank key)) → (k < most_nodes → more ≡ k + 1) → IsLimit p.nodes → IsCounted p (Some (key_rank key)) more outcome
-counted_more p old new last outcome k more key counted up t one is few = λ e n limit.
-    let before = counted e n limit in
-    let less = one_more p old new t.0 k n up limit t.1 in
-    let same : more ≡ k + 1 = is (omega (arith, less, (subst IsLimit limit few).1)) in
-    (subst (TakesBetween p None (Some (key_rank key))) (sym same) (takes_more p None last (Some (key_rank key)) k (λ m h r. absurd r) before.0 one), omega (arith, same, less))
+-- the count after one node more
+pub counted_more : (p : Problem) (old new : List Node) (last to : Option (List ℕ)) (x : PlannedNode) (k more : ℕ) → IsCounted p last k → GoesUpTo p old k
+    → IsTurnOf p old new x → TakesOne p last to → more ≡ min (k + 1) most_counted → IsCounted p to more
+counted_more p old new last to x k more counted up turn one is = (
+  (λ below. let same : more ≡ k + 1 = omega (arith, is, below) in
+      subst (TakesBetween p None to) (sym same) (takes_more p None last to k (λ m h r. absurd r) (counted.0 (omega (arith, same, below))) one)),
+  (λ n limit. let less = one_more p old new x k n up limit turn in omega (arith, is, less)),
+)
+
+-- with a limit the count is that of the taken nodes, and no more than may be taken
+counted_at : (p : Problem) (last : Option (List ℕ)) (k n : ℕ) → IsCounted p last k → IsLimit p.nodes → p.nodes ≡ Some n → TakesBetween p None last k × (k ≤ n)
+counted_at p last k n counted few limit =
+    let less = counted.1 n limit in
+    (counted.0 (omega (arith, less, (subst IsLimit limit few).1)), less)
 
 -- it goes on after a turn that branched
 pub branched_lawful : (p : Problem) (old new : List Node) (last : Option (List ℕ)) (outcome : Result (Option Answer) NoMemory) (k : Key) → IsLawful p old last outcome → outcome ≡ Ok None → IsTurned p old new (variant.Branched k) → IsLawful p new (Some (key_rank k)) outcome × TakesOne p last (Some (key_rank k))
@@ -146,8 +156,8 @@ branched_lawful p old new last outcome k h e t =
 
 -- it has the answer after a turn that took a solution
 pub solved_lawful : (p : Problem) (old new : List Node) (last : Option (List ℕ)) (outcome : Result (Option Answer) NoMemory) (taken : ℕ) (k : Key) (plan : List (List ℕ)) → IsLawful p old last outcome → outcome ≡ Ok None
-    → IsCounted p last taken outcome → GoesUpTo p old taken → IsTurned p old new (variant.Solved k plan) → IsLawful p new (Some (key_rank k)) (Ok (Some (answer.Plan plan k.cost))) × TakesOne p last (Some (key_rank k))
-solved_lawful p old new last outcome taken k plan h e counted up t =
+    → IsCounted p last taken → IsLimit p.nodes → GoesUpTo p old taken → IsTurned p old new (variant.Solved k plan) → IsLawful p new (Some (key_rank k)) (Ok (Some (answer.Plan plan k.cost))) × TakesOne p last (Some (key_rank k))
+solved_lawful p old new last outcome taken k plan h e counted few up t =
     let s = going p old last outcome h e in
     let to = taken_to p last old s.0 s.1 new t.0 t.1 in
     let is = solves p last old s.0 s.1 new t.0 t.1 t.2 in
@@ -156,7 +166,7 @@ solved_lawful p old new last outcome taken k plan h e counted up t =
       (
         subst (λ r. IsTakenTo p (Some r) new) (sym t.3) to,
         as_stated p (answer.Plan plan k.cost)
-            (λ n limit. solved_before p last (HasNodeFor p old) (at p last old s.0 s.1) t.0 t.1.least n taken (counted e n limit).0 (one_more p old new t.0 taken n up limit t.1) t.2)
+            (λ n limit. solved_before p last (HasNodeFor p old) (at p last old s.0 s.1) t.0 t.1.least n taken (counted_at p last taken n counted few limit).0 (one_more p old new t.0 taken n up limit t.1) t.2)
             (Some plan, subst (λ q. IsAnswer p (Some q)) (sym t.4) is, ap (λ n. answer.Plan plan n) t.5),
         inr (inl (t.0, is_member p last old s.0 s.1 new t.0 t.1, t.2, ap Some t.3, stated)),
       ),
@@ -164,13 +174,13 @@ solved_lawful p old new last outcome taken k plan h e counted up t =
     )
 
 -- and after a turn that found nothing
-pub empty_lawful : (p : Problem) (old new : List Node) (last : Option (List ℕ)) (outcome : Result (Option Answer) NoMemory) (taken : ℕ) → IsLawful p old last outcome → outcome ≡ Ok None → IsCounted p last taken outcome
+pub empty_lawful : (p : Problem) (old new : List Node) (last : Option (List ℕ)) (outcome : Result (Option Answer) NoMemory) (taken : ℕ) → IsLawful p old last outcome → outcome ≡ Ok None → IsCounted p last taken → IsLimit p.nodes
     → IsTurned p old new variant.Empty → IsLawful p new last (Ok (Some (answer.None p.bound)))
-empty_lawful p old new last outcome taken h e counted t =
+empty_lawful p old new last outcome taken h e counted few t =
     let s = going p old last outcome h e in (
       subst (λ ns. IsTakenTo p last ns) (t.0 ∙ sym t.1) s.0,
       as_stated p (answer.None p.bound)
-          (λ n limit. let count = counted e n limit in
+          (λ n limit. let count = counted_at p last taken n counted few limit in
           empty_before p last (HasNodeFor p old) (at p last old s.0 s.1) (λ x has. nowhere (subst (λ ns. Contains ns has.0) t.0 has.1)) n taken count.0 count.1)
           (None, none_left p last old s.0 s.1 t.0, refl),
       inl (t.1, refl),
@@ -178,12 +188,12 @@ empty_lawful p old new last outcome taken h e counted t =
 
 -- and where it gives up
 pub given_up_lawful : (p : Problem) (waiting : List Node) (last : Option (List ℕ)) (outcome : Result (Option Answer) NoMemory) (taken : ℕ) (given : Answer) → IsLawful p waiting last outcome → outcome ≡ Ok None
-    → IsCounted p last taken outcome → IsGivenUp p waiting taken given → IsLawful p waiting last (Ok (Some given))
-given_up_lawful p waiting last outcome taken given h e counted up =
+    → IsCounted p last taken → IsLimit p.nodes → IsGivenUp p waiting taken given → IsLawful p waiting last (Ok (Some given))
+given_up_lawful p waiting last outcome taken given h e counted few up =
     let s = going p waiting last outcome h e in
     let x = s.0.stand up.first (subst (λ ns. Contains ns up.first) (sym up.waits) (here up.rest refl)) in
     let least = subst (λ ns. IsLeast key (HasNodeFor p ns) x.0) (sym up.waits) (first_is_least p up.first up.rest x.0 (subst IsRising up.waits up.rising) x.1) in
-    let count = counted e up.nodes up.limit in
+    let count = counted_at p last taken up.nodes counted few up.limit in
     let all : taken ≡ up.nodes = omega (arith, count.1, up.all) in
     let took = subst (TakesBetween p None last) all count.0 in
     let said : given ≡ answer.GaveUp up.nodes (plan_cost x.0.1) = up.states ∙ ap (λ plan. answer.GaveUp up.nodes (plan_cost plan)) x.1.plan in (

@@ -13,5 +13,6 @@ pub mod Laws
 pub mod OpenList
 pub mod Runs
 pub mod Search
+pub mod LowerBound
 pub mod Turns
 pub mod Worked

@@ -1,5 +1,5 @@
 -- A search: which nodes of the tree it took, and which wait (the high level of Sharon et al. 2015, best first).
-use Rattle.std.specs.Prelude.{◌≡◌, ◌⊎◌, ◌↔◌, ◌≤◌, ℕ, List, [], length, Option, Some, None, IfSome, Result, Ok, Err, Contains}
+use Rattle.std.specs.Prelude.{◌≡◌, ◌⊎◌, ◌↔◌, ◌<◌, ◌≤◌, ◌-◌, ◌^◌, ℕ, List, [], length, Option, Some, None, IfSome, Result, Ok, Err, Contains}
 use Rattle.mapf_grid.specs.declared.fault.NoMemory.{NoMemory}
 use Rattle.mapf_grid.specs.Least.{Precedes, IsLeast}
 use Rattle.mapf_plan.specs.declared.conflict.Conflict.{Conflict}
@@ -70,10 +70,14 @@ IsLawful problem nodes last (Ok None) = IsTakenTo problem last nodes × NoneSolv
 IsLawful problem nodes last (Ok (Some given)) = IsTakenTo problem last nodes × IsAnswerOf problem given × IsEnded problem nodes last given
 IsLawful problem nodes last (Err _) = Unit {0}
 
--- a search without an answer yet has taken so many nodes, and no more than it may
-abbrev pub IsCounted : Problem → Option (List ℕ) → ℕ → Result (Option Answer) NoMemory → Type 0
-IsCounted problem last taken outcome =
-    outcome ≡ Ok None → (n : ℕ) → problem.nodes ≡ Some n → TakesBetween problem None last taken × (taken ≤ n)
+-- the greatest number that a count can be; a count that has reached it stays there
+abbrev pub most_counted : ℕ
+most_counted = 2 ^ 64 - 1
+
+-- so many nodes are taken, where that is below the greatest number, and no more than may be
+abbrev pub IsCounted : Problem → Option (List ℕ) → ℕ → Type 0
+IsCounted problem last taken =
+    (taken < most_counted → TakesBetween problem None last taken) × ((n : ℕ) → problem.nodes ≡ Some n → taken ≤ n)
 
 -- the problem, the nodes that wait, the key of the last taken node, and what came of it: an answer, none yet, or out of memory
 pub record Searched : Type 0 where

@@ -1,7 +1,9 @@
-//! The limit on how many nodes a search takes.
+//! The limit on how many nodes a search takes, and what is known of the cost of all plans where it stands.
 
-ghost use Rattle.std.specs.Prelude.{MatchOption};
+ghost use Rattle.std.specs.Prelude.{◌≡◌, MatchOption};
 ghost use Rattle.mapf_tree.specs.Problem.{IsLimit};
+ghost use Rattle.mapf_tree.specs.Nodes.{AllStand};
+ghost use Rattle.mapf_tree.specs.LowerBound.{IsLeastWaiting, least_stated};
 ghost use Rattle.mapf_tree.specs.Turns.{IsGivenUp, GoesUpTo};
 
 use crate::{OpenList, Problem};
@@ -19,4 +21,26 @@ pub(crate) fn given_up(problem: &Problem, waiting: &OpenList, taken: u64) -> Opt
     }
     let least = waiting.first(1).next()?.key().cost;
     Some(Answer::GaveUp { nodes, least })
+}
+
+/// The cost of the least node that waits, or more than the bound where none waits.
+pub(crate) fn least_waiting(problem: &Problem, waiting: &OpenList) -> u64
+    requires { AllStand problem.now waiting.now }
+    ensures { IsLeastWaiting problem.now waiting.now result }
+{
+    match waiting.first(1).next() {
+        Some(node) => node.key().cost,
+        None => u64::from(problem.bound()) + 1,
+    }
+}
+
+/// What an answer states that each plan without conflict costs at least.
+pub(crate) fn least_stated(answer: &Answer) -> u64
+    ensures { result ≡ least_stated answer.now }
+{
+    match answer {
+        Answer::Plan { stated, .. } => *stated,
+        Answer::None { bound } => u64::from(*bound) + 1,
+        Answer::GaveUp { least, .. } => *least,
+    }
 }

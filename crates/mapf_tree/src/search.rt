@@ -1,9 +1,9 @@
-ghost use Rattle.std.specs.Prelude.{◌≡◌, ◌≤◌, ℕ, Ok, Err, Some, None, IfOk, OnErr, IsErr, IsSome};
+ghost use Rattle.std.specs.Prelude.{◌≡◌, ◌<◌, ◌≤◌, ℕ, Ok, Err, Some, None, IfOk, IfSome, OnErr, IsErr, IsSome, MatchOption};
 ghost use Rattle.std.specs.Option.{option_copied, option_map};
 ghost use Rattle.mapf_plan.specs.declared.answer.Answer.{Answer};
 ghost use Rattle.mapf_tree.specs.Tree.{key_rank};
 
-use crate::limit::given_up;
+use crate::limit::{given_up, least_stated, least_waiting};
 use crate::turn::{Turn, add_if_some, take_turn};
 use crate::{Children, Key, Node, OpenList, Problem, Progress, root};
 use mapf_grid::NoMemory;
@@ -16,7 +16,7 @@ pub struct Search<'p> {
     problem: &'p Problem,
     waiting: OpenList,
     last: Option<Key>,
-    /// How many nodes were taken, where there is a limit.
+    /// How many nodes were taken, up to `u64::MAX`.
     taken: u64,
     outcome: Result<Option<Answer>, NoMemory>,
 }
@@ -44,7 +44,7 @@ impl<'p> Model for Search<'p> {
     ghost view = { λ s. record { problem = s.problem.now; waiting = s.waiting; last = option_map key_rank s.last; outcome = s.outcome } };
 
     ghost invariant = { λ s. IsLawful s.problem.now s.waiting (option_map key_rank s.last) s.outcome
-        × IsCounted s.problem.now (option_map key_rank s.last) s.taken s.outcome };
+        × IsCounted s.problem.now (option_map key_rank s.last) s.taken };
 }
 
 impl<'p> Search<'p> {
@@ -52,6 +52,7 @@ impl<'p> Search<'p> {
     ghost use Rattle.mapf_tree.specs.Family.{IsRoot};
     ghost use Rattle.mapf_tree.specs.Answered.{IsAnswerOf, IsBestAnswer};
     ghost use Rattle.mapf_tree.specs.Search.{IsSearch, IsEnded, TakesBetween, answer_of};
+    ghost use Rattle.mapf_tree.specs.LowerBound.{IsLowerBound, IsBelowAll};
     ghost use Rattle.mapf_tree.specs.Turns.{IsStep};
 
     /// A search that has taken no node yet.
@@ -169,6 +170,7 @@ impl<'p> Search<'p> {
             Ok(Turn::Solved { key, plan }) => {
                 let stated = key.cost;
                 self.last = Some(key);
+                self.taken = self.taken.saturating_add(1);
                 self.outcome = Ok(Some(Answer::Plan { plan, stated }));
                 Ok(Progress::Finished)
             }
@@ -224,5 +226,25 @@ impl<'p> Search<'p> {
         ensures search { IsSearch self.now }
     {
         self.last.as_ref()
+    }
+    /// How many nodes were taken, the solution among them. A number that has reached `u64::MAX` stays there.
+    pub fn taken(&self) -> u64
+        ensures taken { result < u64.MAX → TakesBetween self.now.problem None self.now.last result }
+        ensures search { IsSearch self.now }
+    {
+        self.taken
+    }
+
+    /// What each plan without conflict costs at least: what the least waiting node costs, or more than the bound where none
+    /// waits; with an answer, what that states. None after memory ran out.
+    pub fn lower_bound(&self) -> Option<u64>
+        ensures is { MatchOption result (IsErr self.now.outcome) (IsLowerBound self.now.problem self.now.waiting self.now.outcome) }
+        ensures below { IfSome result (IsBelowAll self.now.problem) }
+    {
+        match &self.outcome {
+            Ok(None) => Some(least_waiting(self.problem, &self.waiting)),
+            Ok(Some(answer)) => Some(least_stated(answer)),
+            Err(_) => None,
+        }
     }
 }

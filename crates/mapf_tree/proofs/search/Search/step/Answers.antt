@@ -25,7 +25,7 @@ solved : (g : _) (c : In-Ok-Solved g) →
 solved g c =
     solved_lawful c.self.inside.problem.now c.self.inside.waiting c.take_turn.new.waiting (option_map key_rank c.self.inside.last)
     c.self.inside.outcome c.self.inside.taken c.in-Ok-Solved.key c.in-Ok-Solved.plan c.self.invariant.0
-    (ap (λ (s : Searched). s.outcome) c.self.view_is ∙ c.requires.open_yet) c.self.invariant.1 c.in_default.ensures.turn
+    (ap (λ (s : Searched). s.outcome) c.self.view_is ∙ c.requires.open_yet) c.self.invariant.1 c.in_default.ensures.limit c.in_default.ensures.turn
     (subst (λ t. IsTurned c.self.inside.problem.now c.self.inside.waiting c.take_turn.new.waiting t) c.in-Ok-Solved.field-0-is c.in-Ok-Solved.ensures.turned)
 
 -- a turn that found nothing: the search has its answer
@@ -34,17 +34,17 @@ empty : (g : _) (c : In-Ok-Empty g) →
 empty g c =
     empty_lawful c.self.inside.problem.now c.self.inside.waiting c.take_turn.new.waiting (option_map key_rank c.self.inside.last)
     c.self.inside.outcome c.self.inside.taken c.self.invariant.0
-    (ap (λ (s : Searched). s.outcome) c.self.view_is ∙ c.requires.open_yet) c.self.invariant.1
+    (ap (λ (s : Searched). s.outcome) c.self.view_is ∙ c.requires.open_yet) c.self.invariant.1 c.in_default.ensures.limit
     (subst (λ t. IsTurned c.self.inside.problem.now c.self.inside.waiting c.take_turn.new.waiting t) c.in-Ok-Empty.field-0-is c.in-Ok-Empty.ensures.turned)
 
 -- the search gives up
 gave_up : (g : _) (c : In-Some g) → IsLawful c.self.inside.problem.now c.self.inside.waiting (option_map key_rank c.self.inside.last) (Ok (Some c.in-Some.given))
 gave_up g c =
     given_up_lawful c.self.inside.problem.now c.self.inside.waiting (option_map key_rank c.self.inside.last) c.self.inside.outcome c.self.inside.taken c.in-Some.given
-    c.self.invariant.0 (ap (λ (s : Searched). s.outcome) c.self.view_is ∙ c.requires.open_yet) c.self.invariant.1 c.in-Some.ensures.turn
+    c.self.invariant.0 (ap (λ (s : Searched). s.outcome) c.self.view_is ∙ c.requires.open_yet) c.self.invariant.1 c.in-Some.ensures.limit c.in-Some.ensures.turn
 
 pub invariant_of-self : goal.invariant_of-self
-invariant_of-self g c = (gave_up g (goal.at.invariant_of-self g c).In-Some, λ e. cc)
+invariant_of-self g c = (gave_up g (goal.at.invariant_of-self g c).In-Some, c.self.invariant.1)
 
 pub returns-in-Some-clause-search : goal.returns-in-Some-clause-search
 returns-in-Some-clause-search g c = gave_up g (goal.at.returns-in-Some-clause-search g c).In-Some
@@ -54,12 +54,11 @@ returns-in-Some-clause-step g c = ((_, refl), inl (ap (λ (s : Searched). s.last
 
 pub invariant_of-self-in-Ok-Branched : goal.invariant_of-self-in-Ok-Branched
 invariant_of-self-in-Ok-Branched g c =
-    let turned = branched g (goal.at.invariant_of-self-in-Ok-Branched g c).In-Ok-Branched in (
+    let turned = branched g (goal.at.invariant_of-self-in-Ok-Branched g c).In-Ok-Branched in
+    let turn = subst (λ t. IsTurned c.self.inside.problem.now c.self.inside.waiting c.take_turn.new.waiting t) c.in-Ok-Branched.field-0-is c.in-Ok-Branched.ensures.turned in (
       turned.0,
-      counted_more c.self.inside.problem.now c.self.inside.waiting c.take_turn.new.waiting (option_map key_rank c.self.inside.last) c.self.inside.outcome c.self.inside.taken _ c.in-Ok-Branched.key
-          c.self.invariant.1 c.in_default.ensures.turn
-          (subst (λ t. IsTurned c.self.inside.problem.now c.self.inside.waiting c.take_turn.new.waiting t) c.in-Ok-Branched.field-0-is c.in-Ok-Branched.ensures.turned)
-          turned.1 (λ l. omega (arith, c.saturating_add-self-inside.ensures, l)) c.in_default.ensures.limit,
+      counted_more c.self.inside.problem.now c.self.inside.waiting c.take_turn.new.waiting (option_map key_rank c.self.inside.last) (Some (key_rank c.in-Ok-Branched.key)) turn.0 c.self.inside.taken _
+          c.self.invariant.1 c.in_default.ensures.turn turn.1 turned.1 c.saturating_add-self-inside.ensures,
     )
 
 pub returns-in-Ok-Branched-clause-search : goal.returns-in-Ok-Branched-clause-search
@@ -73,7 +72,13 @@ returns-in-Ok-Branched-clause-step g c = (
 )
 
 pub invariant_of-self-in-Ok-Solved : goal.invariant_of-self-in-Ok-Solved
-invariant_of-self-in-Ok-Solved g c = ((solved g (goal.at.invariant_of-self-in-Ok-Solved g c).In-Ok-Solved).0, λ e. cc)
+invariant_of-self-in-Ok-Solved g c =
+    let turned = solved g (goal.at.invariant_of-self-in-Ok-Solved g c).In-Ok-Solved in
+    let turn = subst (λ t. IsTurned c.self.inside.problem.now c.self.inside.waiting c.take_turn.new.waiting t) c.in-Ok-Solved.field-0-is c.in-Ok-Solved.ensures.turned in (
+      turned.0,
+      counted_more c.self.inside.problem.now c.self.inside.waiting c.take_turn.new.waiting (option_map key_rank c.self.inside.last) (Some (key_rank c.in-Ok-Solved.key)) turn.0 c.self.inside.taken _
+          c.self.invariant.1 c.in_default.ensures.turn turn.1 turned.1 c.saturating_add-self-inside-in-Ok-Solved.ensures,
+    )
 
 pub returns-in-Ok-Solved-clause-search : goal.returns-in-Ok-Solved-clause-search
 returns-in-Ok-Solved-clause-search g c = (solved g (goal.at.returns-in-Ok-Solved-clause-search g c).In-Ok-Solved).0
@@ -86,7 +91,7 @@ returns-in-Ok-Solved-clause-step g c = (
 )
 
 pub invariant_of-self-in-Ok-Empty : goal.invariant_of-self-in-Ok-Empty
-invariant_of-self-in-Ok-Empty g c = (rw c.bound-bound.ensures.bound (empty g (goal.at.invariant_of-self-in-Ok-Empty g c).In-Ok-Empty), λ e. cc)
+invariant_of-self-in-Ok-Empty g c = (rw c.bound-bound.ensures.bound (empty g (goal.at.invariant_of-self-in-Ok-Empty g c).In-Ok-Empty), c.self.invariant.1)
 
 pub returns-in-Ok-Empty-clause-search : goal.returns-in-Ok-Empty-clause-search
 returns-in-Ok-Empty-clause-search g c = rw c.bound-bound.ensures.bound (empty g (goal.at.returns-in-Ok-Empty-clause-search g c).In-Ok-Empty)
