@@ -8,7 +8,7 @@ use crate::reply::put;
 /// Leaves the version and a line feed, with status 0.
 #[unsafe(no_mangle)]
 pub extern "C" fn mapf_version(out: &mut [u8], needed: &mut u64) -> i32
-    ensures { IsPut 0 (codes "0.1.0\n") out.old out.new needed.new result }
+    ensures { IsPut 0 (codes "0.1.0-dev\n") out.old out.new needed.new result }
 {
-    put(0, b"0.1.0\n", out, needed)
+    put(0, b"0.1.0-dev\n", out, needed)
 }

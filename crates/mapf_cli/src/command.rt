@@ -87,7 +87,7 @@ fn rule_of(matches: &ArgMatches<'_>) -> Rule {
 
 fn program<'a>(alloc: Global) -> Result<Command<'a>, AllocError> {
     Command::new(alloc, "mapf")
-        .version("0.1.0")
+        .version("0.1.0-dev")
         .about("Optimal multi-agent path finding by conflict-based search")
         .subcommand_required(true)
         .subcommand(solve_command(alloc)?)?

@@ -1,8 +1,8 @@
 -- How a search goes on in a session.
 use Rattle.std.proofs.Common.{◌≡◌, ℕ, ◌<◌, ◌≤◌, List, Option, None, Result, Ok, Err, refl, subst}
 use Rattle.mapf_grid.specs.declared.fault.NoMemory.{NoMemory}
-use Rattle.mapf_tree.specs.declared.progress.Progress.{Progress}
-use Rattle.mapf_tree.specs.declared.progress.Progress.TheVariants.{Working, Finished}
+use Rattle.mapf_tree.specs.declared.search.progress.Progress.{Progress}
+use Rattle.mapf_tree.specs.declared.search.progress.Progress.TheVariants.{Working, Finished}
 use Rattle.mapf_tree.specs.Problem.{Problem}
 use Rattle.mapf_tree.specs.Search.{Searched, TakesBetween}
 use Rattle.mapf_tree.proofs.Remaining.{remaining, remaining_falls}

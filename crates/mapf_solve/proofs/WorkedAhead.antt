@@ -7,7 +7,7 @@ use Rattle.mapf_plan.specs.declared.conflict.Conflict.{Conflict}
 use Rattle.mapf_plan.specs.declared.rule.Rule.{Rule}
 use Rattle.mapf_plan.specs.Plan.{IsFirstConflict}
 use Rattle.mapf_plan.proofs.Conflicts.{same_first}
-use Rattle.mapf_tree.specs.declared.side.Side.{Side}
+use Rattle.mapf_tree.specs.declared.tree.side.Side.{Side}
 use Rattle.mapf_tree.specs.Names.{turn}
 use Rattle.mapf_tree.specs.Problem.{Problem}
 use Rattle.mapf_tree.specs.Tree.{HasPlan, PlannedNode}

@@ -3,8 +3,8 @@ use Rattle.std.specs.Prelude.{◌≡◌, ℕ, ◌≤◌, List, [], Option, Some,
 use Rattle.mapf_grid.specs.declared.fault.NoMemory.{NoMemory}
 use Rattle.mapf_board.specs.Views.{Held, job_in}
 use Rattle.mapf_plan.specs.declared.rule.Rule.TheVariants.{Classical}
-use Rattle.mapf_tree.specs.declared.progress.Progress.{Progress}
-use Rattle.mapf_tree.specs.declared.progress.Progress.TheVariants.{Working, Finished}
+use Rattle.mapf_tree.specs.declared.search.progress.Progress.{Progress}
+use Rattle.mapf_tree.specs.declared.search.progress.Progress.TheVariants.{Working, Finished}
 use Rattle.mapf_tree.specs.Problem.{Problem}
 use Rattle.mapf_tree.specs.Nodes.{Node}
 use Rattle.mapf_tree.specs.Search.{Searched, TakesBetween}

@@ -15,14 +15,14 @@ use Rattle.mapf_low.specs.declared.constraint.Constraint.{Constraint}
 use Rattle.mapf_low.proofs.Limits.{own_by_bound}
 use Rattle.mapf_low.proofs.OwnPaths.{own_path_costs, same_own}
 use Rattle.mapf_low.proofs.Sets.{own_set}
-use Rattle.mapf_tree.specs.declared.side.Side.{Side}
-use Rattle.mapf_tree.specs.declared.known_sets.Extension.{Extension}
-use Rattle.mapf_tree.specs.declared.known_sets.KnownOwn.{KnownOwn}
-use Rattle.mapf_tree.specs.declared.known_sets.KnownOwn.TheVariants.{Path, NoneWithin}
-use Rattle.mapf_tree.specs.declared.known_sets.KnownSet.{KnownSet}
+use Rattle.mapf_tree.specs.declared.tree.side.Side.{Side}
+use Rattle.mapf_tree.specs.declared.own_paths.known_sets.Extension.{Extension}
+use Rattle.mapf_tree.specs.declared.own_paths.known_sets.KnownOwn.{KnownOwn}
+use Rattle.mapf_tree.specs.declared.own_paths.known_sets.KnownOwn.TheVariants.{Path, NoneWithin}
+use Rattle.mapf_tree.specs.declared.own_paths.known_sets.KnownSet.{KnownSet}
 use Rattle.mapf_tree.specs.Problem.{Problem}
 use Rattle.mapf_plan.specs.KnownPaths.{IsKnownPlan}
-use Rattle.mapf_tree.specs.declared.book.at_node.AtNode.{AtNode}
+use Rattle.mapf_tree.specs.declared.own_paths.book.at_node.AtNode.{AtNode}
 use Rattle.mapf_tree.specs.Nodes.{Changed, Node, IsSameSet, IsConflictOf}
 use Rattle.mapf_tree.specs.Family.{IsBranching, IsChildOf, IsOwnWithin, Leaves}
 use Rattle.mapf_tree.specs.SideQuery.{SideQuery, IsQueryOf, IsFoundBy}

@@ -9,8 +9,8 @@ use Rattle.mapf_plan.specs.Plan.{IsConflict, path_of}
 use Rattle.mapf_low.specs.declared.constraint.Constraint.{Constraint}
 use Rattle.mapf_low.specs.Constraints.{Obeys, Breaks}
 use Rattle.mapf_tree.specs.Problem.{Problem}
-use Rattle.mapf_tree.specs.declared.side.Side.{Side}
-use Rattle.mapf_tree.specs.declared.side.Side.TheVariants.{Left, Right}
+use Rattle.mapf_tree.specs.declared.tree.side.Side.{Side}
+use Rattle.mapf_tree.specs.declared.tree.side.Side.TheVariants.{Left, Right}
 use Rattle.mapf_tree.specs.Tree.{TreeNode, side_of, constraint_on, agent_on}
 use Rattle.mapf_tree.specs.Laws.{ObeysNode, ObeysOneSide}
 use Rattle.mapf_low.proofs.OwnPaths.{dec_breaks}

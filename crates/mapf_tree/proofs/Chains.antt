@@ -8,7 +8,7 @@ use Rattle.mapf_low.specs.declared.constraint.Constraint.{Constraint}
 use Rattle.mapf_plan.specs.Plan.{path_of, plan_cost}
 use Rattle.mapf_plan.specs.declared.conflict.Conflict.{Conflict}
 use Rattle.mapf_plan.specs.declared.rule.Rule.{Rule}
-use Rattle.mapf_tree.specs.declared.side.Side.{Side}
+use Rattle.mapf_tree.specs.declared.tree.side.Side.{Side}
 use Rattle.mapf_tree.specs.Nodes.{Node, node_of, IsConflictOf, IsSameSet, AgreesWith, Changed, IsTurnedTo, changed_plan, changed_sets}
 use Rattle.mapf_tree.proofs.ConstraintSets.{IsWith, IsWith-cons}
 

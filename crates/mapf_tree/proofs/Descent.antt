@@ -12,8 +12,8 @@ use Rattle.mapf_plan.proofs.Conflicts.{first_conflict}
 use Rattle.mapf_low.specs.Constraints.{Obeys}
 use Rattle.mapf_low.proofs.OwnPaths.{own_path_costs}
 use Rattle.mapf_tree.specs.Problem.{Problem}
-use Rattle.mapf_tree.specs.declared.side.Side.{Side}
-use Rattle.mapf_tree.specs.declared.side.Side.TheVariants.{Left, Right}
+use Rattle.mapf_tree.specs.declared.tree.side.Side.{Side}
+use Rattle.mapf_tree.specs.declared.tree.side.Side.TheVariants.{Left, Right}
 use Rattle.mapf_tree.specs.Names.{turn}
 use Rattle.mapf_tree.specs.Tree.{TreeNode, HasPlan, InTree, root, side, side_of, root_of, IsSolution, PlannedNode}
 use Rattle.mapf_tree.specs.Laws.{ObeyedIsInCost, ObeysNode, DepthIsBounded, AnswerIsOptimum, NoneIsNone}

@@ -8,8 +8,8 @@ use Rattle.mapf_plan.specs.declared.conflict.Conflict.{Conflict}
 use Rattle.mapf_plan.specs.Plan.{IsConflict, IsFirstConflict, HasNoConflict}
 use Rattle.mapf_plan.proofs.Conflicts.{first_conflict, same_first}
 use Rattle.mapf_tree.specs.Problem.{Problem}
-use Rattle.mapf_tree.specs.declared.side.Side.{Side}
-use Rattle.mapf_tree.specs.declared.side.Side.TheVariants.{Left, Right}
+use Rattle.mapf_tree.specs.declared.tree.side.Side.{Side}
+use Rattle.mapf_tree.specs.declared.tree.side.Side.TheVariants.{Left, Right}
 use Rattle.mapf_tree.specs.Tree.{TreeNode, HasPlan, InTree, root, side, side_of, root_of, PlannedNode, IsMember}
 use Rattle.mapf_tree.specs.Laws.{TreeIsFinite}
 use Rattle.mapf_tree.proofs.Measure.{grown_all, most, depth_most}

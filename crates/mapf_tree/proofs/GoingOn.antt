@@ -4,8 +4,8 @@ use Rattle.std.specs.Option.{ok_or}
 use Rattle.mapf_grid.specs.declared.fault.NoMemory.{NoMemory}
 use Rattle.mapf_grid.proofs.Members.{nowhere, here, there, here_or_there}
 use Rattle.mapf_plan.specs.declared.answer.Answer.{Answer}
-use Rattle.mapf_tree.specs.declared.progress.Progress.{Progress}
-use Rattle.mapf_tree.specs.declared.progress.Progress.TheVariants.{Working, Finished}
+use Rattle.mapf_tree.specs.declared.search.progress.Progress.{Progress}
+use Rattle.mapf_tree.specs.declared.search.progress.Progress.TheVariants.{Working, Finished}
 use Rattle.mapf_tree.specs.Problem.{Problem}
 use Rattle.mapf_tree.specs.Tree.{PlannedNode, IsMember}
 use Rattle.mapf_tree.specs.Search.{IsReached, Searched, IsSearch, IsLawful, IsEnded, TakesBetween, answer_of}

@@ -8,7 +8,7 @@ use Rattle.mapf_plan.specs.Plan.{plan_cost}
 use Rattle.mapf_plan.specs.declared.answer.Answer.{Answer}
 use Rattle.mapf_plan.specs.declared.answer.Answer.TheVariants as answer
 use Rattle.mapf_tree.specs.Problem.{Problem}
-use Rattle.mapf_tree.specs.declared.key.Key.{Key}
+use Rattle.mapf_tree.specs.declared.tree.key.Key.{Key}
 use Rattle.mapf_tree.specs.Tree.{key, key_rank}
 use Rattle.mapf_tree.specs.Nodes.{Node, node_key, AllStand, HasNodeFor}
 use Rattle.mapf_tree.specs.Answered.{IsBestAnswer}

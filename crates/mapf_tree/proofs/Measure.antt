@@ -17,8 +17,8 @@ use Rattle.mapf_plan.proofs.Conflicts.{first_early}
 use Rattle.mapf_low.specs.declared.constraint.Constraint.{Constraint}
 use Rattle.mapf_low.specs.Constraints.{Breaks}
 use Rattle.mapf_tree.specs.Problem.{Problem}
-use Rattle.mapf_tree.specs.declared.side.Side.{Side}
-use Rattle.mapf_tree.specs.declared.side.Side.TheVariants.{Left, Right}
+use Rattle.mapf_tree.specs.declared.tree.side.Side.{Side}
+use Rattle.mapf_tree.specs.declared.tree.side.Side.TheVariants.{Left, Right}
 use Rattle.mapf_tree.specs.Tree.{TreeNode, HasPlan, InTree, root, side, side_of, constraints_of, constraint_on, agent_on, root_of}
 use Rattle.mapf_tree.specs.Laws.{ConstraintIsNew, ConstraintIsEarly, HoldsGrid}
 use Rattle.mapf_tree.proofs.Branch.{agent_below}

@@ -8,8 +8,8 @@ use Rattle.mapf_tree.proofs.Rising.{same_or_other}
 use Rattle.mapf_plan.specs.declared.conflict.Conflict.{Conflict}
 use Rattle.mapf_plan.specs.Plan.{plan_cost, HasNoConflict, IsFirstConflict}
 use Rattle.mapf_plan.proofs.Conflicts.{same_first}
-use Rattle.mapf_tree.specs.declared.side.Side.{Side}
-use Rattle.mapf_tree.specs.declared.side.Side.TheVariants.{Left, Right}
+use Rattle.mapf_tree.specs.declared.tree.side.Side.{Side}
+use Rattle.mapf_tree.specs.declared.tree.side.Side.TheVariants.{Left, Right}
 use Rattle.mapf_tree.specs.Problem.{Problem}
 use Rattle.mapf_tree.specs.Names.{turn}
 use Rattle.mapf_tree.specs.Tree.{TreeNode, HasPlan, root_of, side_of, key, PlannedNode, IsMember}

@@ -14,7 +14,7 @@ use Rattle.mapf_grid.specs.Least.{Precedes}
 use Rattle.mapf_grid.proofs.Members.{nowhere, here, there, here_or_there}
 use Rattle.mapf_plan.specs.Plan.{plan_cost}
 use Rattle.mapf_tree.specs.Nodes.{Node, node_key}
-use Rattle.mapf_tree.specs.declared.key.Key.{Key}
+use Rattle.mapf_tree.specs.declared.tree.key.Key.{Key}
 use Rattle.mapf_tree.specs.Tree.{key_rank}
 use Rattle.mapf_tree.specs.OpenList.{IsRising, IsTaken, GivesFirst}
 use Rattle.mapf_tree.specs.Runs.{nodes_of, IsRun, AreRuns, HaveNodes, IsFirst, IsBehind, IsRunInto, level_cmp}

@@ -12,7 +12,7 @@ use Rattle.mapf_low.specs.declared.constraint.Constraint.{Constraint}
 use Rattle.mapf_low.specs.Constraints.{Obeys}
 use Rattle.mapf_low.proofs.OwnPaths.{own_path_costs}
 use Rattle.mapf_tree.specs.Problem.{Problem}
-use Rattle.mapf_tree.specs.declared.side.Side.{Side}
+use Rattle.mapf_tree.specs.declared.tree.side.Side.{Side}
 use Rattle.mapf_tree.specs.Tree.{TreeNode, HasPlan, InTree, root, side, side_of, constraint_on, agent_on, root_of, key, IsFirstSolution, IsAnswer, PlannedNode, IsMember}
 use Rattle.mapf_tree.specs.Search.{IsReached, IsChild, IsWaiting}
 use Rattle.mapf_tree.specs.Turns.{IsSearchAt, IsTurn, TurnTakesNext, EndsAtAnswer, SearchStarts}

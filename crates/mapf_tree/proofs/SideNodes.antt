@@ -11,7 +11,7 @@ use Rattle.mapf_low.specs.OwnPath.{IsOwnPath}
 use Rattle.mapf_low.proofs.Limits.{own_by_bound}
 use Rattle.mapf_low.proofs.OwnPaths.{own_path}
 use Rattle.mapf_low.proofs.Sets.{own_set, none_set}
-use Rattle.mapf_tree.specs.declared.side.Side.{Side}
+use Rattle.mapf_tree.specs.declared.tree.side.Side.{Side}
 use Rattle.mapf_tree.specs.Problem.{Problem}
 use Rattle.mapf_tree.specs.Tree.{IsOwnPathOf, TreeNode, HasPlan, side, side_of, agent_on, constraint_on, constraints_of, PlannedNode}
 use Rattle.mapf_tree.specs.Nodes.{Changed, AreChanges, turned, Node, StandsFor, IsConflictOf, IsSameSet}

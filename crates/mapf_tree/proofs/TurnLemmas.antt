@@ -4,9 +4,9 @@ use Rattle.mapf_grid.specs.declared.fault.NoMemory.{NoMemory}
 use Rattle.mapf_grid.specs.Least.{IsLeast}
 use Rattle.mapf_plan.specs.Plan.{plan_cost, HasNoConflict, IsValid}
 use Rattle.mapf_plan.specs.declared.conflict.Conflict.{Conflict}
-use Rattle.mapf_tree.specs.declared.key.Key.{Key}
-use Rattle.mapf_tree.specs.declared.side.Side.TheVariants.{Left, Right}
-use Rattle.mapf_tree.specs.declared.turn.Turn.TheVariants as variant
+use Rattle.mapf_tree.specs.declared.tree.key.Key.{Key}
+use Rattle.mapf_tree.specs.declared.tree.side.Side.TheVariants.{Left, Right}
+use Rattle.mapf_tree.specs.declared.search.turn.Turn.TheVariants as variant
 use Rattle.mapf_tree.specs.Tree.{key_rank, root_of, key, IsAnswer, PlannedNode, IsMember}
 use Rattle.mapf_tree.specs.Family.{IsRoot, IsBranching, IsChildOf}
 use Rattle.mapf_tree.specs.OpenList.{IsRising, IsAddedIfSome}

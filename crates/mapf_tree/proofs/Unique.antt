@@ -5,8 +5,8 @@ use Rattle.mapf_grid.proofs.Ranks.{same_rank}
 use Rattle.mapf_plan.specs.Plan.{IsFirstConflict}
 use Rattle.mapf_plan.proofs.Conflicts.{same_first}
 use Rattle.mapf_tree.specs.Problem.{Problem}
-use Rattle.mapf_tree.specs.declared.side.Side.{Side}
-use Rattle.mapf_tree.specs.declared.side.Side.TheVariants.{Left, Right}
+use Rattle.mapf_tree.specs.declared.tree.side.Side.{Side}
+use Rattle.mapf_tree.specs.declared.tree.side.Side.TheVariants.{Left, Right}
 use Rattle.mapf_tree.specs.Names.{turn}
 use Rattle.mapf_tree.specs.Tree.{TreeNode, HasPlan, InTree, root, side, side_of, key, IsSolution, PlannedNode, IsMember}
 use Rattle.mapf_tree.specs.Laws.{AnswerIsUnique}

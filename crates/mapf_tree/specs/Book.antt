@@ -5,13 +5,13 @@ use Rattle.mapf_plan.specs.Plan.{path_of}
 use Rattle.mapf_plan.specs.declared.meetings.Meeting.{Meeting}
 use Rattle.mapf_plan.specs.KnownPaths.{KnownPaths, AreNumbers, IsKnownPlan, plan_of}
 use Rattle.mapf_low.specs.declared.constraint.Constraint.{Constraint}
-use Rattle.mapf_tree.specs.declared.side.Side.{Side}
-use Rattle.mapf_tree.specs.declared.book.at_node.AtNode.{AtNode}
-use Rattle.mapf_tree.specs.declared.known_sets.Extension.{Extension}
-use Rattle.mapf_tree.specs.declared.known_sets.KnownOwn.{KnownOwn}
-use Rattle.mapf_tree.specs.declared.known_sets.KnownOwn.TheVariants.{Path, NoneWithin}
-use Rattle.mapf_tree.specs.declared.known_sets.KnownSet.{KnownSet}
-use Rattle.mapf_tree.specs.declared.shared_changes.SharedChange.{SharedChange}
+use Rattle.mapf_tree.specs.declared.tree.side.Side.{Side}
+use Rattle.mapf_tree.specs.declared.own_paths.book.at_node.AtNode.{AtNode}
+use Rattle.mapf_tree.specs.declared.own_paths.known_sets.Extension.{Extension}
+use Rattle.mapf_tree.specs.declared.own_paths.known_sets.KnownOwn.{KnownOwn}
+use Rattle.mapf_tree.specs.declared.own_paths.known_sets.KnownOwn.TheVariants.{Path, NoneWithin}
+use Rattle.mapf_tree.specs.declared.own_paths.known_sets.KnownSet.{KnownSet}
+use Rattle.mapf_tree.specs.declared.own_paths.shared_changes.SharedChange.{SharedChange}
 use Rattle.mapf_tree.specs.SharedChanges.{AreShared}
 use Rattle.mapf_tree.specs.Problem.{Problem}
 use Rattle.mapf_tree.specs.Tree.{IsOwnPathOf}

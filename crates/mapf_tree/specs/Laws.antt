@@ -9,8 +9,8 @@ use Rattle.mapf_plan.specs.Path.{cost}
 use Rattle.mapf_plan.specs.Plan.{IsConflict, IsFirstConflict, IsValid, IsOptimum, plan_cost, path_of}
 use Rattle.mapf_low.specs.Constraints.{Obeys}
 use Rattle.mapf_low.specs.Times.{time_of}
-use Rattle.mapf_tree.specs.declared.side.Side.{Side}
-use Rattle.mapf_tree.specs.declared.side.Side.TheVariants.{Left, Right}
+use Rattle.mapf_tree.specs.declared.tree.side.Side.{Side}
+use Rattle.mapf_tree.specs.declared.tree.side.Side.TheVariants.{Left, Right}
 use Rattle.mapf_tree.specs.Problem.{Problem}
 use Rattle.mapf_tree.specs.Tree.{TreeNode, HasPlan, InTree, IsAllowedFor, IsOwnPathOf, IsAnswer, side_of, constraints_of, constraint_on, agent_on}
 use Rattle.mapf_tree.specs.Family.{Leaves}

@@ -5,7 +5,7 @@ use Rattle.mapf_plan.specs.declared.conflict.Conflict.{Conflict}
 use Rattle.mapf_plan.specs.declared.rule.Rule.{Rule}
 use Rattle.mapf_plan.specs.Plan.{path_of, plan_cost, IsFirstConflict, HasNoConflict}
 use Rattle.mapf_low.specs.declared.constraint.Constraint.{Constraint}
-use Rattle.mapf_tree.specs.declared.side.Side.{Side}
+use Rattle.mapf_tree.specs.declared.tree.side.Side.{Side}
 use Rattle.mapf_tree.specs.Problem.{Problem}
 use Rattle.mapf_tree.specs.Tree.{TreeNode, PlannedNode, HasPlan, IsMember, root_of, side_of, agent_on, constraint_on, constraints_of, rank}
 

@@ -1,6 +1,6 @@
 -- Changes that nodes share, by the number of the path that they give.
 use Rattle.std.specs.Prelude.{◌≡◌, ℕ, List, All, Option, Some, slice_get, IfSome}
-use Rattle.mapf_tree.specs.declared.shared_changes.SharedChange.{SharedChange}
+use Rattle.mapf_tree.specs.declared.own_paths.shared_changes.SharedChange.{SharedChange}
 
 -- the change gives the path of its number
 abbrev pub IsShared : List (List ℕ) → SharedChange → Type 0

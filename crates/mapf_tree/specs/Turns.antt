@@ -6,10 +6,10 @@ use Rattle.mapf_grid.specs.Least.{IsLeast}
 use Rattle.mapf_plan.specs.Plan.{plan_cost, HasNoConflict}
 use Rattle.mapf_plan.specs.declared.answer.Answer.{Answer}
 use Rattle.mapf_plan.specs.declared.answer.Answer.TheVariants as answer
-use Rattle.mapf_tree.specs.declared.progress.Progress.{Progress}
-use Rattle.mapf_tree.specs.declared.progress.Progress.TheVariants.{Working, Finished}
-use Rattle.mapf_tree.specs.declared.turn.Turn.{Turn}
-use Rattle.mapf_tree.specs.declared.turn.Turn.TheVariants as turn
+use Rattle.mapf_tree.specs.declared.search.progress.Progress.{Progress}
+use Rattle.mapf_tree.specs.declared.search.progress.Progress.TheVariants.{Working, Finished}
+use Rattle.mapf_tree.specs.declared.search.turn.Turn.{Turn}
+use Rattle.mapf_tree.specs.declared.search.turn.Turn.TheVariants as turn
 use Rattle.mapf_tree.specs.Problem.{Problem}
 use Rattle.mapf_tree.specs.Tree.{PlannedNode, IsMember, EachOnce, root_of, key, key_rank, IsFirstSolution, IsAnswer}
 use Rattle.mapf_tree.specs.Nodes.{Node, AllStand, HasNodeFor}

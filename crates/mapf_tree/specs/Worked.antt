@@ -4,7 +4,7 @@ use Rattle.mapf_plan.specs.declared.conflict.Conflict.TheVariants.{Vertex, Swapp
 use Rattle.mapf_plan.specs.declared.rule.Rule.TheVariants.{Classical}
 use Rattle.mapf_plan.specs.Plan.{IsFirstConflict}
 use Rattle.mapf_low.specs.declared.constraint.Constraint.TheVariants as constraint
-use Rattle.mapf_tree.specs.declared.side.Side.TheVariants.{Left, Right}
+use Rattle.mapf_tree.specs.declared.tree.side.Side.TheVariants.{Left, Right}
 use Rattle.mapf_tree.specs.Problem.{Problem}
 use Rattle.mapf_tree.specs.Tree.{HasPlan, root_of, side_of}
 

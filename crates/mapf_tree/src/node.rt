@@ -5,12 +5,20 @@ ghost use Rattle.mapf_plan.specs.Path.{cost};
 ghost use Rattle.mapf_plan.specs.Plan.{path_of, plan_cost, most_bound};
 ghost use Rattle.mapf_tree.specs.Nodes.{changed_sets};
 
-use crate::chain::Chain;
-use crate::change::Change;
-use crate::current_paths::CurrentPaths;
-use crate::older_changes::OlderChanges;
-use crate::own_changes::OwnChanges;
-use crate::side_extensions::SideExtensions;
+mod chain;
+pub(crate) mod change;
+mod current_paths;
+pub(crate) mod four_changes;
+mod older_changes;
+mod own_changes;
+pub(crate) mod side_extensions;
+
+use crate::node::chain::Chain;
+use crate::node::change::Change;
+use crate::node::current_paths::CurrentPaths;
+use crate::node::older_changes::OlderChanges;
+use crate::node::own_changes::OwnChanges;
+use crate::node::side_extensions::SideExtensions;
 use crate::{Key, Name, Side};
 use mapf_grid::NoMemory;
 use mapf_low::{Constraint, Constraints};

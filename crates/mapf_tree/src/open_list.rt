@@ -1,11 +1,21 @@
 ghost use Rattle.std.specs.Prelude.{◌≡◌, ◌↔◌, [], take, OnOk, IfErr, IsTrue};
 ghost use Rattle.mapf_tree.specs.OpenList.{IsTaken};
 
-use crate::by_key::order_of;
-use crate::open_nodes::OpenNodes;
-use crate::rest::Rest;
-use crate::runs::Runs;
-use crate::{First, Node};
+mod by_key;
+mod first;
+mod open_nodes;
+mod rest;
+mod rest_nodes;
+mod run;
+mod run_nodes;
+mod runs;
+
+use crate::Node;
+use crate::open_list::by_key::order_of;
+use crate::open_list::open_nodes::OpenNodes;
+use crate::open_list::rest::Rest;
+use crate::open_list::runs::Runs;
+pub use first::First;
 use std::alloc::Global;
 use std::cmp::Ordering;
 use std::marker::Model;

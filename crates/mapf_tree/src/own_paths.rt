@@ -6,7 +6,11 @@ ghost use Rattle.mapf_tree.specs.Family.{IsBranching, IsChildOf};
 ghost use Rattle.mapf_tree.specs.Book.{IsKnownAt};
 ghost use Rattle.mapf_tree.specs.SideQuery.{IsFromStart, IsQueryOf};
 
-use crate::book::{AtNode, Book};
+mod book;
+mod known_sets;
+mod shared_changes;
+
+use crate::own_paths::book::{AtNode, Book};
 use crate::{Children, FromStart, Node, OpenList, Problem, Side, SideQuery};
 use mapf_grid::NoMemory;
 use std::alloc::Global;

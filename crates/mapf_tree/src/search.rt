@@ -3,11 +3,21 @@ ghost use Rattle.std.specs.Option.{option_copied, option_map};
 ghost use Rattle.mapf_plan.specs.declared.answer.Answer.{Answer};
 ghost use Rattle.mapf_tree.specs.Tree.{key_rank};
 
-use crate::limit::{given_up, least_stated, least_waiting};
-use crate::turn::{Turn, add_if_some, take_turn};
-use crate::{Children, Key, Node, OpenList, Problem, Progress, root};
+mod alone;
+mod children;
+mod limit;
+mod progress;
+mod taken;
+mod turn;
+
+use crate::search::limit::{given_up, least_stated, least_waiting};
+use crate::search::turn::{Turn, add_if_some, take_turn};
+use crate::{Key, Node, OpenList, Problem, root};
+pub use alone::solve_alone;
+pub use children::{ByChild, Children};
 use mapf_grid::NoMemory;
 use mapf_plan::Answer;
+pub use progress::Progress;
 use std::alloc::Global;
 use std::marker::Model;
 

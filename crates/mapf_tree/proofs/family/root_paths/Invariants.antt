@@ -1,9 +1,0 @@
-use Rattle.std.proofs.Common.{◌≡◌, ℕ, ◌<◌, [], length, get_or}
-use Rattle.mapf_plan.specs.Plan.{path_of}
-use Rattle.mapf_low.specs.OwnPath.{IsOwnPath}
-use Rattle.mapf_tree.proofs.family.root_paths.Given as goal
-
-abbrev pub invariant-loop-agent : goal.invariant-loop-agent
-invariant-loop-agent l =
-    (length l.paths.items ≡ l.agent)
-    × ((i : ℕ) → i < l.agent → IsOwnPath l.problem.inst.grid (get_or l.problem.inst.starts i 0) (get_or l.problem.inst.goals i 0) l.problem.bound [] (path_of l.paths.items i))

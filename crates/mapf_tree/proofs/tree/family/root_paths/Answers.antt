@@ -1,0 +1,10 @@
+use Rattle.std.proofs.Common.{[], refl, subst}
+use Rattle.mapf_tree.specs.Family.{IsOwn}
+use Rattle.mapf_tree.proofs.RootNodes.{own_more}
+use Rattle.mapf_tree.proofs.tree.family.root_paths.Goals as goal
+
+pub loop-agent-preserved : goal.loop-agent-preserved
+loop-agent-preserved c =
+    own_more c.args.problem.now c.loop-agent.paths.items c.push.new.self.items [] c.loop-agent.agent c.in-Some.path refl
+    c.loop-agent.invariant.0 c.loop-agent.invariant.1 c.in_ok-push.ensures.items
+    (subst (IsOwn c.args.problem.now c.loop-agent.agent []) c.in-Some.is c.in_ok-path.ensures)

@@ -1,0 +1,28 @@
+use Rattle.std.proofs.Common.{rules, ◌≡◌, ◌<◌, ◌≤◌, [], get_or, length, subst, sym, ap, ◌∙◌}
+use Rattle.mapf_plan.specs.Path.{cost}
+use Rattle.mapf_plan.specs.declared.conflict.Conflict.{Conflict}
+use Rattle.mapf_tree.specs.Tree.{agent_on, constraint_on}
+use Rattle.mapf_tree.proofs.ConstraintSets.{with_same}
+use Rattle.mapf_tree.proofs.LeastCosts.{costs_no_less}
+use Rattle.mapf_tree.proofs.tree.side_query.SideQuery.of.Goals as goal
+
+pub returns-clause-query : goal.returns-clause-query
+returns-clause-query c = record {
+  agent = λ on is. let same : c.unwrap-conflict.result ≡ on = cc in c.agent_of-agent.ensures ∙ ap (λ (x : Conflict). agent_on x c.args.side) same;
+  constraint = λ on is. let same : c.unwrap-conflict.result ≡ on = cc in c.constraint_of-constraint.ensures ∙ ap (λ (x : Conflict). constraint_on x c.args.side) same;
+  constraints = with_same c.constraint_of-constraint.result c.in_ok-constraints.field-0 (get_or c.args.node.now.constraints c.agent_of-agent.result []) c.in_ok-and.field-0 c.in_ok-constraints.ensures c.in_ok-and.ensures;
+  leaves = c.left_for.ensures.leaves;
+}
+
+pub invariant_of-result : goal.invariant_of-result
+invariant_of-result c =
+    let agents : length c.args.node.now.plan ≡ length c.args.problem.now.inst.starts = ap length c.requires.stands.plan ∙ c.requires.stands.member.plan.agents in
+    let inside : c.agent_of-agent.result < length c.args.problem.now.inst.starts = search rules in (
+      inside,
+      c.left_for.ensures.bounded,
+      c.left_for.ensures.small,
+      search rules,
+      λ path allowed. subst (λ n. n ≤ cost path) (sym (c.cost-least.ensures.cost ∙ ap cost c.path.ensures))
+          (costs_no_less c.args.problem.now c.args.node.now c.requires.of c.agent_of-agent.result c.left_for.result c.constraint_of-constraint.result c.in_ok-and.field-0 c.requires.stands inside c.left_for.ensures.leaves
+          (with_same c.constraint_of-constraint.result c.in_ok-constraints.field-0 (get_or c.args.node.now.constraints c.agent_of-agent.result []) c.in_ok-and.field-0 c.in_ok-constraints.ensures c.in_ok-and.ensures) path allowed),
+    )

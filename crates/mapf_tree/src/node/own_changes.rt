@@ -1,0 +1,143 @@
+//! The changes of a chain that a node has by itself.
+
+ghost use Rattle.std.specs.Prelude.{◌≡◌, [], ◌∷◌, ◌++◌, map, IfOk, IfErr, IfSome};
+ghost use Rattle.std.specs.Arc.{arc_value};
+
+use crate::node::change::{Change, number};
+use crate::node::four_changes::FourChanges;
+use mapf_grid::NoMemory;
+use std::alloc::Global;
+use std::marker::Model;
+use std::sync::Arc;
+
+/// Up to four changes, in their order.
+#[derive(Drop)]
+enum Held {
+    Nothing,
+    One([Arc<Change>; 1]),
+    Two([Arc<Change>; 2]),
+    Three([Arc<Change>; 3]),
+    Four(FourChanges),
+}
+
+/// The changes of a chain that a node has by itself, at most four.
+///
+/// They stand in the node, so a node that waits takes no memory apart for them.
+pub(crate) struct OwnChanges {
+    held: Held,
+}
+
+// By hand, so that a proof about what holds one sees a call where it is dropped, and not its fields.
+impl Drop for OwnChanges {
+    fn drop(self) {
+        let OwnChanges { held: _ } = self;
+    }
+}
+
+impl Model for OwnChanges {
+    ghost use Rattle.std.specs.Prelude.{List};
+    ghost use Rattle.mapf_tree.specs.Nodes.{Changed};
+    ghost use Rattle.mapf_tree.specs.OwnChanges.{held_in};
+
+    ghost Value = { List Changed };
+
+    ghost view = { λ o. held_in o.held };
+}
+
+impl OwnChanges {
+    /// No change.
+    pub(crate) fn none() -> OwnChanges
+        ensures { result ≡ [] }
+    {
+        OwnChanges {
+            held: Held::Nothing,
+        }
+    }
+
+    /// One change.
+    pub(crate) fn one(change: Arc<Change>) -> OwnChanges
+        ensures { result ≡ change.value ∷ [] }
+    {
+        OwnChanges {
+            held: Held::One([change]),
+        }
+    }
+
+    /// The changes, shared once more, where there are as many as may be; else none.
+    pub(crate) fn full(&self) -> Result<Option<FourChanges>, NoMemory>
+        ensures { IfOk result (λ full. IfSome full (λ four. four ≡ self.now)) }
+    {
+        match &self.held {
+            Held::Four(four) => Ok(Some(four.copy()?)),
+            _ => Ok(None),
+        }
+    }
+
+    /// The changes.
+    pub(crate) fn as_slice(&self) -> &[Arc<Change>]
+        ensures { map arc_value result.now ≡ self.now }
+    {
+        match &self.held {
+            Held::Nothing => &[],
+            Held::One(changes) => changes,
+            Held::Two(changes) => changes,
+            Held::Three(changes) => changes,
+            Held::Four(four) => four.as_slice(),
+        }
+    }
+
+    /// The same changes, shared once more, and another one. Where there are as many as may be, both come back apart.
+    pub(crate) fn with(
+        &self,
+        change: Arc<Change>,
+    ) -> Result<Result<OwnChanges, (FourChanges, Arc<Change>)>, NoMemory>
+        ensures own { IfOk result (λ more. IfOk more (λ own. own ≡ self.now ++ change.value ∷ [])) }
+        ensures four { IfOk result (λ more. IfErr more (λ back. back.0 ≡ self.now)) }
+        ensures back { IfOk result (λ more. IfErr more (λ back. back.1 ≡ change)) }
+    {
+        let held = match &self.held {
+            Held::Nothing => Held::One([change]),
+            Held::One([a]) => Held::Two([Arc::try_clone(a)?, change]),
+            Held::Two([a, b]) => Held::Three([Arc::try_clone(a)?, Arc::try_clone(b)?, change]),
+            Held::Three([a, b, c]) => {
+                Held::Four(FourChanges::of([
+                    Arc::try_clone(a)?,
+                    Arc::try_clone(b)?,
+                    Arc::try_clone(c)?,
+                    change,
+                ]))
+            }
+            Held::Four(four) => return Ok(Err((four.copy()?, change))),
+        };
+        Ok(Ok(OwnChanges { held }))
+    }
+
+    /// The last change has this number for its extension, unless memory runs out.
+    pub(crate) fn number(&mut self, alloc: Global, extension: usize)
+        ensures { self.new ≡ self.old }
+    {
+        match &mut self.held {
+            Held::Nothing => {}
+            Held::One(changes) => number(alloc, &mut changes[0], extension),
+            Held::Two(changes) => number(alloc, &mut changes[1], extension),
+            Held::Three(changes) => number(alloc, &mut changes[2], extension),
+            Held::Four(four) => four.number(alloc, extension),
+        }
+    }
+
+    /// The same changes, shared once more.
+    pub(crate) fn copy(&self) -> Result<OwnChanges, NoMemory>
+        ensures { IfOk result (λ own. own ≡ self.now) }
+    {
+        let held = match &self.held {
+            Held::Nothing => Held::Nothing,
+            Held::One([a]) => Held::One([Arc::try_clone(a)?]),
+            Held::Two([a, b]) => Held::Two([Arc::try_clone(a)?, Arc::try_clone(b)?]),
+            Held::Three([a, b, c]) => {
+                Held::Three([Arc::try_clone(a)?, Arc::try_clone(b)?, Arc::try_clone(c)?])
+            }
+            Held::Four(four) => Held::Four(four.copy()?),
+        };
+        Ok(OwnChanges { held })
+    }
+}

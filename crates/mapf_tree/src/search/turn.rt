@@ -1,0 +1,56 @@
+ghost use Rattle.std.specs.Prelude.{◌≡◌, IfOk, OnOk};
+ghost use Rattle.mapf_tree.specs.OpenList.{IsAddedIfSome};
+ghost use Rattle.mapf_tree.specs.Turns.{IsTurned};
+ghost use Rattle.mapf_tree.specs.Nodes.{AllStand};
+
+use crate::search::taken::key_and_plan;
+use crate::{Children, Key, Node, OpenList, Problem};
+use mapf_grid::NoMemory;
+use mapf_plan::Plan;
+
+/// What came of a turn of a search.
+#[derive(Drop)]
+pub(crate) enum Turn {
+    /// No node waits.
+    Empty,
+    /// The taken node's plan has no conflict.
+    Solved { key: Key, plan: Plan },
+    /// The taken node's children wait now.
+    Branched(Key),
+}
+
+/// Takes the least waiting node, and puts its children in if its plan has a conflict.
+pub(crate) fn take_turn<C: Children>(
+    problem: &Problem,
+    waiting: &mut OpenList,
+    children: &mut C,
+) -> Result<Turn, NoMemory>
+    requires serves { C.serves children.old problem.now }
+    requires nodes { AllStand problem.now waiting.old }
+    ensures serves { C.serves children.new problem.now }
+    ensures turned { IfOk result (IsTurned problem.now waiting.old waiting.new) }
+{
+    children.ahead(problem, waiting);
+    let Some(node) = waiting.take_least() else {
+        return Ok(Turn::Empty);
+    };
+    if node.conflict().is_none() {
+        let (key, plan) = key_and_plan(node)?;
+        return Ok(Turn::Solved { key, plan });
+    }
+    let node = node.settled();
+    let (left, right) = children.both(problem, &node)?;
+    add_if_some(waiting, left)?;
+    add_if_some(waiting, right)?;
+    Ok(Turn::Branched(node.into_key()))
+}
+
+/// Adds a node, if there is one.
+pub(crate) fn add_if_some(waiting: &mut OpenList, node: Option<Node>) -> Result<(), NoMemory>
+    ensures { OnOk result (IsAddedIfSome waiting.old node waiting.new) }
+{
+    if let Some(node) = node {
+        waiting.add(node).map_err(|_refused| NoMemory)?;
+    }
+    Ok(())
+}

@@ -1,0 +1,285 @@
+//! What the child on a side of a node's conflict asks of the low level.
+
+ghost use Rattle.std.specs.Prelude.{◌≡◌, ◌<◌, ◌≤◌, length, option_map, Some, IfOk, IfSome};
+ghost use Rattle.std.specs.Arc.{arc_value};
+ghost use Rattle.mapf_plan.specs.Path.{cost};
+ghost use Rattle.mapf_plan.specs.Plan.{path_of, plan_cost, most_bound};
+ghost use Rattle.mapf_tree.specs.Family.{IsBranching, IsChildOf, Leaves};
+
+use crate::node::change::Change;
+use crate::tree::family::own_path;
+use crate::tree::sides::{agent_of, constraint_of};
+use crate::{FromStart, Node, Problem, Side};
+use mapf_grid::NoMemory;
+use mapf_low::{Constraint, Constraints, cheapest_backwards};
+use mapf_plan::Path;
+use std::alloc::Global;
+use std::marker::Model;
+use std::sync::Arc;
+
+/// The own path that a side of a node's conflict asks for: that of an agent under these constraints, the newest of which is
+/// the side's, at a cost of at most the limit.
+#[derive(Drop)]
+pub struct SideQuery<'p> {
+    problem: &'p Problem,
+    side: Side,
+    agent: usize,
+    constraint: Constraint,
+    constraints: Constraints,
+    limit: u32,
+    /// What its path costs at least: what it costs at the node, where the agent is forbidden less.
+    least: u32,
+}
+
+/// The most cells of a map on which an agent's first paths are looked for forwards: many agents are searched for but once or twice.
+const FEW_CELLS: u32 = 4_096;
+
+/// So many searches forwards cost about what a table of distances of such a map does.
+const SEARCHES_A_TABLE: u32 = 2;
+
+/// The most cells of a map on which paths are always looked for backwards: on a larger one a table of distances mostly costs
+/// more than the searches that it helps.
+const MOST_CELLS: u32 = 65_536;
+
+/// So many dead ends a search backwards may meet before it is given up.
+const MOST_DEAD_ENDS: usize = 1_000;
+
+impl<'p> Model for SideQuery<'p> {
+    ghost use Rattle.std.specs.Prelude.{◌<◌, ◌≤◌, length};
+    ghost use Rattle.mapf_plan.specs.Plan.{most_bound};
+    ghost use Rattle.mapf_low.specs.Kept.{HasTwoEnds};
+    ghost use Rattle.mapf_tree.specs.SideQuery.{SideQuery, CostsAtLeast};
+
+    ghost Value = { SideQuery };
+
+    ghost view = { λ q. record { problem = q.problem.now; side = q.side; agent = q.agent; constraint = q.constraint; constraints = q.constraints; limit = q.limit } };
+
+    ghost invariant = { λ q. (q.agent < length q.problem.now.inst.starts) × (q.problem.now.bound ≤ most_bound) × (q.limit ≤ most_bound) × HasTwoEnds q.constraint × CostsAtLeast (record { problem = q.problem.now; side = q.side; agent = q.agent; constraint = q.constraint; constraints = q.constraints; limit = q.limit }) q.least };
+}
+
+impl<'p> SideQuery<'p> {
+    ghost use Rattle.mapf_tree.specs.SideQuery.{IsQueryOf, IsFoundBy, IsFromStart};
+
+    /// The query of a side of a node of the tree.
+    pub fn of(
+        alloc: Global,
+        problem: &'p Problem,
+        node: &Node,
+        side: Side,
+    ) -> Result<SideQuery<'p>, NoMemory>
+        requires { IsBranching problem.now node.now }
+        ensures problem { IfOk result (λ q. q.problem ≡ problem.now) }
+        ensures side { IfOk result (λ q. q.side ≡ side) }
+        ensures query { IfOk result (IsQueryOf node.now) }
+    {
+        let conflict = node.conflict().unwrap();
+        let agent = agent_of(&conflict, side);
+        let constraint = constraint_of(&conflict, side);
+        let least = node.path(agent).cost();
+        Ok(SideQuery {
+            problem,
+            side,
+            agent,
+            constraint,
+            constraints: node.constraints(alloc, agent)?.and(constraint)?,
+            limit: left_for(problem, node, agent, least),
+            least,
+        })
+    }
+
+    /// The side.
+    pub fn side(&self) -> Side
+        ensures { result ≡ self.now.side }
+    {
+        self.side
+    }
+
+    /// The agent.
+    pub(crate) fn agent(&self) -> usize
+        ensures agent { result ≡ self.now.agent }
+        ensures inside { result < length self.now.problem.inst.starts }
+    {
+        self.agent
+    }
+
+    /// What the path may cost at most.
+    pub(crate) fn limit(&self) -> u32
+        ensures { result ≡ self.now.limit }
+    {
+        self.limit
+    }
+
+    /// What the agent is forbidden, in an order of its own.
+    pub(crate) fn constraints(&self) -> &[Constraint]
+        ensures { result.now ≡ self.now.constraints }
+    {
+        self.constraints.as_slice()
+    }
+
+    /// A copy of what the agent is forbidden.
+    pub(crate) fn copy_constraints(&self) -> Result<Constraints, NoMemory>
+        ensures { IfOk result (λ other. other ≡ self.now.constraints) }
+    {
+        self.constraints.copy()
+    }
+
+    /// What the agent is forbidden more than at the node.
+    pub(crate) fn constraint(&self) -> Constraint
+        ensures { result ≡ self.now.constraint }
+    {
+        self.constraint
+    }
+
+    /// Whether a table of the distances from its agent's start is worth its cost, after so many searches for that agent without one:
+    /// on a map of at most 65,536 cells, but where there are at most 4,096 only once those searches cost as much; and on each that
+    /// has fewer cells than a search forwards likely takes states.
+    pub(crate) fn wants_from_start(&self, searched: u32) -> bool {
+        let map = self.problem.instance().map();
+        let cells = map.height() * map.width();
+        let pays = if cells <= FEW_CELLS {
+            searched >= SEARCHES_A_TABLE
+        } else {
+            cells <= MOST_CELLS
+        };
+        pays || u64::from(cells) < self.spare_states()
+    }
+
+    /// How many states a search forwards likely takes at least, since the agent has time steps to spare: about half the square of
+    /// those until its newest constraint forbids its goal, and about half of the cells on its way as often as its path at the node
+    /// waits or turns aside.
+    fn spare_states(&self) -> u64 {
+        let instance = self.problem.instance();
+        let start = instance.start(self.agent);
+        let nearest = self.problem.distances(self.agent).get(start).unwrap_or(0);
+        let until_forbidden = match self.constraint {
+            Constraint::Vertex { cell, time } if cell == instance.goal(self.agent) => {
+                u64::from(time.min(self.limit).saturating_sub(nearest))
+            }
+            _ => 0,
+        };
+        let late = u64::from(self.least.saturating_sub(nearest));
+        (until_forbidden * until_forbidden / 2).max(late * u64::from(nearest) / 2)
+    }
+
+    /// The own path that it asks for; none where there is none.
+    pub fn own_path(&self, alloc: Global) -> Result<Option<Path>, NoMemory>
+        ensures { IfOk result (IsFoundBy self.now) }
+    {
+        own_path(
+            alloc,
+            self.problem,
+            self.agent,
+            &self.constraints,
+            self.limit,
+        )
+    }
+
+    /// The same, which is looked for backwards first if there is a table of distances from the agent's start.
+    pub fn own_path_with(
+        &self,
+        alloc: Global,
+        from_start: &FromStart,
+    ) -> Result<Option<Path>, NoMemory>
+        requires { IsFromStart self.now.problem from_start.now }
+        ensures { IfOk result (IsFoundBy self.now) }
+    {
+        match self.own_path_back(alloc, from_start)? {
+            Some(found) => Ok(found),
+            None => self.own_path(alloc),
+        }
+    }
+
+    /// The same, looked for backwards. None where too many dead ends were met, where there is no table, or where its distances
+    /// are from another start.
+    fn own_path_back(
+        &self,
+        alloc: Global,
+        from_start: &FromStart,
+    ) -> Result<Option<Option<Path>>, NoMemory>
+        requires { IsFromStart self.now.problem from_start.now }
+        ensures { IfOk result (λ answer. IfSome answer (IsFoundBy self.now)) }
+    {
+        let Some(distances) = from_start.distances() else {
+            return Ok(None);
+        };
+        if from_start.agent() != self.agent {
+            return Ok(None);
+        }
+        let instance = self.problem.instance();
+        cheapest_backwards(
+            alloc,
+            instance.map(),
+            distances,
+            instance.start(self.agent),
+            instance.goal(self.agent),
+            &self.constraints,
+            self.least,
+            self.limit,
+            MOST_DEAD_ENDS,
+        )
+    }
+
+    /// What the child of the node whose side it is tells of the own path that it asks for: it is the child's, and without a
+    /// child there is none.
+    pub(crate) fn answer_in<'n>(
+        &self,
+        node: &Node,
+        child: &'n Option<Node>,
+    ) -> Option<Option<&'n Arc<Path>>>
+        requires node { IsBranching self.now.problem node.now }
+        requires query { IsQueryOf node.now self.now }
+        requires child { IsChildOf self.now.problem node.now self.now.side child.now }
+        ensures { IfSome result (λ path. IsFoundBy self.now (option_map (λ p. arc_value p.now) path)) }
+    {
+        match child {
+            Some(child) => Some(Some(child.turned_path(self.agent)?)),
+            None => Some(None),
+        }
+    }
+
+    /// The child of the node whose side it is, from the own path that it asks for; none exactly where that isn't in the tree.
+    ///
+    /// The number is the one that the extension of the agent's set may have among those that are known; nothing rests on it.
+    pub(crate) fn child(
+        &self,
+        alloc: Global,
+        node: &Node,
+        path: Option<Arc<Path>>,
+        extension: usize,
+    ) -> Result<Option<Node>, NoMemory>
+        requires node { IsBranching self.now.problem node.now }
+        requires query { IsQueryOf node.now self.now }
+        requires path { IsFoundBy self.now (option_map arc_value path) }
+        ensures { IfOk result (IsChildOf self.now.problem node.now self.now.side) }
+    {
+        let Some(path) = path else {
+            return Ok(None);
+        };
+        let conflict = node.conflict_with(alloc, self.agent, &path)?;
+        let old = node.path(self.agent).cost();
+        let change = Arc::new(
+            alloc,
+            Change {
+                agent: self.agent,
+                constraint: self.constraint,
+                path,
+                extension,
+            },
+        )?;
+        Ok(Some(node.turned(alloc, self.side, change, old, conflict)?))
+    }
+}
+
+/// What the other agents' paths leave of the bound, where this agent's own path costs so much: with a dearer path of this agent
+/// than what they leave no plan is in the tree.
+pub(crate) fn left_for(problem: &Problem, node: &Node, agent: usize, own: u32) -> u32
+    requires agent { agent < length node.now.plan }
+    requires own { own ≡ cost (path_of node.now.plan agent) }
+    requires within { plan_cost node.now.plan ≤ problem.now.bound }
+    ensures leaves { Leaves problem.now node.now.plan agent result }
+    ensures small { result ≤ most_bound }
+    ensures bounded { problem.now.bound ≤ most_bound }
+{
+    let others = node.key().cost - u64::from(own);
+    (u64::from(problem.bound()) - others) as u32
+}
