@@ -4,6 +4,7 @@ mod counting;
 mod devices;
 mod following;
 mod gates;
+mod kept;
 mod limits;
 mod node_limits;
 mod orders;

@@ -74,6 +74,14 @@ impl Counts {
             && self.others.load(Ordering::SeqCst) == 0
     }
 
+    /// How often this one of the first jobs was entered.
+    pub(super) fn entries_of(&self, n: u64) -> u64 {
+        match self.entered.get(n as usize) {
+            Some(job) => job.load(Ordering::SeqCst),
+            None => 0,
+        }
+    }
+
     /// How often one of the first jobs was entered.
     pub(super) fn entries(&self) -> u64 {
         let mut entries = 0_u64;
