@@ -12,13 +12,10 @@ use Rattle.mapf_low.specs.Backwards.Earliest.{AreEarliest, MayGo, HasEntry, Adva
 use Rattle.mapf_low.specs.Distances.Levels.{IsFreeNeighbour}
 use Rattle.mapf_low.specs.Query.{Query}
 use Rattle.mapf_low.specs.Walk.{distance_at}
-use Rattle.mapf_low.proofs.Growing.{members_more, none_in_front, all_in_front}
+use Rattle.mapf_low.proofs.Growing.{members_more, all_in_front}
 use Rattle.mapf_low.proofs.backwards.OutOfReach.{can_before, can_allowed}
 
 module _ (g : Grid) (time : ℕ) where
-  pub advances_none : (table : List (Option ℕ)) (cells : List ℕ) → Advances g time table table cells cells
-  advances_none table cells = record { same_length = refl; kept = λ v m e. e; fresh = λ v m e. inl e; stays = λ v i. i; listed = λ v i. inl i }
-
   pub advances_both : (a b c : List (Option ℕ)) (x y z : List ℕ) → Advances g time a b x y → Advances g time b c y z → Advances g time a c x z
   advances_both a b c x y z first second = record {
     same_length = second.same_length ∙ first.same_length;
@@ -98,9 +95,6 @@ module _ (query : Query) (t u : ℕ) where
   pub record AreTried (table : List (Option ℕ)) (neighbours : List ℕ) (all_entered : Bool) : Type 0 where
     pub entered : (v : ℕ) → Contains neighbours v → MayGo query t u v → HasEntry table v
     pub all : all_entered ≡ true → (v : ℕ) → Contains neighbours v → HasEntry table v
-
-  pub tried_none : (table : List (Option ℕ)) (neighbours : List ℕ) → AreTried table (take 0 neighbours) true
-  tried_none table neighbours = record { entered = λ v i m. absurd (none_in_front neighbours v i); all = λ e v i. absurd (none_in_front neighbours v i) }
 
   pub tried_more : (time : ℕ) (old new : List (Option ℕ)) (x y neighbours : List ℕ) (k to : ℕ) (all entered : Bool) → k < length neighbours → to ≡ get_or neighbours k to → AreTried old (take k neighbours) all → Advances query.grid time old new x y →
       (MayGo query t u to → HasEntry new to) → (entered ≡ true → HasEntry new to) → AreTried new (take (k + 1) neighbours) (all && entered)
@@ -267,11 +261,7 @@ module _ (query : Query) where
   by_entry t o r = subst (λ (p : Option ℕ). MatchOption p ⊥ (λ n. n ≤ t)) (sym r.1) r.2
 
   module _ (n : ℕ) (table : List (Option ℕ)) (frontier : List ℕ) (h : IsAdvanced query n table frontier) where
-    -- at the limit the table is done
-    pub earliest_by_limit : query.limit ≤ n → AreEarliest query table
-    earliest_by_limit l = record { bounds = λ t v m i. by_entry t (distance_at table v) (h.bounds t v (omega (arith, l, m)) i); at_start = h.at_start }
-
-    -- and it is where there is no cell to go on from
+    -- where there is no cell to go on from the table is done
     pub earliest_early : length frontier ≡ 0 → AreEarliest query table
     earliest_early none = record { bounds = λ t v l i. by_entry t (distance_at table v) (by t v i); at_start = h.at_start }
       where

@@ -93,13 +93,6 @@ pub record ListsFirst (table : List (Option ℕ)) (nearest : ℕ) (levels : List
   pub complete : (k : ℕ) (s : ℕ × ℕ) → k < count → Contains (level_at levels k) s.0 → HasSum table (λ m. m ≡ nearest + k) s → Contains states s
 
 module _ (table : List (Option ℕ)) (nearest : ℕ) (levels : List (List ℕ)) where
-  pub lists_none : (states : List (ℕ × ℕ)) → states ≡ [] → ListsFirst table nearest levels 0 states
-  lists_none states e = subst (ListsFirst table nearest levels 0) (sym e) (record {
-    once = λ i j d l m. absurd (omega (arith, m));
-    sound = λ s i. absurd (omega (arith, i.1));
-    complete = λ k s l. absurd (omega (arith, l));
-  })
-
   pub lists_next : (count : ℕ) (level : List ℕ) (states new : List (ℕ × ℕ)) → level ≡ level_at levels count → ListsFirst table nearest levels count states → Lists table (nearest + count) level states new → ListsFirst table nearest levels (count + 1) new
   lists_next count level states new is h more = record { once = more.once; sound = λ s i. sound s ((more.members s).0 i); complete = complete }
     where
