@@ -2,3 +2,4 @@ pub mod Out
 pub mod Run
 pub mod Rounds
 pub mod Sessions
+pub mod Watch

@@ -9,8 +9,10 @@ ghost use Rattle.mapf_tree.specs.Answered.{IsAnswerOf};
 ghost use Rattle.mapf_solve.specs.Out.{AreNumbers, IsRefusal, IsTextFor, IsOut, IsBest, KeepsLimit, IsOnlyOut, IsWorkers, problem_of};
 
 use crate::rounds::tables;
+use crate::sessions::Means;
+use crate::setting::Setting;
 use crate::solving::solve_from;
-use crate::{Ask, Pace, Refusal};
+use crate::{Ask, NoWatch, Pace, Refusal, Watch};
 use mapf_board::{AlwaysGrants, Gate, MOST_WORKERS};
 use mapf_grid::{Instance, NoMemory, instance_of};
 use mapf_plan::{Answer, MOST_BOUND, MOST_NODES, Rule, write};
@@ -48,52 +50,81 @@ pub fn answer<R: Threads + Sync, G: Gate>(
     ensures same { IfOk result (λ bytes. IsOnlyOut map.now scen.now ask (Ok bytes.items)) }
     ensures same_fault { IfErr result (λ fault. fault ≢ Refusal.NoMemory → IsWorkers ask → IsOnlyOut map.now scen.now ask (Err fault)) }
 {
-    text_or_fault(rt, alloc, map, scen, ask, gate)
+    let setting = Setting {
+        rt,
+        alloc,
+        pace: Pace::LONGEST,
+    };
+    text_or_fault(&setting, map, scen, ask, gate, &mut NoWatch)
 }
 
-/// The same, where nothing is said of other plans and other numbers of workers.
-fn text_or_fault<R: Threads + Sync, G: Gate>(
+/// What [`answer`] gives, and a watch is told how far the search has come: first of the root, if that is in the tree, then after each
+/// 256 nodes or fewer, and last of the end. What is given doesn't depend on the watch.
+pub fn answer_watched<R: Threads + Sync, G: Gate, W: Watch>(
     rt: &R,
     alloc: Global,
     map: &[u8],
     scen: &[u8],
     ask: Ask,
     gate: &G,
+    watch: &mut W,
+) -> Result<Vec<u8>, Refusal>
+    ensures text { IfOk result (λ bytes. IsOut map.now scen.now ask (Ok bytes.items)) }
+    ensures fault { IfErr result (λ fault. fault ≢ Refusal.NoMemory → IsOut map.now scen.now ask (Err fault)) }
+    ensures best { IfOk result (λ bytes. ask.nodes ≡ None → IsBest map.now scen.now ask bytes.items) }
+    ensures limit { IfOk result (λ bytes. (n : ℕ) → ask.nodes ≡ Some n → KeepsLimit map.now scen.now ask n bytes.items) }
+    ensures same { IfOk result (λ bytes. IsOnlyOut map.now scen.now ask (Ok bytes.items)) }
+    ensures same_fault { IfErr result (λ fault. fault ≢ Refusal.NoMemory → IsWorkers ask → IsOnlyOut map.now scen.now ask (Err fault)) }
+{
+    let setting = Setting {
+        rt,
+        alloc,
+        pace: Pace::WATCHED,
+    };
+    text_or_fault(&setting, map, scen, ask, gate, watch)
+}
+
+/// The same, where nothing is said of other plans and other numbers of workers.
+pub(crate) fn text_or_fault<R: Threads + Sync, G: Gate, W: Watch>(
+    setting: &Setting<'_, R>,
+    map: &[u8],
+    scen: &[u8],
+    ask: Ask,
+    gate: &G,
+    watch: &mut W,
 ) -> Result<Vec<u8>, Refusal>
     ensures text { IfOk result (λ bytes. IsOut map.now scen.now ask (Ok bytes.items)) }
     ensures fault { IfErr result (λ fault. fault ≢ Refusal.NoMemory → IsOut map.now scen.now ask (Err fault)) }
 {
-    let instance = asked_instance(alloc, map, scen, ask)?;
-    Ok(text_of_instance(rt, alloc, instance, ask, gate)?)
+    let instance = asked_instance(setting.alloc, map, scen, ask)?;
+    Ok(text_of_instance(setting, instance, ask, gate, watch)?)
 }
 
 /// The text of the answer for this instance, which is looked for by the ask's number of workers.
-fn text_of_instance<R: Threads + Sync, G: Gate>(
-    rt: &R,
-    alloc: Global,
+fn text_of_instance<R: Threads + Sync, G: Gate, W: Watch>(
+    setting: &Setting<'_, R>,
     instance: Instance,
     ask: Ask,
     gate: &G,
+    watch: &mut W,
 ) -> Result<Vec<u8>, NoMemory>
     requires { AreNumbers ask }
     ensures { IfOk result (λ bytes. IsTextFor instance ask bytes.items) }
 {
     let goals = instance.agents() as u64;
-    let workers = ask.workers as usize;
-    let tables = tables(rt, alloc, &instance, workers, gate, &AlwaysGrants)?;
+    let means = Means {
+        rt: setting.rt,
+        alloc: setting.alloc,
+        workers: ask.workers as usize,
+        pace: setting.pace,
+        gate,
+        supply: &AlwaysGrants,
+    };
+    let tables = tables(&means, &instance)?;
     let whole = Problem::with(instance, tables, ask.bound as u32);
     let problem = asked_problem(whole, ask);
-    let answer = solve_from(
-        rt,
-        alloc,
-        &problem,
-        goals,
-        workers,
-        Pace::LONGEST,
-        gate,
-        &AlwaysGrants,
-    )?;
-    spell(alloc, &problem, &answer)
+    let answer = solve_from(&means, &problem, goals, watch)?;
+    spell(setting.alloc, &problem, &answer)
 }
 
 /// The instance that is asked for, where the ask's numbers may be; or else the first fault.

@@ -6,6 +6,9 @@ pub const MOST_WORKER_TURNS: u64 = 1_000_000;
 /// The most nodes that are taken in a session.
 pub const MOST_SESSION_NODES: u64 = 4096;
 
+/// The most nodes that are taken in a session of a watched search. A watch is told between sessions, so it hears often.
+const WATCHED_NODES: u64 = 256;
+
 /// How long a session goes on. No answer depends on it.
 #[derive(Clone, Copy, Debug, PartialEq, Eq)]
 pub struct Pace {
@@ -20,5 +23,11 @@ impl Pace {
     pub const LONGEST: Pace = Pace {
         worker_turns: MOST_WORKER_TURNS,
         session_nodes: MOST_SESSION_NODES,
+    };
+
+    /// The sessions of a watched search.
+    pub(crate) const WATCHED: Pace = Pace {
+        worker_turns: MOST_WORKER_TURNS,
+        session_nodes: WATCHED_NODES,
     };
 }

@@ -5,7 +5,9 @@ ghost use Rattle.mapf_plan.specs.Device.{Counts};
 ghost use Rattle.mapf_plan.specs.Files.{is_read_failure, is_write_failure, AreWithin};
 ghost use Rattle.mapf_solve.specs.Run.{end_of, files, LeavesText, LeavesBest, LeavesLimit, LeavesOnly};
 
-use crate::{Ask, RunFault, answer};
+use crate::answers::text_or_fault;
+use crate::setting::Setting;
+use crate::{Ask, NoWatch, Pace, RunFault, Watch};
 use mapf_board::NoGate;
 use mapf_plan::{DeviceFault, FileName, Sink, Source, read_file, write_text};
 use std::alloc::Global;
@@ -51,17 +53,53 @@ pub fn run<R: Threads + Sync, M: Source, S: Source, O: Sink>(
     // Out of memory is a refusal.
     ensures memory { IfErr result (λ fault. fault ≢ RunFault.Device DeviceFault.NoMemory) }
 {
-    write_text_or_fault(rt, alloc, map, scen, out, ask)
+    let setting = Setting {
+        rt,
+        alloc,
+        pace: Pace::LONGEST,
+    };
+    write_text_or_fault(&setting, map, scen, out, ask, &mut NoWatch)
 }
 
-/// The same, where nothing is said of other plans and other numbers of workers.
-fn write_text_or_fault<R: Threads + Sync, M: Source, S: Source, O: Sink>(
+/// What [`run`] does, and a watch is told how far the search has come, as by [`answer_watched`](crate::answer_watched).
+pub fn run_watched<R: Threads + Sync, M: Source, S: Source, O: Sink, W: Watch>(
     rt: &R,
     alloc: Global,
     map: &mut M,
     scen: &mut S,
     out: &mut O,
     ask: Ask,
+    watch: &mut W,
+) -> Result<(), RunFault>
+    requires map { M.failures map.old < u64.MAX }
+    requires scen { S.failures scen.old < u64.MAX }
+    requires out { O.failures out.old < u64.MAX }
+    ensures map { Counts (is_read_failure FileName.Map (end_of result)) (M.failures map.old) (M.failures map.new) }
+    ensures scen { Counts (is_read_failure FileName.Scenario (end_of result)) (S.failures scen.old) (S.failures scen.new) }
+    ensures out { Counts (is_write_failure (end_of result)) (O.failures out.old) (O.failures out.new) }
+    ensures within { AreWithin (files (M.remaining map.old) (S.remaining scen.old)) (end_of result) }
+    ensures text { LeavesText (M.remaining map.old) (S.remaining scen.old) ask (O.contents out.old) (O.contents out.new) result }
+    ensures best { ask.nodes ≡ None → LeavesBest (M.remaining map.old) (S.remaining scen.old) ask (O.contents out.old) (O.contents out.new) result }
+    ensures limit { (n : ℕ) → ask.nodes ≡ Some n → LeavesLimit (M.remaining map.old) (S.remaining scen.old) ask n (O.contents out.old) (O.contents out.new) result }
+    ensures same { LeavesOnly (M.remaining map.old) (S.remaining scen.old) ask (O.contents out.old) (O.contents out.new) result }
+    ensures memory { IfErr result (λ fault. fault ≢ RunFault.Device DeviceFault.NoMemory) }
+{
+    let setting = Setting {
+        rt,
+        alloc,
+        pace: Pace::WATCHED,
+    };
+    write_text_or_fault(&setting, map, scen, out, ask, watch)
+}
+
+/// The same, where nothing is said of other plans and other numbers of workers.
+fn write_text_or_fault<R: Threads + Sync, M: Source, S: Source, O: Sink, W: Watch>(
+    setting: &Setting<'_, R>,
+    map: &mut M,
+    scen: &mut S,
+    out: &mut O,
+    ask: Ask,
+    watch: &mut W,
 ) -> Result<(), RunFault>
     requires map { M.failures map.old < u64.MAX }
     requires scen { S.failures scen.old < u64.MAX }
@@ -73,8 +111,8 @@ fn write_text_or_fault<R: Threads + Sync, M: Source, S: Source, O: Sink>(
     ensures text { LeavesText (M.remaining map.old) (S.remaining scen.old) ask (O.contents out.old) (O.contents out.new) result }
     ensures memory { IfErr result (λ fault. fault ≢ RunFault.Device DeviceFault.NoMemory) }
 {
-    let map = read_file(alloc, map, FileName::Map)?;
-    let scen = read_file(alloc, scen, FileName::Scenario)?;
-    let text = answer(rt, alloc, &map, &scen, ask, &NoGate)?;
+    let map = read_file(setting.alloc, map, FileName::Map)?;
+    let scen = read_file(setting.alloc, scen, FileName::Scenario)?;
+    let text = text_or_fault(setting, &map, &scen, ask, &NoGate, watch)?;
     Ok(write_text(out, &text)?)
 }

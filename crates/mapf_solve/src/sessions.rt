@@ -9,7 +9,7 @@ mod session;
 mod side_job;
 mod source;
 
-pub(crate) use brands::OneProblem;
+pub use brands::OneProblem;
 pub(crate) use lookahead::Lookahead;
 pub(crate) use means::Means;
 pub(crate) use session::session;

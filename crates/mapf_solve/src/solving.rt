@@ -9,6 +9,7 @@ ghost use Rattle.mapf_solve.specs.declared.pace.TheConstants.{MOST_SESSION_NODES
 use crate::pace::{MOST_SESSION_NODES, MOST_WORKER_TURNS, Pace};
 use crate::rounds::root;
 use crate::sessions::{Lookahead, Means, OneProblem, session};
+use crate::watch::{NoWatch, Watch, tell};
 use mapf_board::{AlwaysGrants, Gate, Supply};
 use mapf_grid::NoMemory;
 use mapf_plan::Answer;
@@ -73,28 +74,37 @@ pub fn solve_paced<R: Threads + Sync, G: Gate, S: Supply>(
     ensures answer { IfOk result (IsAnswerOf problem.now) }
     ensures best { IfOk result (IsBestAnswer problem.now) }
 {
-    solve_from(rt, alloc, problem, 0, workers, pace, gate, supply)
+    solve_watched(
+        rt,
+        alloc,
+        problem,
+        workers,
+        pace,
+        gate,
+        supply,
+        &mut NoWatch,
+    )
 }
 
-/// The same, where the jobs are numbered from `first` on.
-pub(crate) fn solve_from<R: Threads + Sync, G: Gate, S: Supply>(
+/// Solves a problem in sessions of this pace, between which a watch is told how far the search has come: first of the root, if that
+/// is in the tree, and last of the end. The answer is that of `solve`.
+pub fn solve_watched<R: Threads + Sync, G: Gate, S: Supply, W: Watch>(
     rt: &R,
     alloc: Global,
     problem: &Problem,
-    first: u64,
     workers: usize,
     pace: Pace,
     gate: &G,
     supply: &S,
+    watch: &mut W,
 ) -> Result<Answer, NoMemory>
     requires some { 0 < workers }
     requires few { workers ≤ MOST_WORKERS }
-    requires paced { 1 ≤ pace.session_nodes }
+    requires turns { pace.worker_turns ≤ MOST_WORKER_TURNS }
+    requires nodes { (1 ≤ pace.session_nodes) × (pace.session_nodes ≤ MOST_SESSION_NODES) }
     ensures answer { IfOk result (IsAnswerOf problem.now) }
     ensures best { IfOk result (IsBestAnswer problem.now) }
 {
-    let agents = problem.instance().agents() as u64;
-    let root = root(rt, alloc, problem, first, workers, gate, supply)?;
     let means = Means {
         rt,
         alloc,
@@ -103,26 +113,49 @@ pub(crate) fn solve_from<R: Threads + Sync, G: Gate, S: Supply>(
         gate,
         supply,
     };
-    solve_root::<Brand, R, G, S>(&means, problem, root, first.saturating_add(agents))
+    solve_from(&means, problem, 0, watch)
+}
+
+/// The answer, where the jobs are numbered from `first` on.
+pub(crate) fn solve_from<R: Threads + Sync, G: Gate, S: Supply, W: Watch>(
+    means: &Means<'_, R, G, S>,
+    problem: &Problem,
+    first: u64,
+    watch: &mut W,
+) -> Result<Answer, NoMemory>
+    ensures answer { IfOk result (IsAnswerOf problem.now) }
+    ensures best { IfOk result (IsBestAnswer problem.now) }
+{
+    let agents = problem.instance().agents() as u64;
+    let root = root(means, problem, first)?;
+    solve_root::<Brand, R, G, S, W>(means, problem, root, first.saturating_add(agents), watch)
 }
 
 /// The same from the root on, in sessions, whose jobs are numbered from `next` on.
-fn solve_root<P: OneProblem + Send + Sync, R: Threads + Sync, G: Gate, S: Supply>(
+fn solve_root<P: OneProblem + Send + Sync, R: Threads + Sync, G: Gate, S: Supply, W: Watch>(
     means: &Means<'_, R, G, S>,
     problem: &Problem,
     root: Option<Node>,
     next: u64,
+    watch: &mut W,
 ) -> Result<Answer, NoMemory>
     requires problem { problem.now ≡ P.problem }
     requires root { IsRoot problem.now root }
     ensures { IfOk result (IsAnswerOf P.problem) }
 {
+    let has_tree = root.is_some();
     let mut search = Search::from_root(means.alloc, problem, root)?;
     let mut known = Lookahead::<P>::new(means.alloc, problem, means.workers, next)?;
+    if has_tree {
+        tell::<P, W>(watch, &search);
+    }
     loop {
         let (further, learned, progress) = session(means, search, known)?;
         search = further;
         known = learned;
+        if has_tree {
+            tell::<P, W>(watch, &search);
+        }
         if let Progress::Finished = progress {
             break;
         }

@@ -1,11 +1,12 @@
 //! The root, whose paths are the jobs of a round.
 
-ghost use Rattle.std.specs.Prelude.{◌≡◌, ◌<◌, ◌≤◌, Contains, IfOk, MatchOption, None, Some, length, map};
+ghost use Rattle.std.specs.Prelude.{◌≡◌, ◌≤◌, Contains, IfOk, MatchOption, None, Some, length, map};
 ghost use Rattle.mapf_tree.specs.Family.{IsRoot};
 ghost use Rattle.mapf_solve.specs.Rounds.{AreOfAgents};
-ghost use Rattle.mapf_board.specs.declared.limits.TheConstants.{MOST_TICKETS, MOST_WORKERS};
+ghost use Rattle.mapf_board.specs.declared.limits.TheConstants.{MOST_TICKETS};
 
 use crate::rounds::path_job::{PathJob, PathWork};
+use crate::sessions::Means;
 use mapf_board::{Gate, Supply, answer_all};
 use mapf_grid::NoMemory;
 use mapf_plan::Path;
@@ -16,24 +17,27 @@ use std::thread::Threads;
 /// The root of a problem's tree; none exactly where it isn't in the tree. Each agent's own path is a job, and the jobs
 /// are numbered from `first` on.
 pub(crate) fn root<R: Threads + Sync, G: Gate, S: Supply>(
-    rt: &R,
-    alloc: Global,
+    means: &Means<'_, R, G, S>,
     problem: &Problem,
     first: u64,
-    workers: usize,
-    gate: &G,
-    supply: &S,
 ) -> Result<Option<Node>, NoMemory>
-    requires { (0 < workers) × (workers ≤ MOST_WORKERS) }
     ensures { IfOk result (IsRoot problem.now) }
 {
-    let jobs = path_jobs(alloc, problem, first)?;
-    let work = PathWork::new(alloc);
-    let Ok(found) = answer_all(rt, alloc, &work, &jobs, gate, supply, workers) else {
+    let jobs = path_jobs(means.alloc, problem, first)?;
+    let work = PathWork::new(means.alloc);
+    let Ok(found) = answer_all(
+        means.rt,
+        means.alloc,
+        &work,
+        &jobs,
+        means.gate,
+        means.supply,
+        means.workers,
+    ) else {
         return Err(NoMemory);
     };
-    match all_of(alloc, found)? {
-        Some(paths) => root_with(alloc, problem, paths),
+    match all_of(means.alloc, found)? {
+        Some(paths) => root_with(means.alloc, problem, paths),
         None => Ok(None),
     }
 }

@@ -1,11 +1,12 @@
 //! The distances to the goals, which are the jobs of the first round.
 
-ghost use Rattle.std.specs.Prelude.{◌<◌, ◌≤◌, IfOk, length};
+ghost use Rattle.std.specs.Prelude.{◌≤◌, IfOk, length};
 ghost use Rattle.mapf_tree.specs.Problem.{HasDistances};
 ghost use Rattle.mapf_solve.specs.Rounds.{AreOfGoals};
-ghost use Rattle.mapf_board.specs.declared.limits.TheConstants.{MOST_TICKETS, MOST_WORKERS};
+ghost use Rattle.mapf_board.specs.declared.limits.TheConstants.{MOST_TICKETS};
 
 use crate::rounds::goal_job::{GoalJob, GoalWork};
+use crate::sessions::Means;
 use mapf_board::{Gate, Supply, answer_all};
 use mapf_grid::{Instance, NoMemory};
 use mapf_low::Distances;
@@ -14,19 +15,22 @@ use std::thread::Threads;
 
 /// The distances to each agent's goal, agent 0 first. Each goal is a job, and the jobs have the agents' numbers.
 pub(crate) fn tables<R: Threads + Sync, G: Gate, S: Supply>(
-    rt: &R,
-    alloc: Global,
+    means: &Means<'_, R, G, S>,
     instance: &Instance,
-    workers: usize,
-    gate: &G,
-    supply: &S,
 ) -> Result<Vec<Distances>, NoMemory>
-    requires { (0 < workers) × (workers ≤ MOST_WORKERS) }
     ensures { IfOk result (λ tables. HasDistances instance.now tables.items) }
 {
-    let jobs = goal_jobs(alloc, instance)?;
-    let work = GoalWork::new(alloc);
-    match answer_all(rt, alloc, &work, &jobs, gate, supply, workers) {
+    let jobs = goal_jobs(means.alloc, instance)?;
+    let work = GoalWork::new(means.alloc);
+    match answer_all(
+        means.rt,
+        means.alloc,
+        &work,
+        &jobs,
+        means.gate,
+        means.supply,
+        means.workers,
+    ) {
         Ok(tables) => Ok(tables),
         Err(_) => Err(NoMemory),
     }

@@ -9,7 +9,7 @@ use std::marker::Brand;
 /// The problem of one search, which the call that begins the sessions picks.
 ///
 /// What sessions keep has it in its type, so that no clause needs to say that it is of this problem.
-pub(crate) trait OneProblem {
+pub trait OneProblem {
     ghost problem: { Problem };
 }
 
