@@ -6,22 +6,25 @@ use crate::call_fault::{COMMAND_LINE, CallFault, GAVE_UP, NO_MEMORY, NONE, SHOWN
 use crate::checks::check_run;
 use crate::command::{Check, Solve, Subcommand, parse};
 use crate::first_byte::FirstByte;
+use crate::progress_lines::{ProgressLines, say};
 use clap::error::ErrorKind;
 use mapf_check::Verdict;
-use mapf_plan::{Counted, FileName, Sink, write_text, write_whole};
-use mapf_solve::run;
+use mapf_plan::{Counted, FileName, Sink, write_text};
+use mapf_solve::{RunFault, run, run_watched};
 use std::alloc::{AllocError, Global};
 use std::fs;
 use std::rt::Files;
 use std::thread::Threads;
+use std::time::Clock;
 
 /// Does what the words ask for, the program's name being the first, and answers the program's status.
 ///
 /// `mapf solve` prints a plan (status 0), `none` (1) or that it gave up (6) on `out`, and `mapf check` one verdict line:
-/// valid (0), or not valid or no plan given (1). Help and the version go to `out` (0). A refusal is one line on
-/// `err`: of the command line, whose text is `clap`'s (2), of bytes and numbers (3), out of memory (4), a file that
-/// couldn't be opened or read, or an output that couldn't be written (5). Faults of `err` itself are ignored.
-pub fn call<R: Files + Threads + Sync, O: Sink, E: Sink>(
+/// valid (0), or not valid or no plan given (1). Help and the version go to `out` (0). With `--progress`, `mapf solve` says
+/// on `err` how far the search has come. A refusal is one line on `err`: of the command line, whose text is `clap`'s (2), of
+/// bytes and numbers (3), out of memory (4), a file that couldn't be opened or read, or an output that couldn't be written
+/// (5). Faults of `err` itself are ignored.
+pub fn call<R: Files + Threads + Clock + Sync, O: Sink, E: Sink>(
     rt: &R,
     alloc: Global,
     words: Vec<String>,
@@ -33,7 +36,7 @@ pub fn call<R: Files + Threads + Sync, O: Sink, E: Sink>(
     ensures { result ≤ 6 }
 {
     let done = match parse(alloc, words.as_slice()) {
-        Ok(Some(Subcommand::Solve(solve))) => solve_files(rt, alloc, &solve, out),
+        Ok(Some(Subcommand::Solve(solve))) => solve_files(rt, alloc, &solve, out, err),
         Ok(Some(Subcommand::Check(check))) => check_files(rt, alloc, &check, out),
         Ok(None) => Ok(COMMAND_LINE),
         Err(error) if error.use_stderr() => return refuse_words(alloc, &error, err),
@@ -50,8 +53,7 @@ pub fn no_words<E: Sink>(err: &mut E) -> u8
     requires { E.failures err.old < u64.MAX }
     ensures { result ≡ 4 }
 {
-    let _ = write_whole(err, b"mapf: 43 no memory\n");
-    NO_MEMORY
+    say_no_memory(err)
 }
 
 /// Says that a word of the command line is not UTF-8, in `clap`'s words for it, and answers that status.
@@ -59,7 +61,7 @@ pub fn no_text<E: Sink>(err: &mut E) -> u8
     requires { E.failures err.old < u64.MAX }
     ensures { result ≡ 2 }
 {
-    let _ = write_whole(
+    say(
         err,
         b"error: invalid UTF-8 was detected in one or more arguments\n",
     );
@@ -67,11 +69,12 @@ pub fn no_text<E: Sink>(err: &mut E) -> u8
 }
 
 /// Opens the two files, runs, and answers the status of the text's first byte.
-fn solve_files<R: Files + Threads + Sync, O: Sink>(
+fn solve_files<R: Files + Threads + Clock + Sync, O: Sink, E: Sink>(
     rt: &R,
     alloc: Global,
     solve: &Solve<'_>,
     out: &mut O,
+    err: &mut E,
 ) -> Result<u8, CallFault>
     requires { O.failures out.old < u64.MAX }
     ensures { IfOk result (λ status. status ≤ 6) }
@@ -82,7 +85,18 @@ fn solve_files<R: Files + Threads + Sync, O: Sink>(
         sink: out,
         first: None,
     };
-    run(rt, alloc, &mut map, &mut scen, &mut text, solve.ask)?;
+    if solve.progress {
+        let mut lines = ProgressLines::new(rt, alloc, err);
+        let ended = run_watched(
+            rt, alloc, &mut map, &mut scen, &mut text, solve.ask, &mut lines,
+        );
+        if !matches!(ended, Err(RunFault::Refusal(_))) {
+            lines.end();
+        }
+        ended?;
+    } else {
+        run(rt, alloc, &mut map, &mut scen, &mut text, solve.ask)?;
+    }
     match text.first {
         Some(b'p') => Ok(SHOWN),
         Some(b'g') => Ok(GAVE_UP),
@@ -139,28 +153,34 @@ fn help<O: Sink>(alloc: Global, error: &clap::Error, out: &mut O) -> Result<u8, 
 
 /// Prints `clap`'s refusal of the command line, and answers its status.
 fn refuse_words<E: Sink>(alloc: Global, error: &clap::Error, err: &mut E) -> u8
-    requires { E.failures err.old < u64.MAX }
     ensures { result ≤ 5 }
 {
     match format!(in alloc; "{error}") {
         Ok(text) if !matches!(error.kind(), ErrorKind::OutOfMemory) => {
-            let _ = write_whole(err, text.as_bytes());
+            say(err, text.as_bytes());
             COMMAND_LINE
         }
         _ => refuse(alloc, &CallFault::from(AllocError), err),
     }
 }
 
+/// Says that there was no memory, and answers that status.
+fn say_no_memory<E: Sink>(err: &mut E) -> u8
+    ensures { result ≡ 4 }
+{
+    say(err, b"mapf: 43 no memory\n");
+    NO_MEMORY
+}
+
 /// Prints a fault's line, and answers its status.
 fn refuse<E: Sink>(alloc: Global, fault: &CallFault, err: &mut E) -> u8
-    requires { E.failures err.old < u64.MAX }
     ensures { result ≤ 5 }
 {
     match format!(in alloc; "mapf: {fault}\n") {
         Ok(line) => {
-            let _ = write_whole(err, line.as_bytes());
+            say(err, line.as_bytes());
             fault.status()
         }
-        Err(_) => no_words(err),
+        Err(_) => say_no_memory(err),
     }
 }

@@ -14,6 +14,8 @@ pub(crate) struct Solve<'a> {
     pub(crate) scen: &'a str,
     /// The numbers.
     pub(crate) ask: Ask,
+    /// Whether lines say how far the search has come.
+    pub(crate) progress: bool,
 }
 
 /// What `mapf check` was asked.
@@ -64,6 +66,7 @@ fn solve_of<'a>(matches: &ArgMatches<'a>) -> Option<Solve<'a>> {
             nodes: matches.get_one::<u64>("nodes"),
             rule: rule_of(matches),
         },
+        progress: matches.get_flag("progress"),
     })
 }
 
@@ -111,7 +114,12 @@ fn solve_command<'a>(alloc: Global) -> Result<Command<'a>, AllocError> {
         "nodes",
         "How many nodes the search may take before it gives up, 1 to 1000000; no limit without it",
     )
-    .required(false))
+    .required(false))?
+    .arg(flag(
+        alloc,
+        "progress",
+        "Say on standard error each second how many nodes were taken, and what no plan costs less than",
+    ))
 }
 
 fn check_command<'a>(alloc: Global) -> Result<Command<'a>, AllocError> {

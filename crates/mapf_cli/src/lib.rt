@@ -7,6 +7,7 @@ mod check_fault;
 mod checks;
 mod command;
 mod first_byte;
+mod progress_lines;
 
 pub use calls::{call, no_text, no_words};
 pub use check_fault::CheckFault;

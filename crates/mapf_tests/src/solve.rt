@@ -11,3 +11,4 @@ mod orders;
 mod refusals;
 mod refusing;
 mod schedules;
+mod watching;

@@ -25,11 +25,6 @@ impl Slot {
     {
         Slot { number }
     }
-
-    /// The slot's bit in a word.
-    fn bit(self) -> u64 {
-        1 << self.number
-    }
 }
 
 /// What a board gives back for a job.
@@ -41,8 +36,10 @@ pub(crate) type Given<'p> = Left<Pair<SideWork<'p>>, SideJob<'p>>;
 pub(crate) struct Desk<'p, 's, P: OneProblem, B: OneBoard> {
     live: &'s Live<SideWork<'p>>,
     owner: Owner<SideWork<'p>>,
-    /// The bits of the slots that have a job.
-    used: u64,
+    /// Which slots have a job.
+    used: [bool; MOST_SLOTS],
+    /// How many slots have a job, so that no slot is looked at where none has.
+    jobs: usize,
     of: PhantomData<(P, B)>,
     ghost board: { board_of live.now ≡ B.board },
     ghost slots: { size_of live.now ≡ MOST_SLOTS },
@@ -64,7 +61,8 @@ impl<'p, 's, P: OneProblem, B: OneBoard> Desk<'p, 's, P, B> {
         Desk {
             live,
             owner,
-            used: 0,
+            used: [false; MOST_SLOTS],
+            jobs: 0,
             of: PhantomData,
         }
     }
@@ -80,22 +78,22 @@ impl<'p, 's, P: OneProblem, B: OneBoard> Desk<'p, 's, P, B> {
 
     /// Whether the slot has a job.
     pub(crate) fn is_used(&self, slot: Slot) -> bool {
-        self.used & slot.bit() != 0
+        self.used[slot.number]
     }
 
     /// Whether any slot has a job.
     pub(crate) fn has_jobs(&self) -> bool {
-        self.used != 0
+        self.jobs > 0
     }
 
     /// The first slot that has no job.
     pub(crate) fn free_slot(&self) -> Option<Slot> {
-        let number = self.used.trailing_ones() as usize;
-        if number < MOST_SLOTS {
-            Some(Slot::at(number))
-        } else {
-            None
+        for number in 0..MOST_SLOTS {
+            if !self.used[number] {
+                return Some(Slot::at(number));
+            }
         }
+        None
     }
 
     /// Posts a job in a slot, if that has none.
@@ -103,7 +101,8 @@ impl<'p, 's, P: OneProblem, B: OneBoard> Desk<'p, 's, P, B> {
         requires { job.query.problem ≡ P.problem }
     {
         if self.live.post(&mut self.owner, slot.number, job).is_ok() {
-            self.used |= slot.bit();
+            self.used[slot.number] = true;
+            self.jobs = self.jobs.saturating_add(1);
         }
     }
 
@@ -112,7 +111,8 @@ impl<'p, 's, P: OneProblem, B: OneBoard> Desk<'p, 's, P, B> {
         ensures { IfOk result (IsGivenOf P.problem) }
     {
         let left = self.live.collect(&mut self.owner, slot.number)?;
-        self.used &= !slot.bit();
+        self.used[slot.number] = false;
+        self.jobs = self.jobs.saturating_sub(1);
         Ok(left)
     }
 
@@ -121,7 +121,8 @@ impl<'p, 's, P: OneProblem, B: OneBoard> Desk<'p, 's, P, B> {
         ensures { IfSome result (λ job. job.query.problem ≡ P.problem) }
     {
         let job = self.live.withdraw(&mut self.owner, slot.number).ok()?;
-        self.used &= !slot.bit();
+        self.used[slot.number] = false;
+        self.jobs = self.jobs.saturating_sub(1);
         Some(job)
     }
 

@@ -74,6 +74,9 @@ impl<'p, 's, P: OneProblem, B: OneBoard, G> SessionSource<'p, 's, P, B, G> {
 
     /// Collects what is done.
     fn collect_all(&mut self) {
+        if !self.desk.has_jobs() {
+            return;
+        }
         for number in 0..MOST_SLOTS {
             let slot = Slot::at(number);
             if self.desk.is_used(slot) {

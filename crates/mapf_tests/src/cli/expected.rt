@@ -9,6 +9,7 @@ use std::process::Abort;
 use std::rt::Files;
 use std::test::Fail;
 use std::thread::Threads;
+use std::time::Clock;
 
 /// Writes the files `map` and `scen` into a folder that holds nothing else.
 pub(super) fn place<R: Files + AllocGlobal>(
@@ -70,7 +71,7 @@ pub(super) fn refused(err: &'static str) -> Said {
 }
 
 /// A command on a folder's files ends so.
-pub(super) fn expect<R: Files + Threads + Sync + Abort + AllocGlobal>(
+pub(super) fn expect<R: Files + Threads + Clock + Sync + Abort + AllocGlobal>(
     rt: &R,
     command: &str,
     folder: &str,

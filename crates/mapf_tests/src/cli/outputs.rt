@@ -84,6 +84,16 @@ fn outputs_that_take_nothing(rt: HostRuntime) -> Result<(), Fail> {
     let status = call(&rt, alloc, words, &mut Counted::of(&mut out), &mut err);
     assert!(rt; out.is_empty());
     assert_eq!(rt; status, 3);
+    let words = words_of(
+        alloc,
+        "solve",
+        folder,
+        "--agents 1 --bound 2 --workers 1 --progress",
+    )?;
+    let mut err = Counted::of(Full);
+    let status = call(&rt, alloc, words, &mut Counted::of(&mut out), &mut err);
+    assert_eq!(rt; out.as_slice(), b"plan 1 2\n0,0 1,0 2,0\n".as_slice());
+    assert_eq!(rt; status, 0);
     fs::remove_dir_all(&rt, folder)?;
     Ok(())
 }
@@ -102,6 +112,18 @@ fn help_and_command_lines_that_are_refused(rt: HostRuntime) -> Result<(), Fail> 
             2,
         ),
         ("mapf check --map m --map m --scen s --plan p --agents 1", 2),
+        (
+            "mapf solve --map m --scen s --agents 1 --bound 2 --workers 1 --progress --progress",
+            2,
+        ),
+        (
+            "mapf solve --map m --scen s --agents 1 --bound 2 --workers 1 --progress=1",
+            2,
+        ),
+        (
+            "mapf check --map m --scen s --plan p --agents 1 --progress",
+            2,
+        ),
     ] {
         let mut words = Vec::new(alloc);
         for word in line.split(' ') {
