@@ -17,6 +17,7 @@ use mapf_tree::{ByChild, Node, OpenList, Problem, Progress, Search, Side, child,
 use std::alloc::Global;
 use std::rt::Files;
 use std::thread::Threads;
+use std::time::Clock;
 
 /// The number of the refused allocation, which the script gives.
 const REFUSED: u64 = 2000;
@@ -119,7 +120,7 @@ fn words_of(alloc: Global, words: &[&str]) -> Option<Vec<String>> {
 
 /// What the program says to these words: what is right, with the status 0; or that there is no memory, with the status 4 and
 /// nothing on its output.
-fn called<R: Files + Threads + Sync>(
+fn called<R: Files + Threads + Clock + Sync>(
     rt: &R,
     alloc: Global,
     words: &[&str],
@@ -313,7 +314,7 @@ fn is_out_of_memory(search: &mut Search<'_>, children: &mut ByChild) -> bool {
 }
 
 /// What comes of the work of this letter where the allocation of this place in it is refused, and whether none was.
-fn worked_out<R: Files + Threads + Sync>(rt: &R, alloc: Global, letter: u8, place: u64) -> (Outcome, bool) {
+fn worked_out<R: Files + Threads + Clock + Sync>(rt: &R, alloc: Global, letter: u8, place: u64) -> (Outcome, bool) {
     let outcome = match letter {
         b'f' => match filled(alloc, place) {
             Some(true) => Outcome::Right,
@@ -343,7 +344,7 @@ fn unprepared<R: Threads + Sync>(rt: &R, alloc: Global, letter: u8) -> Outcome {
 }
 
 /// Whether it is right, or wanting memory that was refused.
-fn is_right_or_wanting<R: Files + Threads + Sync>(rt: &R, alloc: Global, letter: u8, place: u64) -> bool {
+fn is_right_or_wanting<R: Files + Threads + Clock + Sync>(rt: &R, alloc: Global, letter: u8, place: u64) -> bool {
     match worked_out(rt, alloc, letter, place) {
         (Outcome::Right, _) => true,
         (Outcome::NoMemory, is_untouched) => !is_untouched,
@@ -352,6 +353,6 @@ fn is_right_or_wanting<R: Files + Threads + Sync>(rt: &R, alloc: Global, letter:
 }
 
 /// Whether it is right and has fewer allocations than that.
-fn is_untouched<R: Files + Threads + Sync>(rt: &R, alloc: Global, letter: u8, place: u64) -> bool {
+fn is_untouched<R: Files + Threads + Clock + Sync>(rt: &R, alloc: Global, letter: u8, place: u64) -> bool {
     matches!(worked_out(rt, alloc, letter, place), (Outcome::Right, true))
 }
