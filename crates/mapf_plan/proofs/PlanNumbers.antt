@@ -6,8 +6,8 @@ use Rattle.std.proofs.lemmas.List.Elements.{All-from_get_or, All-get_or, All-set
 use Rattle.std.proofs.lemmas.Option.{get_or_from_slice_get, slice_get-get_or, slice_get_within}
 use borrow.Author.Count.{below_more}
 use Rattle.mapf_plan.specs.Plan.{path_of, IsConflict}
-use Rattle.mapf_plan.specs.declared.meetings.Meeting.{Meeting}
-use Rattle.mapf_plan.specs.Meetings.{HaveMeetings}
+use Rattle.mapf_plan.specs.declared.pair_conflicts.PairConflict.{PairConflict}
+use Rattle.mapf_plan.specs.PairConflicts.{HavePairConflicts}
 use Rattle.mapf_plan.specs.KnownPaths.{KnownPaths, AreNumbers, IsKnownPlan, plan_of}
 
 -- the paths of the first agents have these numbers
@@ -44,20 +44,20 @@ numbers_inside paths numbers plan n count have =
     All-from_get_or (λ m. m < length paths) numbers 0 (λ i l. slice_get_within paths (slice_index numbers i) (path_of plan i) (have i (subst (λ m. i < m) count l)))
 
 -- a known plan, where one agent's path has another number
-pub plan_turned : (known : KnownPaths) (numbers : List ℕ) (old new : List Meeting) (agent number : ℕ) → IsKnownPlan known numbers old → number < length known.paths →
-    HaveMeetings (IsConflict known.rule (set (plan_of known.paths numbers) agent (path_of known.paths number))) new → IsKnownPlan known (set numbers agent number) new
+pub plan_turned : (known : KnownPaths) (numbers : List ℕ) (old new : List PairConflict) (agent number : ℕ) → IsKnownPlan known numbers old → number < length known.paths →
+    HavePairConflicts (IsConflict known.rule (set (plan_of known.paths numbers) agent (path_of known.paths number))) new → IsKnownPlan known (set numbers agent number) new
 plan_turned known numbers old new agent number is inside meet = record {
   few = omega (arith, length-set numbers agent number, is.few);
   inside = All-set (λ n. n < length known.paths) numbers agent number inside is.inside;
-  meet = subst (λ plan. HaveMeetings (IsConflict known.rule plan) new) (sym (map-set (λ n. path_of known.paths n) numbers agent number)) meet;
+  meet = subst (λ plan. HavePairConflicts (IsConflict known.rule plan) new) (sym (map-set (λ n. path_of known.paths n) numbers agent number)) meet;
 }
 
 -- and a known plan stays so where each path keeps its number
-pub known_stays : (old new : KnownPaths) (numbers : List ℕ) (ms : List Meeting) → new.rule ≡ old.rule → ((n : ℕ) (p : List ℕ) → slice_get old.paths n ≡ Some p → slice_get new.paths n ≡ Some p) → IsKnownPlan old numbers ms → IsKnownPlan new numbers ms
+pub known_stays : (old new : KnownPaths) (numbers : List ℕ) (ms : List PairConflict) → new.rule ≡ old.rule → ((n : ℕ) (p : List ℕ) → slice_get old.paths n ≡ Some p → slice_get new.paths n ≡ Some p) → IsKnownPlan old numbers ms → IsKnownPlan new numbers ms
 known_stays old new numbers ms rule keeps is = record {
   few = is.few;
   inside = All-from_get_or (λ n. n < length new.paths) numbers 0 (λ i l. slice_get_within new.paths (slice_index numbers i) (path_of old.paths (slice_index numbers i)) (kept i l));
-  meet = subst₂ (λ r plan. HaveMeetings (IsConflict r plan) ms) (sym rule) (sym same) is.meet;
+  meet = subst₂ (λ r plan. HavePairConflicts (IsConflict r plan) ms) (sym rule) (sym same) is.meet;
 }
   where
     kept : (i : ℕ) → i < length numbers → slice_get new.paths (slice_index numbers i) ≡ Some (path_of old.paths (slice_index numbers i))

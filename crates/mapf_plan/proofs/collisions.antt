@@ -1,3 +1,3 @@
 pub mod Steps
 pub mod Collisions
-pub mod OfMeetings
+pub mod OfPairConflicts

@@ -3,12 +3,12 @@ use Rattle.std.specs.Prelude.{◌≡◌, ◌⊎◌, ℕ, ◌<◌, ◌≤◌, Lis
 use Rattle.mapf_grid.specs.Instance.{most_agents}
 use Rattle.mapf_plan.specs.declared.cache.first_times.FirstTime.{FirstTime}
 use Rattle.mapf_plan.specs.declared.cache.first_times.FirstTime.TheVariants.{Unknown, Never, At}
-use Rattle.mapf_plan.specs.declared.meetings.Meeting.{Meeting}
+use Rattle.mapf_plan.specs.declared.pair_conflicts.PairConflict.{PairConflict}
 use Rattle.mapf_plan.specs.declared.rule.Rule.{Rule}
 use Rattle.mapf_plan.specs.Plan.{path_of, IsConflict}
 use Rattle.mapf_plan.specs.FirstConflict.{IsConflictOfTwo}
 use Rattle.mapf_plan.specs.Collisions.{HaveNoneBefore}
-use Rattle.mapf_plan.specs.Meetings.{HaveMeetings}
+use Rattle.mapf_plan.specs.PairConflicts.{HavePairConflicts}
 
 -- paths, each by its place, and the rule by which agents on them have conflicts
 pub record KnownPaths : Type 0 where
@@ -27,11 +27,11 @@ plan_of paths numbers = map (λ n. path_of paths n) numbers
 abbrev pub changed_plan : List (List ℕ) → List ℕ → (agent number : ℕ) → List (List ℕ)
 changed_plan paths numbers agent number = slice_set (plan_of paths numbers) agent (path_of paths number)
 
--- these are the numbers of a plan's paths, and meetings of its conflicts
-pub record IsKnownPlan (known : KnownPaths) (numbers : List ℕ) (meetings : List Meeting) : Type 0 where
+-- these are the numbers of a plan's paths, and pair conflicts of its conflicts
+pub record IsKnownPlan (known : KnownPaths) (numbers : List ℕ) (conflicts : List PairConflict) : Type 0 where
   pub few : length numbers ≤ most_agents
   pub inside : AreNumbers known.paths numbers
-  pub meet : HaveMeetings (IsConflict known.rule (plan_of known.paths numbers)) meetings
+  pub meet : HavePairConflicts (IsConflict known.rule (plan_of known.paths numbers)) conflicts
 
 -- a row of a table of times by two numbers, and an entry of a row; nothing is known where there is none
 abbrev pub row_in : List (List FirstTime) → ℕ → List FirstTime
@@ -68,13 +68,13 @@ abbrev pub AreKept : List (List FirstTime) → List (List FirstTime) → ℕ →
 AreKept rows next one other time =
     (between : List (List FirstTime)) × IsKept rows between one other time × IsKept between next other one time
 
--- the meeting of two agents of whose paths this is known was added, if there is one
-abbrev pub IsAdded : ℕ → ℕ → FirstTime → List Meeting → Type 0
+-- the pair conflict of two agents of whose paths this is known was added, if there is one
+abbrev pub IsAdded : ℕ → ℕ → FirstTime → List PairConflict → Type 0
 IsAdded i j Unknown ms = ⊥
 IsAdded i j Never ms = ⊤
 IsAdded i j (At t) ms = Contains ms (record { first = min i j; second = max i j; time = t })
 
--- each conflict that two agents on the paths of these numbers have has a meeting, whatever the other agents' paths are
-abbrev pub AreMet : KnownPaths → (i one j other : ℕ) → List Meeting → Type 0
+-- each conflict that two agents on the paths of these numbers have has a pair conflict, whatever the other agents' paths are
+abbrev pub AreMet : KnownPaths → (i one j other : ℕ) → List PairConflict → Type 0
 AreMet known i one j other ms = (plan : List (List ℕ)) → path_of known.paths one ≡ path_of plan i → path_of known.paths other ≡ path_of plan j
-    → HaveMeetings (IsConflictOfTwo known.rule plan i j) ms
+    → HavePairConflicts (IsConflictOfTwo known.rule plan i j) ms

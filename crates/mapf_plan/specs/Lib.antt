@@ -10,4 +10,4 @@ pub mod Text
 pub mod TextLaws
 pub mod Files
 pub mod KnownPaths
-pub mod Meetings
+pub mod PairConflicts

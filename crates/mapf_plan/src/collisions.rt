@@ -3,12 +3,12 @@
 mod earlier;
 mod first_collision;
 mod first_conflict;
+mod first_of_pair;
 mod marks;
-mod pair_conflicts;
 mod step_conflicts;
 
 pub(crate) use earlier::earlier;
 pub(crate) use first_collision::first_time_of_two;
 pub(crate) use first_conflict::first_conflict_from;
 pub use first_conflict::first_conflict_of_changed;
-pub(crate) use pair_conflicts::pair_at;
+pub(crate) use first_of_pair::pair_at;

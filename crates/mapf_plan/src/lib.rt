@@ -7,7 +7,7 @@ mod collisions;
 mod conflict;
 mod device;
 pub mod laws;
-mod meetings;
+mod pair_conflicts;
 mod plan;
 mod rule;
 mod text;
@@ -20,7 +20,7 @@ pub use device::{
     Counted, DeviceFault, FileName, ReadFault, Sink, Source, WriteFailed, read_file, read_whole,
     write_text, write_whole,
 };
-pub use meetings::Meeting;
+pub use pair_conflicts::PairConflict;
 pub use plan::{AgentPaths, Path, Plan};
 pub use rule::Rule;
 pub use text::{TextFault, push_number, push_position, read_answer, write};

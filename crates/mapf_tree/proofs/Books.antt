@@ -348,6 +348,6 @@ child_at book node new side c number change found at is on forbids name changes 
     (subst (λ s. new.name ≡ node.name ++ s ∷ []) (sym found.2) name) changes constraints plan rule conflict)
 
 -- what is known at a node may be kept
-pub at_kept : (book : Book) (node : Node) (at : Option AtNode) → IfSome at (λ at. IsKnownAt book node at.sets.items at.plan.numbers.items at.plan.meetings.items) →
-    IfSome at (λ at. IsKnownPlan (record { rule = book.problem.rule; paths = book.paths }) at.plan.numbers.items at.plan.meetings.items × AreOwnPaths book at.sets.items at.plan.numbers.items)
+pub at_kept : (book : Book) (node : Node) (at : Option AtNode) → IfSome at (λ at. IsKnownAt book node at.sets.items at.plan.numbers.items at.plan.conflicts.items) →
+    IfSome at (λ at. IsKnownPlan (record { rule = book.problem.rule; paths = book.paths }) at.plan.numbers.items at.plan.conflicts.items × AreOwnPaths book at.sets.items at.plan.numbers.items)
 at_kept book node at known = if_some at _ _ (λ at is. (is.meet, is.own)) known

@@ -2,7 +2,7 @@
 use Rattle.std.specs.Prelude.{◌≡◌, ◌⊎◌, ◌↔◌, ℕ, ◌<◌, ◌≤◌, List, [], length, replicate, slice_get, slice_index, slice_index_or, Option, Some, None, option_map, IfSome, Contains}
 use Rattle.mapf_grid.specs.Instance.{most_agents}
 use Rattle.mapf_plan.specs.Plan.{path_of}
-use Rattle.mapf_plan.specs.declared.meetings.Meeting.{Meeting}
+use Rattle.mapf_plan.specs.declared.pair_conflicts.PairConflict.{PairConflict}
 use Rattle.mapf_plan.specs.KnownPaths.{KnownPaths, AreNumbers, IsKnownPlan, plan_of}
 use Rattle.mapf_low.specs.declared.constraint.Constraint.{Constraint}
 use Rattle.mapf_tree.specs.declared.tree.side.Side.{Side}
@@ -80,12 +80,12 @@ HasOwnPath book set number =
 abbrev pub AreOwnPaths : Book → List ℕ → List ℕ → Type 0
 AreOwnPaths book sets numbers = (length numbers ≡ length sets) × ((k : ℕ) → k < length sets → HasOwnPath book (slice_index sets k) (slice_index numbers k))
 
--- what is known at a node: each agent's set by number, and its plan by numbers, with meetings of its conflicts
-pub record IsKnownAt (book : Book) (node : Node) (sets numbers : List ℕ) (meetings : List Meeting) : Type 0 where
+-- what is known at a node: each agent's set by number, and its plan by numbers, with pair conflicts of its conflicts
+pub record IsKnownAt (book : Book) (node : Node) (sets numbers : List ℕ) (conflicts : List PairConflict) : Type 0 where
   pub forbids : AreSetsOf book.sets sets node.constraints
   pub own : AreOwnPaths book sets numbers
   pub plans : ArePathsOf book.paths numbers node.plan
-  pub meet : IsKnownPlan (record { rule = book.problem.rule; paths = book.paths }) numbers meetings
+  pub meet : IsKnownPlan (record { rule = book.problem.rule; paths = book.paths }) numbers conflicts
 
 -- the number of the own path under a set, at a cost of at most the limit; or that there is none
 abbrev pub IsOwnIn : Book → ℕ → ℕ → Option ℕ → Type 0
@@ -103,5 +103,5 @@ IsFoundAt book node side found =
 abbrev pub IsRemembered : Problem → List ℕ → Option AtNode → List (Option SharedChange) → List KnownSet → KnownPaths → Type 0
 IsRemembered problem firsts latest changes sets paths =
     AreKnown problem paths.paths sets × AreFirst problem sets firsts × (paths.rule ≡ problem.rule)
-    × IfSome latest (λ at. IsKnownPlan paths at.plan.numbers.items at.plan.meetings.items × AreOwnPaths (record { problem = problem; sets = sets; paths = paths.paths }) at.sets.items at.plan.numbers.items)
+    × IfSome latest (λ at. IsKnownPlan paths at.plan.numbers.items at.plan.conflicts.items × AreOwnPaths (record { problem = problem; sets = sets; paths = paths.paths }) at.sets.items at.plan.numbers.items)
     × AreShared paths.paths changes

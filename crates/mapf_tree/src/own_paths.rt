@@ -288,7 +288,7 @@ fn known_child(
     given: Option<Option<Node>>,
 ) -> Result<Option<Option<Node>>, NoMemory>
     requires node { IsBranching book.old.problem node.now }
-    requires at { IfSome at.now (λ at. IsKnownAt book.old node.now at.sets.items at.plan.numbers.items at.plan.meetings.items) }
+    requires at { IfSome at.now (λ at. IsKnownAt book.old node.now at.sets.items at.plan.numbers.items at.plan.conflicts.items) }
     requires given { IfSome given (IsChildOf book.old.problem node.now side) }
     ensures same { book.new ≡ book.old }
     ensures child { IfOk result (λ found. IfSome found (IsChildOf book.old.problem node.now side)) }

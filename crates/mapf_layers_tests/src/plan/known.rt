@@ -83,7 +83,7 @@ fn expect_turned(
     number: usize,
     wanted: &Option<Conflict>,
 ) -> Result<(), Fail>
-    requires plan { IsKnownPlan known.old before.numbers.items before.meetings.items }
+    requires plan { IsKnownPlan known.old before.numbers.items before.conflicts.items }
     requires agent { agent < length before.numbers.items }
     requires number { number < length known.old.paths }
 {

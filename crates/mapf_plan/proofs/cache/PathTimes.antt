@@ -5,16 +5,16 @@ use Rattle.std.proofs.lemmas.List.{length-set, length-map, get_or-map, get_or_ap
 use native.Mathlib.Decide.{ℕ_discrete}
 use Rattle.mapf_plan.specs.declared.cache.first_times.FirstTime.{FirstTime}
 use Rattle.mapf_plan.specs.declared.cache.first_times.FirstTime.TheVariants.{Unknown, Never, At}
-use Rattle.mapf_plan.specs.declared.meetings.Meeting.{Meeting}
+use Rattle.mapf_plan.specs.declared.pair_conflicts.PairConflict.{PairConflict}
 use Rattle.mapf_plan.specs.declared.rule.Rule.{Rule}
 use Rattle.mapf_plan.specs.Plan.{path_of, IsConflict, first_agent, second_agent}
 use Rattle.mapf_plan.specs.FirstConflict.{IsConflictOfTwo, IsConflictWithout}
 use Rattle.mapf_plan.specs.Collisions.{HaveNoneBefore}
-use Rattle.mapf_plan.specs.Meetings.{HaveMeetings, HasAllOf}
+use Rattle.mapf_plan.specs.PairConflicts.{HavePairConflicts, HasAllOf}
 use Rattle.mapf_plan.specs.KnownPaths.{KnownPaths, plan_of, row_in, time_in, known_time, IsRight, AreRight, IsSetTime, IsKept, AreKept, IsAdded, AreMet}
 use Rattle.mapf_plan.proofs.Conflicts.{agents_of}
 use Rattle.mapf_plan.proofs.collisions.Collisions.{either_order}
-use Rattle.mapf_plan.proofs.collisions.OfMeetings.{all_meet, meetings_without, meet_added, meet_never, meet_in_more}
+use Rattle.mapf_plan.proofs.collisions.OfPairConflicts.{all_meet, pair_conflicts_without, meet_added, meet_never, meet_in_more}
 
 -- each row is as it was, or is the one of which an entry was set
 pub row_set : (rows more : List (List FirstTime)) (row next : List FirstTime) (one other : ℕ) (time : FirstTime) → one < length more → ((i : ℕ) → row_in more i ≡ row_in rows i)
@@ -89,24 +89,24 @@ pub still_right : (rule : Rule) (paths : List (List ℕ)) (rows next : List (Lis
 still_right rule paths rows next one other time each here kept =
     right_after rule paths kept.0 next other one time (right_after rule paths rows kept.0 one other time each here kept.1) (right_turned rule paths one other time here) kept.2
 
--- two agents on paths of which that is known have the meetings that were added
-pub met_known : (known : KnownPaths) (i one j other : ℕ) (time : FirstTime) (ms : List Meeting) → IsRight known.rule known.paths one other time → IsAdded i j time ms
+-- two agents on paths of which that is known have the pair conflicts that were added
+pub met_known : (known : KnownPaths) (i one j other : ℕ) (time : FirstTime) (ms : List PairConflict) → IsRight known.rule known.paths one other time → IsAdded i j time ms
     → AreMet known i one j other ms
 met_known known i one j other Unknown ms is added = absurd added
 met_known known i one j other Never ms is added = λ plan is_p is_q. meet_never known.rule plan i j _ _ ms is_p is_q is.2
 met_known known i one j other (At t) ms is added = λ plan is_p is_q. meet_added known.rule plan i j _ _ ms t added is_p is_q is.2
 
--- more meetings are enough too
-pub met_in_more : (known : KnownPaths) (i one j other : ℕ) (ms more : List Meeting) → HasAllOf more ms → AreMet known i one j other ms → AreMet known i one j other more
+-- more pair conflicts are enough too
+pub met_in_more : (known : KnownPaths) (i one j other : ℕ) (ms more : List PairConflict) → HasAllOf more ms → AreMet known i one j other ms → AreMet known i one j other more
 met_in_more known i one j other ms more keeps met plan is_p is_q = meet_in_more (IsConflictOfTwo known.rule plan i j) ms more keeps (met plan is_p is_q)
 
 -- an agent's path is that of its number
 path_by_number : (paths : List (List ℕ)) (numbers : List ℕ) (i : ℕ) → i < length numbers → path_of paths (slice_index numbers i) ≡ path_of (plan_of paths numbers) i
 path_by_number paths numbers i l = sym (get_or-map (λ n. path_of paths n) numbers i 0 [] l)
 
--- meetings of each two agents are meetings of all conflicts
-pub all_met : (known : KnownPaths) (numbers : List ℕ) (ms : List Meeting) → ((i k : ℕ) → i < k → k < length numbers → AreMet known i (slice_index numbers i) k (slice_index numbers k) ms)
-    → HaveMeetings (IsConflict known.rule (plan_of known.paths numbers)) ms
+-- pair conflicts of each two agents are pair conflicts of all conflicts
+pub all_met : (known : KnownPaths) (numbers : List ℕ) (ms : List PairConflict) → ((i k : ℕ) → i < k → k < length numbers → AreMet known i (slice_index numbers i) k (slice_index numbers k) ms)
+    → HavePairConflicts (IsConflict known.rule (plan_of known.paths numbers)) ms
 all_met known numbers ms met c is =
     let plan = plan_of known.paths numbers in let of = agents_of known.rule plan c is in let i = first_agent c in let j = second_agent c in
     let inside : j < length numbers = subst (λ n. j < n) (length-map numbers (λ n. path_of known.paths n)) of.1 in
@@ -114,12 +114,12 @@ all_met known numbers ms met c is =
     met i j of.0 inside plan (path_by_number known.paths numbers i (omega (arith, of.0, inside))) (path_by_number known.paths numbers j inside) c (is, low, high)
 
 -- and so are those of an agent with another path, with each other agent, and of the conflicts that the others had
-pub changed_met : (known : KnownPaths) (numbers : List ℕ) (agent number : ℕ) (old left ms : List Meeting) → agent < length numbers → HaveMeetings (IsConflict known.rule (plan_of known.paths numbers)) old
-    → ((m : Meeting) → Contains old m → m.first ≢ agent → m.second ≢ agent → Contains left m) → HasAllOf ms left
+pub changed_met : (known : KnownPaths) (numbers : List ℕ) (agent number : ℕ) (old left ms : List PairConflict) → agent < length numbers → HavePairConflicts (IsConflict known.rule (plan_of known.paths numbers)) old
+    → ((m : PairConflict) → Contains old m → m.first ≢ agent → m.second ≢ agent → Contains left m) → HasAllOf ms left
     → ((k : ℕ) → k < length numbers → k ≢ agent → AreMet known agent number k (slice_index numbers k) ms)
-    → HaveMeetings (IsConflict known.rule (set (plan_of known.paths numbers) agent (path_of known.paths number))) ms
+    → HavePairConflicts (IsConflict known.rule (set (plan_of known.paths numbers) agent (path_of known.paths number))) ms
 changed_met known numbers agent number old left ms l meet without keeps met =
-    all_meet known.rule new agent ms (meet_in_more (IsConflictWithout known.rule new agent) left ms keeps (meetings_without known.rule plan agent path old left inside meet without))
+    all_meet known.rule new agent ms (meet_in_more (IsConflictWithout known.rule new agent) left ms keeps (pair_conflicts_without known.rule plan agent path old left inside meet without))
     (λ k h n. let within : k < length numbers = subst (λ n. k < n) (length-set plan agent path ∙ length_of) h in met k within n new here (there k within n))
   where
     path : List ℕ

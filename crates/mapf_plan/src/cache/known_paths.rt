@@ -11,8 +11,8 @@ mod pairs;
 
 use super::first_times::FirstTimes;
 use super::numbered::Numbered;
-use crate::meetings::first_conflict_of_meetings;
-use crate::{Conflict, KnownPlan, Meeting, Path, Rule};
+use crate::pair_conflicts::first_conflict_of_pair_conflicts;
+use crate::{Conflict, KnownPlan, PairConflict, Path, Rule};
 use mapf_grid::{Cell, NoMemory};
 use std::alloc::Global;
 use std::collections::HashMap;
@@ -31,8 +31,8 @@ pub struct KnownPaths {
     /// Where a path is looked for; nothing rests on it.
     places: HashMap<u64, usize>,
     times: FirstTimes,
-    /// Room for the next list of meetings.
-    spare: Vec<Meeting>,
+    /// Room for the next list of pair conflicts.
+    spare: Vec<PairConflict>,
 }
 
 // By hand, so that a proof about what holds one sees a call where it is dropped, and not its fields.
@@ -117,16 +117,16 @@ impl KnownPaths {
         requires numbers { AreNumbers self.old.paths numbers.now }
         requires agents { length numbers.now ≤ most_agents }
         ensures known { self.new ≡ self.old }
-        ensures plan { IfOk result (λ plan. IsKnownPlan self.old plan.numbers.items plan.meetings.items) }
+        ensures plan { IfOk result (λ plan. IsKnownPlan self.old plan.numbers.items plan.conflicts.items) }
         ensures numbers { IfOk result (λ plan. plan.numbers.items ≡ numbers.now) }
     {
-        let mut meetings = Vec::new(self.alloc);
+        let mut conflicts = Vec::new(self.alloc);
         for agent in 0..numbers.len() {
-            self.add_meetings(numbers, agent, numbers[agent], agent + 1, &mut meetings)?;
+            self.add_pair_conflicts(numbers, agent, numbers[agent], agent + 1, &mut conflicts)?;
         }
         Ok(KnownPlan {
             numbers: Vec::from_slice(self.alloc, numbers)?,
-            meetings,
+            conflicts,
         })
     }
 
@@ -138,15 +138,15 @@ impl KnownPaths {
         agent: usize,
         number: usize,
     ) -> Result<(), NoMemory>
-        requires plan { IsKnownPlan self.old plan.old.numbers.items plan.old.meetings.items }
+        requires plan { IsKnownPlan self.old plan.old.numbers.items plan.old.conflicts.items }
         requires agent { agent < length plan.old.numbers.items }
         requires number { number < length self.old.paths }
         ensures known { self.new ≡ self.old }
-        ensures plan { OnOk result (IsKnownPlan self.old plan.new.numbers.items plan.new.meetings.items) }
+        ensures plan { OnOk result (IsKnownPlan self.old plan.new.numbers.items plan.new.conflicts.items) }
         ensures numbers { OnOk result (plan.new.numbers.items ≡ slice_set plan.old.numbers.items agent number) }
     {
-        let meetings = self.meetings_of_changed(plan, agent, number)?;
-        self.spare = replace(&mut plan.meetings, meetings);
+        let conflicts = self.pair_conflicts_of_changed(plan, agent, number)?;
+        self.spare = replace(&mut plan.conflicts, conflicts);
         plan.numbers[agent] = number;
         Ok(())
     }
@@ -159,7 +159,7 @@ impl KnownPaths {
         changed: usize,
         number: usize,
     ) -> Result<Option<Conflict>, NoMemory>
-        requires plan { IsKnownPlan self.old plan.now.numbers.items plan.now.meetings.items }
+        requires plan { IsKnownPlan self.old plan.now.numbers.items plan.now.conflicts.items }
         requires agent { changed < length plan.now.numbers.items }
         requires number { number < length self.old.paths }
         ensures known { self.new ≡ self.old }
@@ -167,10 +167,10 @@ impl KnownPaths {
             (HasNoConflict self.old.rule (changed_plan self.old.paths plan.now.numbers.items changed number))
             (IsFirstConflict self.old.rule (changed_plan self.old.paths plan.now.numbers.items changed number))) }
     {
-        let meetings = self.meetings_of_changed(plan, changed, number)?;
+        let conflicts = self.pair_conflicts_of_changed(plan, changed, number)?;
         let changed_plan = Numbered::of(&self.paths, &plan.numbers, changed, number);
-        let found = first_conflict_of_meetings(&changed_plan, self.rule, &meetings);
-        self.spare = meetings;
+        let found = first_conflict_of_pair_conflicts(&changed_plan, self.rule, &conflicts);
+        self.spare = conflicts;
         Ok(found)
     }
 }

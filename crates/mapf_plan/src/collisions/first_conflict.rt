@@ -11,8 +11,8 @@ ghost use Rattle.mapf_plan.specs.FirstConflict.{IsEarlier, IsOfAgent};
 ghost use Rattle.mapf_plan.specs.declared.collisions.first_conflict.TheConstants.{STEPS};
 
 use super::earlier::{earlier, end_by};
+use super::first_of_pair::first_of_pair;
 use super::marks::Marks;
-use super::pair_conflicts::first_of_pair;
 use super::step_conflicts::first_at;
 use crate::{AgentPaths, Conflict, Rule};
 

@@ -98,7 +98,7 @@ impl<'p> Book<'p> {
         side: Side,
     ) -> Result<Option<Option<Node>>, NoMemory>
         requires node { IsBranching self.old.problem node.now }
-        requires at { IfSome at.now (λ at. IsKnownAt self.old node.now at.sets.items at.plan.numbers.items at.plan.meetings.items) }
+        requires at { IfSome at.now (λ at. IsKnownAt self.old node.now at.sets.items at.plan.numbers.items at.plan.conflicts.items) }
         ensures same { self.new ≡ self.old }
         ensures child { IfOk result (λ found. IfSome found (IsChildOf self.old.problem node.now side)) }
     {
@@ -202,7 +202,7 @@ impl<'p> Book<'p> {
         number: usize,
     ) -> Result<Option<Conflict>, NoMemory>
         requires node { IsBranching self.old.problem node.now }
-        requires at { IfSome at.now (λ at. IsKnownAt self.old node.now at.sets.items at.plan.numbers.items at.plan.meetings.items) }
+        requires at { IfSome at.now (λ at. IsKnownAt self.old node.now at.sets.items at.plan.numbers.items at.plan.conflicts.items) }
         requires agent { change.now.agent < length node.now.plan }
         requires path { slice_get self.old.paths number ≡ Some change.now.path }
         ensures same { self.new ≡ self.old }

@@ -1,106 +1,106 @@
-//! The meetings of an agent with each other one, from what is known of their paths.
+//! The pair conflicts of an agent with each other one, from what is known of their paths.
 
 ghost use Rattle.std.specs.Prelude.{◌≡◌, ◌≢◌, ℕ, ◌<◌, ◌≤◌, length, slice_index, IfOk, OnOk};
 ghost use Rattle.mapf_grid.specs.Instance.{most_agents};
 ghost use Rattle.mapf_plan.specs.Plan.{path_of, IsConflict};
 ghost use Rattle.mapf_plan.specs.Collisions.{HaveNoneBefore};
-ghost use Rattle.mapf_plan.specs.Meetings.{HaveMeetings, HasAllOf};
+ghost use Rattle.mapf_plan.specs.PairConflicts.{HavePairConflicts, HasAllOf};
 ghost use Rattle.mapf_plan.specs.KnownPaths.{AreNumbers, AreMet, IsKnownPlan, changed_plan};
 
 use super::KnownPaths;
 use crate::cache::first_times::{FirstTime, add_known, time_of};
 use crate::collisions::first_time_of_two;
-use crate::meetings::{meeting_of, meetings_without};
-use crate::{KnownPlan, Meeting};
+use crate::pair_conflicts::{pair_conflict_of, pair_conflicts_without};
+use crate::{KnownPlan, PairConflict};
 use mapf_grid::NoMemory;
 use std::mem::replace;
 
 impl KnownPaths {
-    /// Meetings of all conflicts, from those of a plan, where one agent has another path: the one of this number.
-    pub(super) fn meetings_of_changed(
+    /// Pair conflicts of all conflicts, from those of a plan, where one agent has another path: the one of this number.
+    pub(super) fn pair_conflicts_of_changed(
         &mut self,
         plan: &KnownPlan,
         changed: usize,
         number: usize,
-    ) -> Result<Vec<Meeting>, NoMemory>
-        requires plan { IsKnownPlan self.old plan.now.numbers.items plan.now.meetings.items }
+    ) -> Result<Vec<PairConflict>, NoMemory>
+        requires plan { IsKnownPlan self.old plan.now.numbers.items plan.now.conflicts.items }
         requires agent { changed < length plan.now.numbers.items }
         requires number { number < length self.old.paths }
         ensures known { self.new ≡ self.old }
-        ensures meetings { IfOk result (λ ms. HaveMeetings
+        ensures conflicts { IfOk result (λ ms. HavePairConflicts
             (IsConflict self.old.rule (changed_plan self.old.paths plan.now.numbers.items changed number)) ms.items) }
     {
         let spare = replace(&mut self.spare, Vec::new(self.alloc));
-        let mut meetings = meetings_without(spare, &plan.meetings, changed)?;
-        self.add_meetings(&plan.numbers, changed, number, 0, &mut meetings)?;
-        Ok(meetings)
+        let mut conflicts = pair_conflicts_without(spare, &plan.conflicts, changed)?;
+        self.add_pair_conflicts(&plan.numbers, changed, number, 0, &mut conflicts)?;
+        Ok(conflicts)
     }
 
-    /// Adds the meetings of an agent, whose path is the one of this number, with each other agent from a first one on.
-    pub(super) fn add_meetings(
+    /// Adds the pair conflicts of an agent, whose path is the one of this number, with each other agent from a first one on.
+    pub(super) fn add_pair_conflicts(
         &mut self,
         numbers: &[usize],
         agent: usize,
         number: usize,
         from: usize,
-        meetings: &mut Vec<Meeting>,
+        conflicts: &mut Vec<PairConflict>,
     ) -> Result<(), NoMemory>
         requires numbers { AreNumbers self.old.paths numbers.now }
         requires agents { length numbers.now ≤ most_agents }
         requires agent { agent < length numbers.now }
         requires number { number < length self.old.paths }
         ensures known { self.new ≡ self.old }
-        ensures keeps { OnOk result (HasAllOf meetings.new.items meetings.old.items) }
+        ensures keeps { OnOk result (HasAllOf conflicts.new.items conflicts.old.items) }
         ensures pairs { OnOk result ((k : ℕ) → from ≤ k → k < length numbers.now → k ≢ agent
-            → AreMet self.old agent number k (slice_index numbers.now k) meetings.new.items) }
+            → AreMet self.old agent number k (slice_index numbers.now k) conflicts.new.items) }
     {
-        let known = self.add_known_meetings(numbers, agent, number, from, meetings)?;
+        let known = self.add_known_pair_conflicts(numbers, agent, number, from, conflicts)?;
         for other in known..numbers.len() {
             if other == agent {
                 continue;
             }
-            self.add_meeting(agent, number, other, numbers[other], meetings)?;
+            self.add_pair_conflict(agent, number, other, numbers[other], conflicts)?;
         }
         Ok(())
     }
 
     /// The same as far as they are known: up to the agent that is returned.
-    fn add_known_meetings(
+    fn add_known_pair_conflicts(
         &self,
         numbers: &[usize],
         agent: usize,
         number: usize,
         from: usize,
-        meetings: &mut Vec<Meeting>,
+        conflicts: &mut Vec<PairConflict>,
     ) -> Result<usize, NoMemory>
         requires agents { length numbers.now ≤ most_agents }
         requires agent { agent < length numbers.now }
-        ensures keeps { OnOk result (HasAllOf meetings.new.items meetings.old.items) }
+        ensures keeps { OnOk result (HasAllOf conflicts.new.items conflicts.old.items) }
         ensures pairs { IfOk result (λ end. (k : ℕ) → from ≤ k → k < end → k ≢ agent
-            → AreMet self.now agent number k (slice_index numbers.now k) meetings.new.items) }
+            → AreMet self.now agent number k (slice_index numbers.now k) conflicts.new.items) }
     {
-        add_known(self.times.row(number), numbers, agent, from, meetings)
+        add_known(self.times.row(number), numbers, agent, from, conflicts)
     }
 
-    /// Adds the meeting of two agents, whose paths have these numbers, where they have a conflict.
-    fn add_meeting(
+    /// Adds the pair conflict of two agents, whose paths have these numbers, where they have a conflict.
+    fn add_pair_conflict(
         &mut self,
         agent: usize,
         one: usize,
         with: usize,
         other: usize,
-        meetings: &mut Vec<Meeting>,
+        conflicts: &mut Vec<PairConflict>,
     ) -> Result<(), NoMemory>
         requires agents { (agent < most_agents) × (with < most_agents) }
         requires one { one < length self.old.paths }
         requires other { other < length self.old.paths }
         ensures known { self.new ≡ self.old }
-        ensures keeps { OnOk result (HasAllOf meetings.new.items meetings.old.items) }
-        ensures pair { OnOk result (AreMet self.old agent one with other meetings.new.items) }
+        ensures keeps { OnOk result (HasAllOf conflicts.new.items conflicts.old.items) }
+        ensures pair { OnOk result (AreMet self.old agent one with other conflicts.new.items) }
     {
         match self.first_time(one, other) {
             Some(time) => {
-                meetings.push(meeting_of(agent, with, time))?;
+                conflicts.push(pair_conflict_of(agent, with, time))?;
                 Ok(())
             }
             None => Ok(()),

@@ -44,7 +44,7 @@ impl<'p> Book<'p> {
     pub(crate) fn at_node(&mut self, node: &Node) -> Result<Option<AtNode>, NoMemory>
         requires { IsBranching self.old.problem node.now }
         ensures problem { self.new.problem ≡ self.old.problem }
-        ensures known { IfOk result (λ found. IfSome found (λ at. IsKnownAt self.new node.now at.sets.items at.plan.numbers.items at.plan.meetings.items)) }
+        ensures known { IfOk result (λ found. IfSome found (λ at. IsKnownAt self.new node.now at.sets.items at.plan.numbers.items at.plan.conflicts.items)) }
     {
         if node.agents() > MOST_PAIRED_LATER {
             return Ok(None);
@@ -64,7 +64,7 @@ impl<'p> Book<'p> {
 
     /// Keeps what is known at the node that was looked at.
     pub(crate) fn keep(&mut self, at: Option<AtNode>)
-        requires { IfSome at (λ at. IsKnownPlan (record { rule = self.old.problem.rule; paths = self.old.paths }) at.plan.numbers.items at.plan.meetings.items × AreOwnPaths self.old at.sets.items at.plan.numbers.items) }
+        requires { IfSome at (λ at. IsKnownPlan (record { rule = self.old.problem.rule; paths = self.old.paths }) at.plan.numbers.items at.plan.conflicts.items × AreOwnPaths self.old at.sets.items at.plan.numbers.items) }
         ensures { self.new ≡ self.old }
     {
         self.latest = at;
@@ -73,11 +73,11 @@ impl<'p> Book<'p> {
     /// What is known at a node, from what was known at another one with as many agents.
     fn turned(&mut self, node: &Node, other: AtNode) -> Result<Option<AtNode>, NoMemory>
         requires node { IsBranching self.old.problem node.now }
-        requires other { IsKnownPlan (record { rule = self.old.problem.rule; paths = self.old.paths }) other.plan.numbers.items other.plan.meetings.items }
+        requires other { IsKnownPlan (record { rule = self.old.problem.rule; paths = self.old.paths }) other.plan.numbers.items other.plan.conflicts.items }
         requires own { AreOwnPaths self.old other.sets.items other.plan.numbers.items }
         requires agents { length other.plan.numbers.items ≡ length node.now.plan }
         ensures same { self.new ≡ self.old }
-        ensures known { IfOk result (λ found. IfSome found (λ at. IsKnownAt self.old node.now at.sets.items at.plan.numbers.items at.plan.meetings.items)) }
+        ensures known { IfOk result (λ found. IfSome found (λ at. IsKnownAt self.old node.now at.sets.items at.plan.numbers.items at.plan.conflicts.items)) }
     {
         let AtNode {
             sets: before,
@@ -105,11 +105,11 @@ impl<'p> Book<'p> {
     ) -> Result<bool, NoMemory>
         requires node { IsBranching self.old.problem node.now }
         requires sets { AreSetsOf self.old.sets sets.now node.now.constraints }
-        requires plan { IsKnownPlan (record { rule = self.old.problem.rule; paths = self.old.paths }) plan.old.numbers.items plan.old.meetings.items }
+        requires plan { IsKnownPlan (record { rule = self.old.problem.rule; paths = self.old.paths }) plan.old.numbers.items plan.old.conflicts.items }
         requires before { AreOwnPaths self.old before.now plan.old.numbers.items }
         requires agents { length plan.old.numbers.items ≡ length node.now.plan }
         ensures same { self.new ≡ self.old }
-        ensures plan { IfOk result (λ known. IsTrue known → IsKnownPlan (record { rule = self.old.problem.rule; paths = self.old.paths }) plan.new.numbers.items plan.new.meetings.items) }
+        ensures plan { IfOk result (λ known. IsTrue known → IsKnownPlan (record { rule = self.old.problem.rule; paths = self.old.paths }) plan.new.numbers.items plan.new.conflicts.items) }
         ensures own { IfOk result (λ known. IsTrue known → AreOwnPaths self.old sets.now plan.new.numbers.items) }
         ensures paths { IfOk result (λ known. IsTrue known → ArePathsOf self.old.paths plan.new.numbers.items node.now.plan) }
     {
@@ -131,11 +131,11 @@ impl<'p> Book<'p> {
         before: usize,
         set: usize,
     ) -> Result<bool, NoMemory>
-        requires plan { IsKnownPlan (record { rule = self.old.problem.rule; paths = self.old.paths }) plan.old.numbers.items plan.old.meetings.items }
+        requires plan { IsKnownPlan (record { rule = self.old.problem.rule; paths = self.old.paths }) plan.old.numbers.items plan.old.conflicts.items }
         requires agent { agent < length plan.old.numbers.items }
         requires own { HasOwnPath self.old before (slice_index plan.old.numbers.items agent) }
         ensures same { self.new ≡ self.old }
-        ensures plan { IfOk result (λ known. IsTrue known → IsKnownPlan (record { rule = self.old.problem.rule; paths = self.old.paths }) plan.new.numbers.items plan.new.meetings.items) }
+        ensures plan { IfOk result (λ known. IsTrue known → IsKnownPlan (record { rule = self.old.problem.rule; paths = self.old.paths }) plan.new.numbers.items plan.new.conflicts.items) }
         ensures own { IfOk result (λ known. IsTrue known → HasOwnPath self.old set (slice_index plan.new.numbers.items agent)) }
         ensures others { IfOk result (λ known. IsTrue known → (k : ℕ) → k ≢ agent → slice_index plan.new.numbers.items k ≡ slice_index plan.old.numbers.items k) }
         ensures agents { IfOk result (λ known. IsTrue known → length plan.new.numbers.items ≡ length plan.old.numbers.items) }
@@ -154,7 +154,7 @@ impl<'p> Book<'p> {
     fn looked_up(&mut self, node: &Node) -> Result<Option<AtNode>, NoMemory>
         requires { IsBranching self.old.problem node.now }
         ensures same { self.new ≡ self.old }
-        ensures known { IfOk result (λ found. IfSome found (λ at. IsKnownAt self.old node.now at.sets.items at.plan.numbers.items at.plan.meetings.items)) }
+        ensures known { IfOk result (λ found. IfSome found (λ at. IsKnownAt self.old node.now at.sets.items at.plan.numbers.items at.plan.conflicts.items)) }
     {
         let Some(sets) = self.sets_at(node, Vec::new(self.alloc))? else {
             return Ok(None);
@@ -233,11 +233,11 @@ fn turn_to(
     agent: usize,
     number: usize,
 ) -> Result<(), NoMemory>
-    requires plan { IsKnownPlan paths.old plan.old.numbers.items plan.old.meetings.items }
+    requires plan { IsKnownPlan paths.old plan.old.numbers.items plan.old.conflicts.items }
     requires agent { agent < length plan.old.numbers.items }
     requires number { number < length paths.old.paths }
     ensures known { paths.new ≡ paths.old }
-    ensures plan { OnOk result (IsKnownPlan paths.old plan.new.numbers.items plan.new.meetings.items) }
+    ensures plan { OnOk result (IsKnownPlan paths.old plan.new.numbers.items plan.new.conflicts.items) }
     ensures numbers { OnOk result (plan.new.numbers.items ≡ slice_set plan.old.numbers.items agent number) }
 {
     if plan.numbers[agent] != number {

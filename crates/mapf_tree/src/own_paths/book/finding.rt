@@ -30,7 +30,7 @@ impl<'p> Book<'p> {
         side: Side,
     ) -> Result<Option<Found>, NoMemory>
         requires node { IsBranching self.old.problem node.now }
-        requires at { IfSome at.now (λ at. IsKnownAt self.old node.now at.sets.items at.plan.numbers.items at.plan.meetings.items) }
+        requires at { IfSome at.now (λ at. IsKnownAt self.old node.now at.sets.items at.plan.numbers.items at.plan.conflicts.items) }
         ensures same { self.new ≡ self.old }
         ensures found { IfOk result (λ found. IfSome found (λ f. IsFoundAt self.old node.now side f.path)) }
     {

@@ -6,4 +6,4 @@ use Rattle.mapf_plan.proofs.cache.known_paths.KnownPaths.plan.Given as goal
 abbrev pub invariant-loop-agent : goal.invariant-loop-agent
 invariant-loop-agent l =
     (l.self ≡ l.fn.self)
-    × ((i k : ℕ) → i < l.agent → i < k → k < length l.numbers → AreMet l.fn.self i (slice_index l.numbers i) k (slice_index l.numbers k) l.meetings.items)
+    × ((i k : ℕ) → i < l.agent → i < k → k < length l.numbers → AreMet l.fn.self i (slice_index l.numbers i) k (slice_index l.numbers k) l.conflicts.items)

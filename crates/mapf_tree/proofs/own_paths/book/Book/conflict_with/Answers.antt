@@ -11,7 +11,7 @@ pub returns-in-Some-clause-conflict : goal.returns-in-Some-clause-conflict
 returns-in-Some-clause-conflict c =
     let node = c.args.node.now in let change = c.args.change.now in let agent = c.change.inside.agent in
     let paths = c.self.inside.paths in
-    let at = subst (λ a. IfSome a (λ at. IsKnownAt c.args.self.now node at.sets.items at.plan.numbers.items at.plan.meetings.items)) c.in-Some.is c.requires.at in
+    let at = subst (λ a. IfSome a (λ at. IsKnownAt c.args.self.now node at.sets.items at.plan.numbers.items at.plan.conflicts.items)) c.in-Some.is c.requires.at in
     let numbers = c.in-Some.at.plan.numbers.items in
     let rule : paths.rule ≡ node.rule = c.self.invariant.2 ∙ ap (λ (b : Book). b.problem.rule) c.self.view_is ∙ sym c.requires.node.stands.rule in
     let front : plan_of paths.paths numbers ≡ node.plan = ap (λ (b : Book). plan_of b.paths numbers) c.self.view_is ∙ at.plans.same in

@@ -10,7 +10,7 @@ invariant_of-self c =
       c.self.invariant.0,
       c.self.invariant.1,
       c.self.invariant.2,
-      subst (λ rule. IfSome c.args.at (λ at. IsKnownPlan (record { rule = rule; paths = book.paths }) at.plan.numbers.items at.plan.meetings.items × AreOwnPaths book at.sets.items at.plan.numbers.items)) (sym c.self.invariant.2)
-          (subst (λ (b : Book). IfSome c.args.at (λ at. IsKnownPlan (record { rule = b.problem.rule; paths = b.paths }) at.plan.numbers.items at.plan.meetings.items × AreOwnPaths b at.sets.items at.plan.numbers.items)) (sym c.self.view_is) c.requires),
+      subst (λ rule. IfSome c.args.at (λ at. IsKnownPlan (record { rule = rule; paths = book.paths }) at.plan.numbers.items at.plan.conflicts.items × AreOwnPaths book at.sets.items at.plan.numbers.items)) (sym c.self.invariant.2)
+          (subst (λ (b : Book). IfSome c.args.at (λ at. IsKnownPlan (record { rule = b.problem.rule; paths = b.paths }) at.plan.numbers.items at.plan.conflicts.items × AreOwnPaths b at.sets.items at.plan.numbers.items)) (sym c.self.view_is) c.requires),
       c.self.invariant.4,
     )

@@ -19,6 +19,6 @@ returns-clause-known c =
           (subst (λ o. IfSome o (λ paths. AreOwnPaths self c.deref.result.now paths.items)) c.in-Some-2.is c.in_ok-numbers.ensures.own);
       plans = subst (λ ns. ArePathsOf self.paths ns node.plan) (sym numbers)
           (subst (λ o. IfSome o (λ paths. ArePathsOf self.paths paths.items node.plan)) c.in-Some-2.is c.in_ok-numbers.ensures.paths);
-      meet = subst₂ (λ rule paths. IsKnownPlan (record { rule = rule; paths = paths }) plan.numbers.items plan.meetings.items)
+      meet = subst₂ (λ rule paths. IsKnownPlan (record { rule = rule; paths = paths }) plan.numbers.items plan.conflicts.items)
           (c.self.invariant.2 ∙ ap (λ (b : Book). b.problem.rule) c.self.view_is) (ap (λ (b : Book). b.paths) c.self.view_is) c.in_ok-plan.ensures.plan;
     }

@@ -20,7 +20,7 @@ all_kept problem old new sets firsts latest changes same keeps is = (
   is.1,
   same ∙ is.2,
   if_some latest _ _ (λ at known. (
-    known_stays old new at.plan.numbers.items at.plan.meetings.items same keeps known.0,
+    known_stays old new at.plan.numbers.items at.plan.conflicts.items same keeps known.0,
     own_paths_kept (record { problem = problem; sets = sets; paths = old.paths }) (record { problem = problem; sets = sets; paths = new.paths }) at.sets.items at.plan.numbers.items refl (λ n a cs h. h) keeps known.1,
   )) is.3,
   All-weaker (λ place. IfSome place (IsShared old.paths)) (λ place. IfSome place (IsShared new.paths))

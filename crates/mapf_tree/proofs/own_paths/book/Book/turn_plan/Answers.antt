@@ -18,7 +18,7 @@ loop-agent-preserved c =
     let is = c.loop-agent.invariant.0 in let told = c.if-not-branch.false in let turned = c.in_ok-turn_agent.ensures in
     let same : (k : ℕ) → (k ≡ agent → ⊥) → slice_index new k ≡ slice_index old k = turned.others told in (
       turned.same ∙ is,
-      subst (λ (b : Book). IsKnownPlan (record { rule = b.problem.rule; paths = b.paths }) new c.turn_agent.new.plan.meetings.items) is (turned.plan told),
+      subst (λ (b : Book). IsKnownPlan (record { rule = b.problem.rule; paths = b.paths }) new c.turn_agent.new.plan.conflicts.items) is (turned.plan told),
       turned.agents told ∙ c.loop-agent.invariant.2,
       below_more (λ k. HasOwnPath self (slice_index sets k) (slice_index new k)) agent
           (λ k l. subst (HasOwnPath self (slice_index sets k)) (sym (same k (λ e. omega (arith, e, l)))) (c.loop-agent.invariant.3 k l))

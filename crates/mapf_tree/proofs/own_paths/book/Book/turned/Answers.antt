@@ -16,5 +16,5 @@ returns-clause-known c =
           (subst (λ o. IfSome o (λ sets. AreSetsOf c.self.inside.sets sets.items node.constraints)) c.in-Some.is c.in_ok-sets.ensures);
       own = subst₂ (λ (b : Book) ns. AreOwnPaths b ns numbers) c.self.view_is c.deref-2.ensures.value (turned.own told);
       plans = subst (λ (b : Book). ArePathsOf b.paths numbers node.plan) c.self.view_is (turned.paths told);
-      meet = subst (λ (b : Book). IsKnownPlan (record { rule = b.problem.rule; paths = b.paths }) numbers plan.meetings.items) c.self.view_is (turned.plan told);
+      meet = subst (λ (b : Book). IsKnownPlan (record { rule = b.problem.rule; paths = b.paths }) numbers plan.conflicts.items) c.self.view_is (turned.plan told);
     }

@@ -1,7 +1,7 @@
 use Rattle.std.proofs.Common.{subst₂, sym}
 use Rattle.mapf_plan.specs.Collisions.{DoCollide, DontCollideBefore}
 use Rattle.mapf_plan.proofs.collisions.Collisions.{apart_until, pair_has_none, found_by_end}
-use Rattle.mapf_plan.proofs.collisions.pair_conflicts.first_of_pair.Goals as goal
+use Rattle.mapf_plan.proofs.collisions.first_of_pair.first_of_pair.Goals as goal
 
 pub first_collision-requires : goal.first_collision-requires
 first_collision-requires g c =

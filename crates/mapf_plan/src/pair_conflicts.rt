@@ -1,12 +1,12 @@
-//! Meetings: a short list of pairs of agents and times from which a plan's first conflict is found.
+//! Pair conflicts: a short list of pairs of agents and times from which a plan's first conflict is found.
 
 ghost use Rattle.std.specs.Prelude.{◌≡◌, ◌≢◌, ◌<◌, ◌≤◌, min, max, length, Contains, MatchOption, IfOk, ⊤};
 ghost use Rattle.mapf_grid.specs.Instance.{most_agents};
 ghost use Rattle.mapf_plan.specs.declared.conflict.Conflict.{Conflict};
-ghost use Rattle.mapf_plan.specs.declared.meetings.Meeting.{Meeting};
+ghost use Rattle.mapf_plan.specs.declared.pair_conflicts.PairConflict.{PairConflict};
 ghost use Rattle.mapf_plan.specs.Plan.{first_agent, second_agent, IsConflict, IsFirstConflict, HasNoConflict};
 ghost use Rattle.mapf_plan.specs.FirstConflict.{HasNoConflictBefore, IsConflictAt, IsEarlier};
-ghost use Rattle.mapf_plan.specs.Meetings.{HaveMeetings};
+ghost use Rattle.mapf_plan.specs.PairConflicts.{HavePairConflicts};
 
 use crate::collisions::{earlier, first_conflict_from, pair_at};
 use crate::{AgentPaths, Conflict, Rule};
@@ -14,7 +14,7 @@ use mapf_grid::NoMemory;
 
 /// Two agents, and a time step before which they have no conflict.
 #[derive(Clone, Copy, Debug, PartialEq, Eq)]
-pub struct Meeting {
+pub struct PairConflict {
     /// The agent with the smaller number.
     pub first: u16,
     /// The agent with the larger number.
@@ -23,48 +23,48 @@ pub struct Meeting {
     pub time: u32,
 }
 
-/// The meeting of these two agents at a time step.
-pub(crate) fn meeting_of(agent: usize, other: usize, time: u32) -> Meeting
+/// The pair conflict of these two agents at a time step.
+pub(crate) fn pair_conflict_of(agent: usize, other: usize, time: u32) -> PairConflict
     requires agents { (agent < most_agents) × (other < most_agents) }
     ensures { result ≡ record { first = min agent other; second = max agent other; time = time } }
 {
-    Meeting {
+    PairConflict {
         first: agent.min(other) as u16,
         second: agent.max(other) as u16,
         time,
     }
 }
 
-/// Those of these meetings that this agent doesn't have, in the place of what a list had.
-pub(crate) fn meetings_without(
-    spare: Vec<Meeting>,
-    meetings: &[Meeting],
+/// Those of these pair conflicts that this agent doesn't have, in the place of what a list had.
+pub(crate) fn pair_conflicts_without(
+    spare: Vec<PairConflict>,
+    conflicts: &[PairConflict],
     agent: usize,
-) -> Result<Vec<Meeting>, NoMemory>
-    ensures { IfOk result (λ left. (m : Meeting) → Contains meetings.now m → m.first ≢ agent → m.second ≢ agent
+) -> Result<Vec<PairConflict>, NoMemory>
+    ensures { IfOk result (λ left. (m : PairConflict) → Contains conflicts.now m → m.first ≢ agent → m.second ≢ agent
         → Contains left.items m) }
 {
     let mut left = spare;
     left.clear();
-    for meeting in meetings {
-        if usize::from(meeting.first) != agent && usize::from(meeting.second) != agent {
-            left.push(*meeting)?;
+    for conflict in conflicts {
+        if usize::from(conflict.first) != agent && usize::from(conflict.second) != agent {
+            left.push(*conflict)?;
         }
     }
     Ok(left)
 }
 
-/// The first conflict of a plan, from meetings of all its conflicts. None if no two agents ever collide.
-pub(crate) fn first_conflict_of_meetings<P: AgentPaths>(
+/// The first conflict of a plan, from pair conflicts of all its conflicts. None if no two agents ever collide.
+pub(crate) fn first_conflict_of_pair_conflicts<P: AgentPaths>(
     plan: &P,
     rule: Rule,
-    meetings: &[Meeting],
+    conflicts: &[PairConflict],
 ) -> Option<Conflict>
-    requires { HaveMeetings (IsConflict rule (P.paths plan.now)) meetings.now }
+    requires { HavePairConflicts (IsConflict rule (P.paths plan.now)) conflicts.now }
     ensures { MatchOption result (HasNoConflict rule (P.paths plan.now)) (IsFirstConflict rule (P.paths plan.now)) }
 {
-    match least_time(meetings) {
-        Some(time) => match first_at_meetings(plan, rule, meetings, time) {
+    match least_time(conflicts) {
+        Some(time) => match first_at_pair_conflicts(plan, rule, conflicts, time) {
             Some(found) => Some(found),
             None => first_conflict_from(plan, rule, time),
         },
@@ -72,36 +72,36 @@ pub(crate) fn first_conflict_of_meetings<P: AgentPaths>(
     }
 }
 
-/// The least time step of these meetings; none where there are no meetings.
-fn least_time(meetings: &[Meeting]) -> Option<u32>
-    ensures { MatchOption result (length meetings.now ≡ 0) (λ t. (m : Meeting) → Contains meetings.now m → t ≤ m.time) }
+/// The least time step of these pair conflicts; none where there are no pair conflicts.
+fn least_time(conflicts: &[PairConflict]) -> Option<u32>
+    ensures { MatchOption result (length conflicts.now ≡ 0) (λ t. (m : PairConflict) → Contains conflicts.now m → t ≤ m.time) }
 {
-    if meetings.is_empty() {
+    if conflicts.is_empty() {
         return None;
     }
-    let mut least = meetings[0].time;
-    for meeting in meetings {
-        least = least.min(meeting.time);
+    let mut least = conflicts[0].time;
+    for conflict in conflicts {
+        least = least.min(conflict.time);
     }
     Some(least)
 }
 
-/// The first conflict, where one is at the least time step of these meetings of all conflicts.
-fn first_at_meetings<P: AgentPaths>(
+/// The first conflict, where one is at the least time step of these pair conflicts of all conflicts.
+fn first_at_pair_conflicts<P: AgentPaths>(
     plan: &P,
     rule: Rule,
-    meetings: &[Meeting],
+    conflicts: &[PairConflict],
     time: u32,
 ) -> Option<Conflict>
-    requires meetings { HaveMeetings (IsConflict rule (P.paths plan.now)) meetings.now }
-    requires least { (m : Meeting) → Contains meetings.now m → time ≤ m.time }
+    requires conflicts { HavePairConflicts (IsConflict rule (P.paths plan.now)) conflicts.now }
+    requires least { (m : PairConflict) → Contains conflicts.now m → time ≤ m.time }
     requires before { HasNoConflictBefore rule (P.paths plan.now) time }
     ensures { MatchOption result ⊤ (IsFirstConflict rule (P.paths plan.now)) }
 {
     let mut known = None;
-    for meeting in meetings {
-        if meeting.time == time {
-            let (first, second) = (usize::from(meeting.first), usize::from(meeting.second));
+    for conflict in conflicts {
+        if conflict.time == time {
+            let (first, second) = (usize::from(conflict.first), usize::from(conflict.second));
             known = earlier_of_two(plan, rule, first, second, time, known);
         }
     }

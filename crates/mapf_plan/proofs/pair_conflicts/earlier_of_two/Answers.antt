@@ -1,7 +1,7 @@
 use Rattle.std.proofs.Common.{◌+◌, arith}
 use Rattle.mapf_plan.specs.FirstConflict.{IsConflictOfPair}
 use Rattle.mapf_plan.proofs.collisions.Steps.{found_first, some_before}
-use Rattle.mapf_plan.proofs.meetings.earlier_of_two.Goals as goal
+use Rattle.mapf_plan.proofs.pair_conflicts.earlier_of_two.Goals as goal
 
 pub returns-clause-first : goal.returns-clause-first
 returns-clause-first g c d is of_first of_second before =

@@ -1,0 +1,6 @@
+use Rattle.std.proofs.Common.{◌≡◌, ℕ, ◌<◌, ◌≤◌, get_or}
+use Rattle.mapf_plan.specs.declared.pair_conflicts.PairConflict.{PairConflict}
+use Rattle.mapf_plan.proofs.pair_conflicts.least_time.Given as goal
+
+abbrev pub invariant-loop-conflict : goal.invariant-loop-conflict
+invariant-loop-conflict l = (m : PairConflict) (k : ℕ) → k < l.conflict-index → get_or l.conflicts k m ≡ m → l.least ≤ m.time
