@@ -1,8 +1,10 @@
 //! The workers of a board, beside its owner.
 ghost use Rattle.std.specs.Prelude.{◌≡◌, All, IfOk, Some};
-ghost use Rattle.mapf_board.specs.Owners.{IsOwnerOf, current_in};
+ghost use Rattle.mapf_board.specs.Closing.{slots_below};
+ghost use Rattle.mapf_board.specs.Owners.{IsOwnerOf, current_in, currents};
 ghost use Rattle.mapf_board.specs.Views.{job_in};
-ghost use Rattle.mapf_board.specs.Workers.{IsCrewOf, IsIdle, IsWorkerOf};
+ghost use Rattle.mapf_board.specs.Weights.{keys};
+ghost use Rattle.mapf_board.specs.Workers.{IsCrewOf, IsIdle, IsWorkerOf, size_of};
 
 use super::Live;
 use super::left::Left;
@@ -52,8 +54,8 @@ pub fn seats_of<W: Work>(
     Ok(crew?.into_seats())
 }
 
-/// Closes a board behind its crew: what is left there of jobs that the owner has there still. An error is that memory ran out,
-/// for the crew or to close the board.
+/// Closes a board behind its crew: what is left in each slot where the owner has a job still, slots rising. An error is that
+/// memory ran out, for the crew or to close the board.
 pub fn close_behind<W: Work>(
     alloc: Global,
     live: Live<W>,
@@ -62,7 +64,8 @@ pub fn close_behind<W: Work>(
 ) -> Result<Vec<(usize, Left<Pair<W>, W::Job>)>, NoMemory>
     requires owner { IsOwnerOf live owner }
     requires crew { IfOk seats (λ seats. IsCrewOf live seats.items) }
-    ensures { IfOk result (λ left. All (λ x. current_in owner x.0 ≡ Some (job_in x.1)) left.items) }
+    ensures slots { IfOk result (λ left. keys left.items ≡ slots_below (size_of live) (currents owner)) }
+    ensures jobs { IfOk result (λ left. All (λ x. current_in owner x.0 ≡ Some (job_in x.1)) left.items) }
 {
     live.close(alloc, owner, seats?).map_err(|_| NoMemory)
 }

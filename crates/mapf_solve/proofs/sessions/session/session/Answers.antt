@@ -7,7 +7,7 @@ pub session_at-search-requires-clause-sides : goal.session_at-search-requires-cl
 session_at-search-requires-clause-sides g c κs within slot job at = none_there 64 slot job (sym (ap (λ v. slice_index_or v.current slot None) c.in-Ok.ensures.no_job) ∙ at)
 
 pub keep_all-requires : goal.keep_all-requires
-keep_all-requires g c k d low = c.session_at-search.ensures.sides (slice_index_or c.in-Ok-close_behind.left.items k d).0 _ (c.in-Ok-close_behind.ensures k d low)
+keep_all-requires g c k d low = c.session_at-search.ensures.sides (slice_index_or c.in-Ok-close_behind.left.items k d).0 _ (c.in-Ok-close_behind.ensures.jobs k d low)
 
 pub returns-clause-went : goal.returns-clause-went
 returns-clause-went g c =
