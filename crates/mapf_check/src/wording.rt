@@ -87,7 +87,8 @@ fn push_conflict(text: &mut String, conflict: Conflict, map: &Map) -> Result<(),
 
 /// These words and two agents' numbers.
 fn push_agents(text: &mut String, words: &str, one: usize, other: usize) -> Result<(), NoMemory>
-    ensures { OnOk result (string_bytes text.new ≡ string_bytes text.old ++ ((words.now ++ decimal one) ++ (codes " " ++ decimal other))) }
+    ensures { OnOk result (string_bytes text.new ≡ string_bytes text.old
+        ++ ((words.now ++ decimal one) ++ (codes " " ++ decimal other))) }
 {
     push_number(text, words, one)?;
     push_number(text, " ", other)

@@ -32,15 +32,18 @@ pub fn check_run<M: Source, S: Source, P: Source, O: Sink>(
 
     // A device's failure is answered exactly where its count rose, and that is by 1.
     ensures map { Counts (is_read_failure FileName.Map (end_of result)) (M.failures map.old) (M.failures map.new) }
-    ensures scen { Counts (is_read_failure FileName.Scenario (end_of result)) (S.failures scen.old) (S.failures scen.new) }
+    ensures scen { Counts (is_read_failure FileName.Scenario (end_of result))
+        (S.failures scen.old) (S.failures scen.new) }
     ensures plan { Counts (is_read_failure FileName.Plan (end_of result)) (P.failures plan.old) (P.failures plan.new) }
     ensures out { Counts (is_write_failure (end_of result)) (O.failures out.old) (O.failures out.new) }
 
     // A file is too long where it is the first of more than 67,108,864 bytes; else no file that was read is longer.
-    ensures within { AreWithin (files (M.remaining map.old) (S.remaining scen.old) (P.remaining plan.old)) (end_of result) }
+    ensures within { AreWithin (files (M.remaining map.old) (S.remaining scen.old) (P.remaining plan.old))
+        (end_of result) }
 
     // What was written is the line of the verdict on what the readers gave.
-    ensures verdict { LeavesVerdict rule (M.remaining map.old) (S.remaining scen.old) (P.remaining plan.old) agents (O.contents out.old) (O.contents out.new) result }
+    ensures verdict { LeavesVerdict rule (M.remaining map.old) (S.remaining scen.old) (P.remaining plan.old)
+        agents (O.contents out.old) (O.contents out.new) result }
 
     // Out of memory has one spelling.
     ensures memory { IfErr result HasOneMemory }

@@ -10,7 +10,8 @@ const MOST_DIGITS: usize = 9;
 
 /// Cuts off the first line, without its line end: the line, and the bytes behind it; none where no line is left.
 pub(crate) fn first_line(bytes: &[u8]) -> Option<(&[u8], &[u8])>
-    ensures line { MatchOption result (lines_of bytes.now ≡ []) (λ cut. lines_of bytes.now ≡ cut.0.now ∷ lines_of cut.1.now) }
+    ensures line { MatchOption result (lines_of bytes.now ≡ [])
+        (λ cut. lines_of bytes.now ≡ cut.0.now ∷ lines_of cut.1.now) }
     ensures shorter { MatchOption result (bytes.now ≡ []) (λ cut. length cut.1.now < length bytes.now) }
 {
     if bytes.is_empty() {

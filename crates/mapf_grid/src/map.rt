@@ -41,7 +41,8 @@ impl Model for Map {
 
     ghost view = { λ m. record { width = m.width; height = m.height; free = m.free.items } };
 
-    ghost invariant = { λ m. HasSizes (record { width = m.width; height = m.height; free = m.free.items }) × (m.row_starts ≡ m.width) };
+    ghost invariant = { λ m. HasSizes (record { width = m.width; height = m.height; free = m.free.items })
+        × (m.row_starts ≡ m.width) };
 }
 
 impl Map {

@@ -73,7 +73,8 @@ pub(crate) fn first_word(line: &[u8]) -> Option<(&[u8], &[u8])>
 
 /// Cuts off the last word: the bytes before it, and the word; none where there is no word.
 pub(crate) fn last_word(line: &[u8]) -> Option<(&[u8], &[u8])>
-    ensures words { MatchOption result (words line.now ≡ []) (λ cut. words line.now ≡ words cut.0.now ++ cut.1.now ∷ []) }
+    ensures words { MatchOption result (words line.now ≡ [])
+        (λ cut. words line.now ≡ words cut.0.now ++ cut.1.now ∷ []) }
     ensures parted { IfSome result (λ cut. IsPartedFront line.now cut.0.now) }
 {
     let line = trim_end(line);

@@ -17,7 +17,8 @@ pub(super) fn places_of(
     rows: &[Row],
     agents: u64,
 ) -> Result<(Vec<Cell>, Vec<Cell>), InstanceFault>
-    ensures found { IfOk result (λ places. IsInstance map.now rows.now agents (record { grid = map.now; starts = places.0.items; goals = places.1.items })) }
+    ensures found { IfOk result (λ places. IsInstance map.now rows.now agents
+        (record { grid = map.now; starts = places.0.items; goals = places.1.items })) }
     ensures fault { IfErr result (λ e. e ≢ InstanceFault.NoMemory → IsInstanceFault map.now rows.now agents e) }
     ensures sizes { OnOk result (HasSizes map.now) }
 {

@@ -42,7 +42,8 @@ impl Taken {
 
     /// The first agent at this cell.
     pub(super) fn first_at(&self, cell: Cell) -> Option<usize>
-        ensures { MatchOption result ((i : ℕ) → i < length self.now → slice_index self.now i ≢ cell) (IsFirstAt self.now cell) }
+        ensures { MatchOption result
+            ((i : ℕ) → i < length self.now → slice_index self.now i ≢ cell) (IsFirstAt self.now cell) }
     {
         self.first.get(&cell.number()).copied()
     }

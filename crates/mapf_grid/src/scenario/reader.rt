@@ -51,8 +51,10 @@ fn is_version(line: &[u8]) -> bool
 /// Reads the lines behind the version line as rows, up to blank lines at the end.
 fn read_rows(alloc: Global, mut rest: &[u8]) -> Result<Vec<Row>, ScenFault>
     requires { length rest.now + 1 < 2 ^ 64 }
-    ensures found { (version : List ℕ) → IsVersion version → IfOk result (λ rows. IsScenario (version ∷ lines_of rest.now) rows.items) }
-    ensures fault { (version : List ℕ) → IsVersion version → IfErr result (λ e. e ≢ ScenFault.NoMemory → IsScenFault (version ∷ lines_of rest.now) e) }
+    ensures found { (version : List ℕ) → IsVersion version
+        → IfOk result (λ rows. IsScenario (version ∷ lines_of rest.now) rows.items) }
+    ensures fault { (version : List ℕ) → IsVersion version
+        → IfErr result (λ e. e ≢ ScenFault.NoMemory → IsScenFault (version ∷ lines_of rest.now) e) }
 {
     let mut rows = Vec::new(alloc);
     while let Some((line, behind)) = first_line(rest) {
@@ -109,7 +111,8 @@ fn read_row(alloc: Global, text: &[u8], line: usize) -> Result<Row, ScenFault>
 }
 
 fn number_field(word: &[u8], line: usize, field: usize) -> Result<u32, ScenFault>
-    ensures { MatchResult result (λ n. number_of word.now ≡ Some n) (λ e. (number_of word.now ≡ None) × (e ≡ ScenFault.Number line field)) }
+    ensures { MatchResult result (λ n. number_of word.now ≡ Some n)
+        (λ e. (number_of word.now ≡ None) × (e ≡ ScenFault.Number line field)) }
 {
     number(word).ok_or(ScenFault::Number { line, field })
 }
