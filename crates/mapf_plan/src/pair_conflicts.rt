@@ -63,12 +63,10 @@ pub(crate) fn first_conflict_of_pair_conflicts<P: AgentPaths>(
     requires { HavePairConflicts (IsConflict rule (P.paths plan.now)) conflicts.now }
     ensures { MatchOption result (HasNoConflict rule (P.paths plan.now)) (IsFirstConflict rule (P.paths plan.now)) }
 {
-    match least_time(conflicts) {
-        Some(time) => match first_at_pair_conflicts(plan, rule, conflicts, time) {
-            Some(found) => Some(found),
-            None => first_conflict_from(plan, rule, time),
-        },
-        None => None,
+    let time = least_time(conflicts)?;
+    match first_at_pair_conflicts(plan, rule, conflicts, time) {
+        Some(found) => Some(found),
+        None => first_conflict_from(plan, rule, time),
     }
 }
 

@@ -168,7 +168,12 @@ impl KnownPaths {
             (IsFirstConflict self.old.rule (changed_plan self.old.paths plan.now.numbers.items changed number))) }
     {
         let conflicts = self.pair_conflicts_of_changed(plan, changed, number)?;
-        let changed_plan = Numbered::of(&self.paths, &plan.numbers, changed, number);
+        let changed_plan = Numbered {
+            paths: &self.paths,
+            numbers: &plan.numbers,
+            changed,
+            number,
+        };
         let found = first_conflict_of_pair_conflicts(&changed_plan, self.rule, &conflicts);
         self.spare = conflicts;
         Ok(found)

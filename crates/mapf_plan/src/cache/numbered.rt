@@ -1,10 +1,5 @@
 //! The plan of paths by number, where one agent has another path.
 
-ghost use Rattle.std.specs.Prelude.{◌≡◌, ◌<◌, ◌≤◌, length, map};
-ghost use Rattle.std.specs.Arc.{arc_value};
-ghost use Rattle.mapf_grid.specs.Instance.{most_agents};
-ghost use Rattle.mapf_plan.specs.KnownPaths.{AreNumbers, changed_plan};
-
 use crate::{AgentPaths, Path};
 use std::marker::Model;
 use std::sync::Arc;
@@ -12,10 +7,10 @@ use std::sync::Arc;
 /// The plan of agents whose paths have these numbers, but for one agent whose path has another number.
 #[derive(Drop)]
 pub(crate) struct Numbered<'a> {
-    paths: &'a [Arc<Path>],
-    numbers: &'a [usize],
-    changed: usize,
-    number: usize,
+    pub(super) paths: &'a [Arc<Path>],
+    pub(super) numbers: &'a [usize],
+    pub(super) changed: usize,
+    pub(super) number: usize,
 }
 
 impl<'a> Model for Numbered<'a> {
@@ -30,28 +25,6 @@ impl<'a> Model for Numbered<'a> {
 
     ghost invariant = { λ n. (0 < length n.numbers.now) × (length n.numbers.now ≤ most_agents)
         × (n.number < length n.paths.now) × AreNumbers (map arc_value n.paths.now) n.numbers.now };
-}
-
-impl<'a> Numbered<'a> {
-    /// The plan of these paths and numbers, where the changed agent's path is that of the other number.
-    pub(crate) fn of(
-        paths: &'a [Arc<Path>],
-        numbers: &'a [usize],
-        changed: usize,
-        number: usize,
-    ) -> Numbered<'a>
-        requires numbers { AreNumbers (map arc_value paths.now) numbers.now }
-        requires agents { (0 < length numbers.now) × (length numbers.now ≤ most_agents) }
-        requires number { number < length paths.now }
-        ensures { result ≡ changed_plan (map arc_value paths.now) numbers.now changed number }
-    {
-        Numbered {
-            paths,
-            numbers,
-            changed,
-            number,
-        }
-    }
 }
 
 impl<'a> AgentPaths for Numbered<'a> {

@@ -1,9 +1,8 @@
 //! Which of two conflicts comes before the other.
 
 ghost use Rattle.std.specs.Prelude.{◌≡◌, ◌⊎◌, ◌<◌, ◌≤◌, MatchOption, ⊤};
-ghost use Rattle.mapf_grid.specs.Least.{Precedes};
 ghost use Rattle.mapf_plan.specs.declared.conflict.Conflict.{Conflict};
-ghost use Rattle.mapf_plan.specs.Plan.{conflict_rank, conflict_time};
+ghost use Rattle.mapf_plan.specs.Plan.{conflict_time};
 ghost use Rattle.mapf_plan.specs.FirstConflict.{IsEarlier};
 
 use crate::Conflict;
@@ -15,19 +14,10 @@ pub(crate) fn earlier(known: Option<Conflict>, found: Option<Conflict>) -> Optio
     ensures found { (c : Conflict) → IsEarlier c result → IsEarlier c found }
 {
     match (known, found) {
-        (Some(one), Some(other)) => Some(earlier_of(one, other)),
+        (Some(one), Some(other)) => Some(if other.is_before(&one) { other } else { one }),
         (Some(one), None) => Some(one),
         (None, other) => other,
     }
-}
-
-/// The conflict that comes before the other.
-fn earlier_of(one: Conflict, other: Conflict) -> Conflict
-    ensures either { (result ≡ one) ⊎ (result ≡ other) }
-    ensures one { ¬ Precedes (conflict_rank one) (conflict_rank result) }
-    ensures other { ¬ Precedes (conflict_rank other) (conflict_rank result) }
-{
-    if other.is_before(&one) { other } else { one }
 }
 
 /// The time step from which on no conflict comes before the one that is known; the end, where none is known.

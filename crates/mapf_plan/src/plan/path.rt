@@ -1,11 +1,9 @@
-ghost use Rattle.std.specs.Prelude.{◌≡◌, ◌≢◌, ℕ, ◌+◌, ◌<◌, ◌≤◌, length, slice_index, IsFalse};
+ghost use Rattle.std.specs.Prelude.{◌≡◌, ◌≢◌, ℕ, ◌+◌, ◌<◌, ◌≤◌, length, slice_index, IfOk, IsFalse, IsTrue};
 ghost use Rattle.mapf_plan.specs.Path.{at, cost, most_cells, IsFirstTime};
 ghost use Rattle.mapf_plan.specs.Plan.{most_bound};
 
-mod copy;
-mod same;
-
-use mapf_grid::Cell;
+use mapf_grid::{Cell, NoMemory};
+use std::alloc::Global;
 use std::marker::Model;
 
 /// How many time steps are looked at together, without an early end among them: a processor can do so with several at once.
@@ -67,6 +65,22 @@ impl Path {
         }
     }
 
+    /// An equal path.
+    pub fn copy(&self, alloc: Global) -> Result<Path, NoMemory>
+        ensures { IfOk result (λ other. other ≡ self.now) }
+    {
+        let cells = self.cells().to_vec(alloc)?;
+        Ok(Path::of(cells))
+    }
+
+    /// Whether another path has the same cells.
+    pub(crate) fn is_same(&self, other: &Path) -> bool
+        ensures { IsTrue result → self.now ≡ other.now }
+    {
+        let (one, two) = (self.cells(), other.cells());
+        one.len() == two.len() && !differ(one, two)
+    }
+
     /// For how many time steps from the first on the two paths are on the same cells, as far as the shorter one goes.
     pub fn shared_steps(&self, other: &Path) -> u32
         ensures { (time : ℕ) → time < result → at self.now time ≡ at other.now time }
@@ -109,6 +123,18 @@ impl Path {
         }
         start
     }
+}
+
+/// Whether two lists of as many cells differ. All of them are looked at: a processor can do so with several at once.
+fn differ(one: &[Cell], other: &[Cell]) -> bool
+    requires { length one.now ≡ length other.now }
+    ensures { IsFalse result → (k : ℕ) → k < length one.now → slice_index one.now k ≡ slice_index other.now k }
+{
+    let mut found = false;
+    for place in 0..one.len() {
+        found |= one[place] != other[place];
+    }
+    found
 }
 
 /// Whether a cell is one of these.

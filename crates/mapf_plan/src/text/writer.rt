@@ -19,43 +19,25 @@ pub fn write(alloc: Global, answer: &Answer, map: &Map) -> Result<Vec<u8>, NoMem
     let mut text = String::new(alloc);
     match answer {
         Answer::Plan { plan, stated } => {
-            push_head(&mut text, plan.paths().len(), *stated)?;
+            push_two_numbers(&mut text, "plan ", plan.paths().len() as u64, *stated)?;
             push_lines(&mut text, plan.paths(), map)?;
         }
-        Answer::None { bound } => push_none(&mut text, *bound)?,
-        Answer::GaveUp { nodes, least } => push_gave_up(&mut text, *nodes, *least)?,
+        Answer::None { bound } => {
+            push_number(&mut text, "none ", *bound)?;
+            text.push_str("\n")?;
+        }
+        Answer::GaveUp { nodes, least } => push_two_numbers(&mut text, "gave up ", *nodes, *least)?,
     }
     Ok(text.into_bytes())
 }
 
-/// The first line of a plan: the number of agents and the cost.
-fn push_head(text: &mut String, agents: usize, cost: u64) -> Result<(), NoMemory>
+/// A line of these words and two numbers, parted by a space.
+fn push_two_numbers(text: &mut String, front: &str, first: u64, second: u64) -> Result<(), NoMemory>
     ensures { OnOk result (string_bytes text.new ≡ string_bytes text.old
-        ++ (codes "plan " ++ (decimal agents ++ (codes " " ++ (decimal cost ++ codes "\n"))))) }
+        ++ (front.now ++ (decimal first ++ (codes " " ++ (decimal second ++ codes "\n"))))) }
 {
-    push_number(text, "plan ", agents)?;
-    push_number(text, " ", cost)?;
-    text.push_str("\n")?;
-    Ok(())
-}
-
-/// The whole text where there is no plan.
-fn push_none(text: &mut String, bound: u32) -> Result<(), NoMemory>
-    ensures { OnOk result (string_bytes text.new ≡ string_bytes text.old
-        ++ (codes "none " ++ (decimal bound ++ codes "\n"))) }
-{
-    push_number(text, "none ", bound)?;
-    text.push_str("\n")?;
-    Ok(())
-}
-
-/// The whole text where the search gave up.
-fn push_gave_up(text: &mut String, nodes: u64, least: u64) -> Result<(), NoMemory>
-    ensures { OnOk result (string_bytes text.new ≡ string_bytes text.old
-        ++ (codes "gave up " ++ (decimal nodes ++ (codes " " ++ (decimal least ++ codes "\n"))))) }
-{
-    push_number(text, "gave up ", nodes)?;
-    push_number(text, " ", least)?;
+    push_number(text, front, first)?;
+    push_number(text, " ", second)?;
     text.push_str("\n")?;
     Ok(())
 }

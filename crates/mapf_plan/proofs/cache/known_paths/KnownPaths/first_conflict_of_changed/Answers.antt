@@ -10,15 +10,15 @@ pub first_conflict_of_pair_conflicts-found-requires : goal.first_conflict_of_pai
 first_conflict_of_pair_conflicts-found-requires c =
     let changed : List (List ℕ) → List ℕ → List (List ℕ) = λ paths numbers. set (plan_of paths numbers) c.args.changed (path_of paths c.args.number) in
     let same = c.self.view_is ∙ c.in_ok-conflicts.ensures.known in let numbers = c.args.plan.now.numbers.items in
-    let is : changed c.args.self.now.paths numbers ≡ c.of-changed_plan.result =
-    ap (λ (s : KnownPaths). changed s.paths numbers) (sym same) ∙ sym (ap₂ (λ xs ns. changed (map arc_value xs) ns) c.deref.ensures.value c.deref-2.ensures.value) ∙ sym c.of-changed_plan.ensures in
-    subst (HavePairConflicts (IsConflict c.self.inside.rule c.of-changed_plan.result)) (sym c.deref-3.ensures.value)
+    let is : changed c.args.self.now.paths numbers ≡ changed (map arc_value c.deref.result.now) c.deref-2.result.now =
+    ap (λ (s : KnownPaths). changed s.paths numbers) (sym same) ∙ sym (ap₂ (λ xs ns. changed (map arc_value xs) ns) c.deref.ensures.value c.deref-2.ensures.value) in
+    subst (HavePairConflicts (IsConflict c.self.inside.rule (changed (map arc_value c.deref.result.now) c.deref-2.result.now))) (sym c.deref-3.ensures.value)
     (subst₂ (λ rule plan. HavePairConflicts (IsConflict rule plan) c.in_ok-conflicts.conflicts.items) (ap (λ (s : KnownPaths). s.rule) (sym same)) is c.in_ok-conflicts.ensures.conflicts)
 
 pub returns-clause-conflict : goal.returns-clause-conflict
 returns-clause-conflict c =
     let changed : List (List ℕ) → List ℕ → List (List ℕ) = λ paths numbers. set (plan_of paths numbers) c.args.changed (path_of paths c.args.number) in
     let same = c.self.view_is ∙ c.in_ok-conflicts.ensures.known in let numbers = c.args.plan.now.numbers.items in
-    let is : c.of-changed_plan.result ≡ changed c.args.self.now.paths numbers =
-    c.of-changed_plan.ensures ∙ ap₂ (λ xs ns. changed (map arc_value xs) ns) c.deref.ensures.value c.deref-2.ensures.value ∙ ap (λ (s : KnownPaths). changed s.paths numbers) same in
+    let is : changed (map arc_value c.deref.result.now) c.deref-2.result.now ≡ changed c.args.self.now.paths numbers =
+    ap₂ (λ xs ns. changed (map arc_value xs) ns) c.deref.ensures.value c.deref-2.ensures.value ∙ ap (λ (s : KnownPaths). changed s.paths numbers) same in
     subst₂ (λ rule plan. MatchOption c.first_conflict_of_pair_conflicts-found.result (HasNoConflict rule plan) (IsFirstConflict rule plan)) (ap (λ (s : KnownPaths). s.rule) same) is c.first_conflict_of_pair_conflicts-found.ensures
