@@ -8,7 +8,7 @@ ghost use Rattle.mapf_plan.specs.PairConflicts.{HavePairConflicts, HasAllOf};
 ghost use Rattle.mapf_plan.specs.KnownPaths.{AreNumbers, AreMet, IsKnownPlan, changed_plan};
 
 use super::KnownPaths;
-use crate::cache::first_times::{FirstTime, add_known, time_of};
+use crate::cache::first_times::{FirstTime, time_of};
 use crate::collisions::first_time_of_two;
 use crate::pair_conflicts::{pair_conflict_of, pair_conflicts_without};
 use crate::{KnownPlan, PairConflict};
@@ -54,32 +54,13 @@ impl KnownPaths {
         ensures pairs { OnOk result ((k : ℕ) → from ≤ k → k < length numbers.now → k ≢ agent
             → AreMet self.old agent number k (slice_index numbers.now k) conflicts.new.items) }
     {
-        let known = self.add_known_pair_conflicts(numbers, agent, number, from, conflicts)?;
-        for other in known..numbers.len() {
+        for other in from..numbers.len() {
             if other == agent {
                 continue;
             }
             self.add_pair_conflict(agent, number, other, numbers[other], conflicts)?;
         }
         Ok(())
-    }
-
-    /// The same as far as they are known: up to the agent that is returned.
-    fn add_known_pair_conflicts(
-        &self,
-        numbers: &[usize],
-        agent: usize,
-        number: usize,
-        from: usize,
-        conflicts: &mut Vec<PairConflict>,
-    ) -> Result<usize, NoMemory>
-        requires agents { length numbers.now ≤ most_agents }
-        requires agent { agent < length numbers.now }
-        ensures keeps { OnOk result (HasAllOf conflicts.new.items conflicts.old.items) }
-        ensures pairs { IfOk result (λ end. (k : ℕ) → from ≤ k → k < end → k ≢ agent
-            → AreMet self.now agent number k (slice_index numbers.now k) conflicts.new.items) }
-    {
-        add_known(self.times.row(number), numbers, agent, from, conflicts)
     }
 
     /// Adds the pair conflict of two agents, whose paths have these numbers, where they have a conflict.
