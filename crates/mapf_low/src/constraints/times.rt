@@ -14,14 +14,8 @@ pub(crate) fn time_at(constraint: Constraint, cell: Cell) -> Option<u32>
         Constraint::Vertex {
             cell: forbidden,
             time,
-        } => {
-            if forbidden.number() == cell.number() {
-                Some(time)
-            } else {
-                None
-            }
-        }
-        Constraint::Edge { .. } => None,
+        } if forbidden.number() == cell.number() => Some(time),
+        _ => None,
     }
 }
 

@@ -20,10 +20,7 @@ impl Query<'_> {
     fn is_late_enough(&self, cell: Cell, time: u32) -> bool
         ensures { IsTrue result ↔ MatchOption (distance_at self.now.table cell) ⊥ (λ n. n ≤ time) }
     {
-        match self.entry(cell) {
-            Some(earliest) => earliest <= time,
-            None => false,
-        }
+        matches!(self.entry(cell), Some(earliest) if earliest <= time)
     }
 
     /// Whether nothing rules out so far that the agent is on the cell at this time step: it is late enough, the cell is not
