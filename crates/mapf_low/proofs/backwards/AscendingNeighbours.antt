@@ -94,66 +94,24 @@ module _ (query : Query) (dead : List (ℕ × ℕ)) (t to : ℕ) (g : Grid) (is 
           let s : to ≡ v = cc in
           (s, (a.1.0, ((subst (IsFree query.grid) s free, free, inl (sym s)), a.1.1)))
 
-  data Way (v : ℕ) : Type 0 where
-    from_above : IsAbove query.grid to v → Way v
-    from_left : IsAtLeft query.grid to v → Way v
-    stays : IsSame query.grid to v → Way v
-    from_right : IsAtRight query.grid to v → Way v
-    from_below : IsBelow query.grid to v → Way v
-
-  way : (v : ℕ) → Enters v → Way v
-  way v (l, ((fv, ft, inl e), n)) = stays (sym e)
-  way v (l, ((fv, ft, inr (inl (inl h))), n)) = from_left h
-  way v (l, ((fv, ft, inr (inl (inr h))), n)) = from_above h
-  way v (l, ((fv, ft, inr (inr (inl h))), n)) = from_right h
-  way v (l, ((fv, ft, inr (inr (inr h))), n)) = from_below h
-
   module _ (not_above : (w : ℕ) → Enters w → ¬ IsAbove query.grid to w) where
     -- where none comes from above, the one at the left is the smallest
     left_least : (v w : ℕ) → IsAtLeft query.grid to v → Enters w → v ≤ w
-    left_least v w k p = go (way w p)
-      where
-        go : Way w → v ≤ w
-        go (from_above h) = absurd (not_above w p h)
-        go (from_left h) = omega (arith, k.0, h.0)
-        go (stays h) = omega (arith, k.0, h)
-        go (from_right h) = omega (arith, k.0, h.0)
-        go (from_below h) = omega (arith, k.0, h)
+    left_least v w k p = grind (arith, p.1.0.2, not_above w p, k.0)
 
     module _ (not_left : (w : ℕ) → Enters w → ¬ IsAtLeft query.grid to w) where
       -- then the cell itself
       same_least : (v w : ℕ) → IsSame query.grid to v → Enters w → v ≤ w
-      same_least v w k p = go (way w p)
-        where
-          go : Way w → v ≤ w
-          go (from_above h) = absurd (not_above w p h)
-          go (from_left h) = absurd (not_left w p h)
-          go (stays h) = omega (arith, k, h)
-          go (from_right h) = omega (arith, k, h.0)
-          go (from_below h) = omega (arith, k, h)
+      same_least v w k p = grind (arith, p.1.0.2, not_above w p, not_left w p, k)
 
       module _ (not_same : (w : ℕ) → Enters w → ¬ IsSame query.grid to w) where
         -- then the one at the right
         right_least : (v w : ℕ) → IsAtRight query.grid to v → Enters w → v ≤ w
-        right_least v w k p = go (way w p)
-          where
-            go : Way w → v ≤ w
-            go (from_above h) = absurd (not_above w p h)
-            go (from_left h) = absurd (not_left w p h)
-            go (stays h) = absurd (not_same w p h)
-            go (from_right h) = omega (arith, k.0, h.0)
-            go (from_below h) = omega (arith, k.0, h, subst (λ h. 0 < h.width) is sizes.some_width)
+        right_least v w k p = grind (arith, p.1.0.2, not_above w p, not_left w p, not_same w p, k.0, subst (λ h. 0 < h.width) is sizes.some_width)
 
         -- and in the end only the one below is left
         only_below : ((w : ℕ) → Enters w → ¬ IsAtRight query.grid to w) → (w : ℕ) → Enters w → IsBelow query.grid to w
-        only_below not_right w p = go (way w p)
-          where
-            go : Way w → IsBelow query.grid to w
-            go (from_above h) = absurd (not_above w p h)
-            go (from_left h) = absurd (not_left w p h)
-            go (stays h) = absurd (not_same w p h)
-            go (from_right h) = absurd (not_right w p h)
-            go (from_below h) = h
+        only_below not_right w p = grind (arith, p.1.0.2, not_above w p, not_left w p, not_same w p, not_right w p)
 
   module _ (above above_o left left_o : Option ℕ) (ask_above : OfNeighbour IsAbove above) (if_above : IfLeft above above_o) (no_above : is_some above_o ≡ false) (ask_left : OfNeighbour IsAtLeft left) (if_left : IfLeft left left_o) where
     not_above : (w : ℕ) → Enters w → ¬ IsAbove query.grid to w
