@@ -1,54 +1,34 @@
-use Rattle.std.proofs.Common.{◌≡◌, ◌↔◌, ◌⊎◌, ◌+◌, ℕ, List, length, take, Contains, inl, inr, subst, sym, ◌∙◌, arith}
+use Rattle.std.proofs.Common.{◌≡◌, ◌↔◌, ◌+◌, ℕ, length, take, Contains, subst, sym, ◌∙◌, arith}
 use Rattle.mapf_grid.specs.Grid.{Next}
 use Rattle.mapf_low.specs.declared.constraint.Constraint.TheVariants.{Edge}
+use Rattle.mapf_low.specs.Query.{Query}
 use Rattle.mapf_low.specs.Reached.{ComesFrom}
-use Rattle.mapf_low.proofs.Growing.{members_more}
 use Rattle.mapf_low.specs.Best.{IsSmallest}
-use Rattle.mapf_low.proofs.Bests.{smallest_takes, smallest_keeps, smallest_some, smallest_at}
+use Rattle.mapf_low.proofs.Bests.{front_takes, front_keeps, smallest_some, smallest_at}
 use Rattle.mapf_low.proofs.Rising.{met_before, not_true}
 use Rattle.mapf_low.proofs.reconstruction.smallest_before.Goals as goal
 use Rattle.mapf_low.proofs.reconstruction.smallest_before.Goals.{then-has+then-allows_step, else-has, else-has-via-then-has+else-allows_step, else-has-via-else-has}
 
--- the members of a longer front for which Q holds
-front_joins : (Q : ℕ → Type 0) (items : List ℕ) (k x : ℕ) → ((u : ℕ) → Contains (take (k + 1) items) u ↔ (Contains (take k items) u ⊎ (x ≡ u))) →
-    (u : ℕ) → (Contains (take (k + 1) items) u × Q u) ↔ ((Contains (take k items) u × Q u) ⊎ ((x ≡ u) × Q u))
-front_joins Q items k x h u = (λ p. to ((h u).0 p.0) p.1, from)
-  where
-    to : Contains (take k items) u ⊎ (x ≡ u) → Q u → (Contains (take k items) u × Q u) ⊎ ((x ≡ u) × Q u)
-    to (inl i) q = inl (i, q)
-    to (inr e) q = inr (e, q)
-
-    from : (Contains (take k items) u × Q u) ⊎ ((x ≡ u) × Q u) → Contains (take (k + 1) items) u × Q u
-    from (inl p) = ((h u).1 (inl p.0), p.1)
-    from (inr p) = ((h u).1 (inr p.0), p.1)
+-- it is one of P, and nothing forbids to step from it to the cell
+abbrev Steps : Query → ℕ → (ℕ → Type 0) → ℕ → ℕ → Type 0
+Steps query time P cell u = P u × (¬ Contains query.constraints (Edge u cell time))
 
 pub loop-from-preserved : goal.loop-from-preserved
 loop-from-preserved g c =
+    let items = c.as_slice-from-items.result.now in
+    let k = c.loop-from.from-index in
     elim c.if-has.branch [
       | then-has+then-allows_step w ↦
-          subst (IsSmallest (λ u. Contains (take (c.loop-from.from-index + 1) c.as_slice-from-items.result.now) u × (g.R.Reached.has c.args.reached.now c.args.time u × (¬ Contains c.args.query.now.constraints (Edge u c.args.cell (c.args.time + 1))))))
-          (sym (w.smallest-is ∙ w.smaller-smallest.ensures))
-          (smallest_takes
-          (λ u. Contains (take c.loop-from.from-index c.as_slice-from-items.result.now) u × (g.R.Reached.has c.args.reached.now c.args.time u × (¬ Contains c.args.query.now.constraints (Edge u c.args.cell (c.args.time + 1)))))
-          (λ u. g.R.Reached.has c.args.reached.now c.args.time u × (¬ Contains c.args.query.now.constraints (Edge u c.args.cell (c.args.time + 1))))
-          (λ u. Contains (take (c.loop-from.from-index + 1) c.as_slice-from-items.result.now) u × (g.R.Reached.has c.args.reached.now c.args.time u × (¬ Contains c.args.query.now.constraints (Edge u c.args.cell (c.args.time + 1)))))
-          c.loop-from.smallest c.from-item.result c.loop-from.invariant (c.has.ensures.0 w.if-has.true, w.allows_step.ensures.0 w.if-allows_step.true)
-          (front_joins (λ u. g.R.Reached.has c.args.reached.now c.args.time u × (¬ Contains c.args.query.now.constraints (Edge u c.args.cell (c.args.time + 1)))) c.as_slice-from-items.result.now c.loop-from.from-index c.from-item.result
-          (λ u. members_more c.as_slice-from-items.result.now c.loop-from.from-index c.from-item.result u c.loop-from-test.true c.from-item.is)))
+          subst (IsSmallest (λ u. Contains (take (k + 1) items) u × Steps c.args.query.now (c.args.time + 1) (g.R.Reached.has c.args.reached.now c.args.time) c.args.cell u)) (sym (w.smallest-is ∙ w.smaller-smallest.ensures))
+          (front_takes (Steps c.args.query.now (c.args.time + 1) (g.R.Reached.has c.args.reached.now c.args.time) c.args.cell) items k c.from-item.result c.loop-from-test.true c.from-item.is c.loop-from.smallest c.loop-from.invariant
+          (c.has.ensures.0 w.if-has.true, w.allows_step.ensures.0 w.if-allows_step.true))
       | else-has w ↦
-          subst (IsSmallest (λ u. Contains (take (c.loop-from.from-index + 1) c.as_slice-from-items.result.now) u × (g.R.Reached.has c.args.reached.now c.args.time u × (¬ Contains c.args.query.now.constraints (Edge u c.args.cell (c.args.time + 1))))))
-          (sym w.smallest-is)
-          (smallest_keeps
-          (λ u. Contains (take c.loop-from.from-index c.as_slice-from-items.result.now) u × (g.R.Reached.has c.args.reached.now c.args.time u × (¬ Contains c.args.query.now.constraints (Edge u c.args.cell (c.args.time + 1)))))
-          (λ u. g.R.Reached.has c.args.reached.now c.args.time u × (¬ Contains c.args.query.now.constraints (Edge u c.args.cell (c.args.time + 1))))
-          (λ u. Contains (take (c.loop-from.from-index + 1) c.as_slice-from-items.result.now) u × (g.R.Reached.has c.args.reached.now c.args.time u × (¬ Contains c.args.query.now.constraints (Edge u c.args.cell (c.args.time + 1)))))
-          c.loop-from.smallest c.from-item.result c.loop-from.invariant
+          subst (IsSmallest (λ u. Contains (take (k + 1) items) u × Steps c.args.query.now (c.args.time + 1) (g.R.Reached.has c.args.reached.now c.args.time) c.args.cell u)) (sym w.smallest-is)
+          (front_keeps (Steps c.args.query.now (c.args.time + 1) (g.R.Reached.has c.args.reached.now c.args.time) c.args.cell) items k c.from-item.result c.loop-from-test.true c.from-item.is c.loop-from.smallest c.loop-from.invariant
           (elim w.else-has.branch [
             | else-has-via-then-has+else-allows_step x ↦ (λ q. not_true x.allows_step.result (¬ Contains c.args.query.now.constraints (Edge c.from-item.result c.args.cell (c.args.time + 1))) x.allows_step.ensures x.if-allows_step.false q.1)
             | else-has-via-else-has x ↦ (λ q. not_true c.has.result (g.R.Reached.has c.args.reached.now c.args.time c.from-item.result) c.has.ensures x.if-has.false q.0)
-          ])
-          (front_joins (λ u. g.R.Reached.has c.args.reached.now c.args.time u × (¬ Contains c.args.query.now.constraints (Edge u c.args.cell (c.args.time + 1)))) c.as_slice-from-items.result.now c.loop-from.from-index c.from-item.result
-          (λ u. members_more c.as_slice-from-items.result.now c.loop-from.from-index c.from-item.result u c.loop-from-test.true c.from-item.is)))
+          ]))
     ]
 
 pub unwrap-requires : goal.unwrap-requires
