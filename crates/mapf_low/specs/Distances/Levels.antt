@@ -31,6 +31,10 @@ pub record Marks (S : ℕ → Type 0) (distance : ℕ) (old new : List (Option �
 abbrev pub distances_of : List Mark → List (Option ℕ)
 distances_of marks = map distance_of marks
 
+-- each cell of the set S has been seen now, those that were unseen at this distance
+abbrev pub AreSeen : (S : ℕ → Type 0) (distance : ℕ) (old new : List Mark) (old_cells new_cells : List ℕ) → Type 0
+AreSeen S distance old new old_cells new_cells = Marks S distance (distances_of old) (distances_of new) old_cells new_cells
+
 abbrev pub IsUnseen : List Mark → ℕ → Type 0
 IsUnseen marks c = slice_index_or marks c blocked ≡ unseen
 

@@ -1,5 +1,5 @@
 ghost use Rattle.std.specs.Prelude.{◌≡◌, ◌<◌, ◌+◌, ◌^◌, ◌↔◌, IsTrue};
-ghost use Rattle.mapf_low.specs.Distances.Mark.{blocked, unseen, seen, first_mark, distance_of};
+ghost use Rattle.mapf_low.specs.Distances.Mark.{unseen, seen, first_mark, distance_of};
 
 use std::marker::Model;
 
@@ -23,14 +23,7 @@ impl Model for Mark {
 }
 
 impl Mark {
-    /// Of a blocked cell.
-    pub(crate) fn blocked() -> Self
-        ensures { result ≡ blocked }
-    {
-        Mark { number: 0 }
-    }
-
-    /// Of a cell before a search.
+    /// Of a cell before a search, free or blocked.
     pub(crate) fn first(is_free: bool) -> Self
         ensures { result ≡ first_mark is_free }
     {

@@ -27,7 +27,7 @@ impl Table {
         ensures { IfOk result (λ t. t ≡ replicate cells None) }
     {
         Ok(Table {
-            marks: vec![in alloc; Mark::blocked(); cells as usize]?,
+            marks: vec![in alloc; Mark::first(false); cells as usize]?,
         })
     }
 

@@ -5,5 +5,5 @@ use Rattle.mapf_low.proofs.distances.table.Table.none.Goals as goal
 
 pub returns : goal.returns
 returns c =
-    let blocked = rw c.blocked.ensures at c.in_ok-vec.ensures.items_if_clones_equal (λ y h. search rules) in
+    let blocked = rw c.first.ensures at c.in_ok-vec.ensures.items_if_clones_equal (λ y h. search rules) in
     ap distances_of blocked ∙ distances_blocked c.args.cells
