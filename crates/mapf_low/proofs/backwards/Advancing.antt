@@ -2,7 +2,7 @@
 use Rattle.std.proofs.Common.{◌≡◌, ◌≢◌, ◌⊎◌, ℕ, zero, suc, ◌+◌, ◌<◌, ◌≤◌, Bool, true, false, List, [], ◌∷◌, ◌++◌, length, take, replicate, set, get_or, Option, Some, None, MatchOption, Contains, inl, inr, subst, sym, refl, ap, ◌∙◌, ⊎_elim, arith, get_or-set_same, get_or-set_other}
 use mathlib.Core.Bool.{◌&&◌}
 use Rattle.std.proofs.lemmas.Bool.{cases_lt, cases_eq}
-use Rattle.std.proofs.lemmas.List.{length-set, length-replicate, get_or-replicate, get_or_past}
+use Rattle.std.proofs.lemmas.List.{length-set, length-replicate}
 use Rattle.std.proofs.lemmas.List.Elements.{Contains-append_left, Contains-push, Contains-push_cases}
 use Rattle.mapf_grid.specs.Grid.{Grid, IsFree, IsBeside}
 use Rattle.mapf_low.specs.declared.constraint.Constraint.{Constraint}
@@ -13,6 +13,7 @@ use Rattle.mapf_low.specs.Distances.Levels.{IsFreeNeighbour}
 use Rattle.mapf_low.specs.Query.{Query}
 use Rattle.mapf_low.specs.Walk.{distance_at}
 use Rattle.mapf_low.proofs.Growing.{members_more, all_in_front}
+use Rattle.mapf_low.proofs.distances.LevelSearch.{none_in_replicate}
 use Rattle.mapf_low.proofs.backwards.OutOfReach.{can_before, can_allowed}
 
 module _ (g : Grid) (time : ℕ) where
@@ -140,13 +141,7 @@ module _ (query : Query) where
     size = ap length is ∙ length-replicate (length query.grid.free) None
 
     none : (v : ℕ) → distance_at empty v ≡ None
-    none v = subst (λ (t : List (Option ℕ)). distance_at t v ≡ None) (sym is) (go (cases_lt v (length query.grid.free)))
-      where
-        go : (v < length query.grid.free) ⊎ (length query.grid.free ≤ v) → get_or {A = Option ℕ} (replicate (length query.grid.free) None) v None ≡ None
-        go (inl l) = get_or-replicate (length query.grid.free) v None None l
-        go (inr past) =
-            let over : length (replicate {A = Option ℕ} (length query.grid.free) None) ≤ v = rw length-replicate past in
-            get_or_past (replicate (length query.grid.free) None) v None over
+    none v = subst (λ (t : List (Option ℕ)). distance_at t v ≡ None) (sym is) (none_in_replicate (length query.grid.free) v)
 
     -- the start alone, at time 0
     pub advanced_first : IsFree query.grid query.start → query.start < length query.grid.free →

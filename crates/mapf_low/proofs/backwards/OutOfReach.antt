@@ -1,8 +1,8 @@
 -- Where an agent may be at a time step, whatever its cost; and what a search backwards may rule out.
-use Rattle.std.proofs.Common.{◌≡◌, ◌⊎◌, ℕ, zero, suc, ◌<◌, ◌≤◌, ◌+◌, List, [], ◌∷◌, ◌++◌, length, slice_index, Option, Some, None, MatchOption, Contains, length-append, inl, inr, subst, subst₂, sym, refl, ap, ◌∙◌, arith}
-use Rattle.std.proofs.lemmas.Bool.{cases_lt}
+use Rattle.std.proofs.Common.{◌≡◌, ℕ, zero, suc, ◌<◌, ◌≤◌, ◌+◌, List, [], ◌∷◌, ◌++◌, length, slice_index, Option, Some, None, MatchOption, Contains, length-append, subst, subst₂, sym, refl, ap, ◌∙◌, arith}
 use Rattle.std.proofs.lemmas.List.{get_or_push, get_or_append_left}
 use Rattle.mapf_grid.specs.Grid.{IsFree, HasSizes}
+use Rattle.mapf_grid.proofs.Decide.{up_to}
 use Rattle.mapf_plan.specs.Path.{cost, at}
 use Rattle.mapf_low.specs.declared.constraint.Constraint.TheVariants.{Vertex}
 use Rattle.mapf_low.specs.Backwards.Tracing.{CanBe, IsLeft, AreDead}
@@ -98,14 +98,10 @@ longer query t u v q h c = record { long = length-append q (v ∷ []) ∙ ap (λ
     first k l = get_or_append_left q (v ∷ []) 0 k (omega (arith, l, h.long))
 
     back : (k : ℕ) → k < t + 1 → ComesFrom query (k + 1) (CanBe query k) (slice_index (q ++ v ∷ []) (k + 1)) (slice_index (q ++ v ∷ []) k)
-    back k l = go (cases_lt k t)
-      where
-        go : (k < t) ⊎ (t ≤ k) → ComesFrom query (k + 1) (CanBe query k) (slice_index (q ++ v ∷ []) (k + 1)) (slice_index (q ++ v ∷ []) k)
-        go (inl m) = subst₂ (λ x y. ComesFrom query (k + 1) (CanBe query k) x y) (sym (first (k + 1) (omega (arith, m)))) (sym (first k l)) (h.back k m)
-        go (inr m) =
-            let n : t ≡ k = omega (arith, l, m) in
-            subst (λ j. ComesFrom query (j + 1) (CanBe query j) (slice_index (q ++ v ∷ []) (j + 1)) (slice_index (q ++ v ∷ []) j)) n
-            (subst₂ (λ x y. ComesFrom query (t + 1) (CanBe query t) x y) (sym last) (sym (first t (omega arith) ∙ h.ends)) c)
+    back k l =
+        up_to (λ j. ComesFrom query (j + 1) (CanBe query j) (slice_index (q ++ v ∷ []) (j + 1)) (slice_index (q ++ v ∷ []) j)) t k l
+        (λ m. subst₂ (λ x y. ComesFrom query (k + 1) (CanBe query k) x y) (sym (first (k + 1) (omega (arith, m)))) (sym (first k l)) (h.back k m))
+        (subst₂ (λ x y. ComesFrom query (t + 1) (CanBe query t) x y) (sym last) (sym (first t (omega arith) ∙ h.ends)) c)
 
 trail_to : (query : Query) (t v : ℕ) → CanBe query t v → (q : List ℕ) × IsTrailTo query v q t
 trail_to query zero v i = (v ∷ [], record { long = refl; ends = refl; back = λ t l. absurd (omega (arith, l)) })

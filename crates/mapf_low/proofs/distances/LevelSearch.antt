@@ -39,7 +39,7 @@ level_inside g goal n table level sizes l k d inside =
     omega (arith, slice_get_within g.free cell true free, sizes)
 
 -- an empty table has no distance at any place
-none_in_replicate : (n c : ℕ) → get_or {A = Option ℕ} (replicate n None) c None ≡ None
+pub none_in_replicate : (n c : ℕ) → get_or {A = Option ℕ} (replicate n None) c None ≡ None
 none_in_replicate n c = go (cases_lt c n)
   where
     go : (c < n) ⊎ (n ≤ c) → get_or {A = Option ℕ} (replicate n None) c None ≡ None
