@@ -10,10 +10,8 @@ ghost use Rattle.mapf_low.specs.Constraints.{IsAllowed};
 ghost use Rattle.mapf_low.specs.OwnPath.{IsOwnPath};
 ghost use Rattle.mapf_plan.specs.Plan.{most_bound};
 
-mod cell_hasher;
 mod chain;
 mod expansion;
-mod f_level;
 mod searched;
 mod states;
 pub(crate) mod taken;

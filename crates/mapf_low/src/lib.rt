@@ -3,6 +3,7 @@
 
 mod backwards;
 mod by_layers;
+mod cell_set;
 mod constraint;
 mod constraints;
 mod distances;

@@ -7,6 +7,7 @@ ghost use Rattle.mapf_plan.specs.Plan.{most_bound};
 mod backwards;
 
 use crate::Constraints;
+use crate::cell_set::CellSet;
 use crate::constraints::times::{busy_times, is_busy, is_past};
 use crate::distances::table::Table;
 use mapf_grid::{Cell, Map, NoMemory};
@@ -186,5 +187,12 @@ impl<'a> Query<'a> {
         ensures { IsTrue result ↔ MayEnd self.now time }
     {
         is_past(self.last, time)
+    }
+
+    /// Whether a path can end at this time step, when the agent may be on these cells.
+    pub(crate) fn can_end(&self, cells: &CellSet, time: u32) -> bool
+        ensures { IsTrue result ↔ (Contains cells.now self.now.goal × MayEnd self.now time) }
+    {
+        self.may_end(time) && cells.contains(self.goal)
     }
 }

@@ -1,13 +1,14 @@
 -- A table of distances and a list of cells to come, as cells are marked one after another.
-use Rattle.std.proofs.Common.{◌≡◌, ◌≢◌, ◌⊎◌, ◌↔◌, ℕ, ◌+◌, ◌/◌, ◌^◌, ◌<◌, true, false, cond, List, [], ◌∷◌, ◌++◌, length, take, Option, Some, None, get_or, set, inl, inr, refl, sym, ◌∙◌, subst, ⊎_elim, arith, get_or-set_same, get_or-set_other}
+use Rattle.std.proofs.Common.{◌≡◌, ◌≢◌, ◌⊎◌, ◌↔◌, ℕ, ◌+◌, ◌/◌, ◌^◌, ◌<◌, true, false, cond, List, [], ◌∷◌, ◌++◌, length, take, Option, Some, None, get_or, set, inl, inr, refl, sym, ◌∙◌, subst, arith, get_or-set_same, get_or-set_other}
 use Rattle.std.specs.Option.{is_none, is_some}
 use Rattle.std.specs.List.{Contains}
 use Rattle.std.proofs.lemmas.Bool.{cases_eq}
-use Rattle.std.proofs.lemmas.List.{take_more, length_push, length-set}
+use Rattle.std.proofs.lemmas.List.{length_push, length-set}
 use Rattle.std.proofs.lemmas.List.Elements.{Contains-append_left, Contains-push, Contains-push_cases}
 use Rattle.std.proofs.lemmas.List.Sums.{sum_by-set}
 use Rattle.mapf_grid.specs.Grid.{Grid, IsFree, HasSizes}
 use Rattle.mapf_low.specs.Distances.Levels.{IsFreeNeighbour, unmarked, Marks}
+use Rattle.mapf_low.proofs.Growing.{FromSome, from_more}
 use Rattle.mapf_low.proofs.Places.{few_cells, free_below}
 
 -- an entry of the table that is nothing
@@ -136,28 +137,12 @@ Marks-both S T distance a b c x y z first second = record {
     listed k (inl i) = listed_first k (first.listed k i)
     listed k (inr e) = inr e
 
--- v is related to one of these cells
-abbrev pub FromSome : (ℕ → ℕ → Type 0) → List ℕ → ℕ → Type 0
-FromSome R cells v = (u : ℕ) × Contains cells u × R u v
-
 -- what is marked from the first cells, and then from the next one
 pub Marks-from_more : (R : ℕ → ℕ → Type 0) (distance : ℕ) (a b c : List (Option ℕ)) (x y z cells : List ℕ) (i cell : ℕ) → i < length cells → cell ≡ get_or cells i cell →
     Marks (FromSome R (take i cells)) distance a b x y → Marks (R cell) distance b c y z → Marks (FromSome R (take (i + 1) cells)) distance a c x z
 Marks-from_more R distance a b c x y z cells i cell inside is first second =
-    Marks-same (λ v. FromSome R (take i cells) v ⊎ R cell v) (FromSome R (take (i + 1) cells)) distance a c x z same (Marks-both (FromSome R (take i cells)) (R cell) distance a b c x y z first second)
-  where
-    more : take (i + 1) cells ≡ take i cells ++ cell ∷ []
-    more = subst (λ k. take (i + 1) cells ≡ take i cells ++ k ∷ []) (sym is) (take_more cells i cell inside)
-
-    to : (v : ℕ) → FromSome R (take i cells) v ⊎ R cell v → FromSome R (take i cells ++ cell ∷ []) v
-    to v (inl (u, h, r)) = (u, Contains-append_left (take i cells) (cell ∷ []) u h, r)
-    to v (inr r) = (cell, Contains-push (take i cells) cell, r)
-
-    from : (v : ℕ) → FromSome R (take i cells ++ cell ∷ []) v → FromSome R (take i cells) v ⊎ R cell v
-    from v (u, h, r) = ⊎_elim (λ j. inl (u, j, r)) (λ e. inr (subst (λ k. R k v) (sym e) r)) (Contains-push_cases (take i cells) cell u h)
-
-    same : (v : ℕ) → (FromSome R (take i cells) v ⊎ R cell v) ↔ FromSome R (take (i + 1) cells) v
-    same v = rw more (to v, from v)
+    Marks-same (λ v. FromSome R (take i cells) v ⊎ R cell v) (FromSome R (take (i + 1) cells)) distance a c x z (λ v. from_more R cells i cell v inside is)
+    (Marks-both (FromSome R (take i cells)) (R cell) distance a b c x y z first second)
 
 -- the neighbours of a cell, marked one after another
 pub Marks-four : (A B C D S : ℕ → Type 0) (distance : ℕ) (t a b c d : List (Option ℕ)) (x i j k l : List ℕ) →

@@ -1,5 +1,5 @@
 -- An f-level that is emptied, cell by cell, and the later f-levels that its cells lead to.
-use Rattle.std.proofs.Common.{◌≡◌, ◌⊎◌, ℕ, ◌+◌, ◌<◌, ◌≤◌, eqb, List, length, take, get_or, Contains, inl, inr, subst, sym, refl, ap, ◌∙◌, arith}
+use Rattle.std.proofs.Common.{◌≡◌, ◌⊎◌, ℕ, ◌+◌, ◌<◌, ◌≤◌, eqb, List, length, take, get_or, Contains, inl, inr, subst, sym, ap, ◌∙◌, arith}
 use Rattle.std.specs.List.{IsDistinct}
 use Rattle.std.proofs.lemmas.Bool.{eqb-true}
 use Rattle.std.proofs.lemmas.List.{take_all, take-append-le}
@@ -8,8 +8,7 @@ use Rattle.indexmap.proofs.CallerLemmas.{Contains-list_any}
 use Rattle.mapf_grid.specs.Grid.{IsFree, cells, HasSizes}
 use Rattle.mapf_low.specs.Query.{Query}
 use Rattle.mapf_low.specs.Forwards.FLevels.{Grows, IsWithin, Leads, SomeLeads, Closes, ArePlaced}
-use Rattle.mapf_low.proofs.Growing.{members_more, none_in_front, all_in_front}
-use Rattle.mapf_low.proofs.forwards.Grown.{grows_as, grows_both, grows_not}
+use Rattle.mapf_low.proofs.Growing.{members_more, none_in_front}
 use Rattle.mapf_low.proofs.forwards.Leading.{placed_next}
 
 -- the first cells of the f-level are done with
@@ -73,32 +72,3 @@ module _ (query : Query) (sum : ℕ) where
     where
       whole : take place xs ≡ xs
       whole = take_all place xs past
-
-  -- the cells that some of these lead to
-  abbrev From : ℕ → List ℕ → ℕ → Type 0
-  From more level v = SomeLeads query sum more level v
-
-  pub some_none : (more : ℕ) (level old : List ℕ) → Grows (SomeLeads query sum more (take 0 level)) old old
-  some_none more level old = grows_not (From more (take 0 level)) old (λ v s. absurd (none_in_front level s.0 s.1))
-
-  pub some_more : (more k x : ℕ) (level old mid new : List ℕ) → k < length level → x ≡ get_or level k x → Grows (SomeLeads query sum more (take k level)) old mid →
-      Grows (Leads query sum more x) mid new → Grows (SomeLeads query sum more (take (k + 1) level)) old new
-  some_more more k x level old mid new l is h one =
-      grows_as (λ v. From more (take k level) v ⊎ Leads query sum more x v) (From more (take (k + 1) level)) old new (λ v. (to v, from v))
-      (grows_both (From more (take k level)) (Leads query sum more x) old mid new h one)
-    where
-      to : (v : ℕ) → From more (take k level) v ⊎ Leads query sum more x v → From more (take (k + 1) level) v
-      to v (inl (u, i, s)) = (u, (members_more level k x u l is).1 (inl i), s)
-      to v (inr s) = (x, (members_more level k x x l is).1 (inr refl), s)
-
-      either : (u v : ℕ) → Contains (take k level) u ⊎ (x ≡ u) → Leads query sum more u v → From more (take k level) v ⊎ Leads query sum more x v
-      either u v (inl i) s = inl (u, i, s)
-      either u v (inr e) s = inr (subst (λ w. Leads query sum more w v) (sym e) s)
-
-      from : (v : ℕ) → From more (take (k + 1) level) v → From more (take k level) v ⊎ Leads query sum more x v
-      from v (u, i, s) = either u v ((members_more level k x u l is).0 i) s
-
-  pub some_all : (more k : ℕ) (level old new : List ℕ) → k ≡ length level → Grows (SomeLeads query sum more (take k level)) old new → Grows (SomeLeads query sum more level) old new
-  some_all more k level old new e h =
-      grows_as (From more (take k level)) (From more level) old new
-      (λ v. ((λ s. (s.0, (all_in_front level k s.0 e).0 s.1, s.2)), λ s. (s.0, (all_in_front level k s.0 e).1 s.1, s.2))) h

@@ -1,12 +1,13 @@
 -- Lists of distinct cells that grow.
-use Rattle.std.proofs.Common.{◌≡◌, ◌⊎◌, ◌↔◌, ℕ, Bool, true, false, List, [], ◌∷◌, ◌++◌, if◌then◌else◌, IsTrue, Contains, inl, inr, subst, sym, refl, ap, ◌∙◌}
+use Rattle.std.proofs.Common.{◌≡◌, ◌⊎◌, ◌↔◌, ℕ, ◌+◌, ◌<◌, Bool, true, false, List, [], ◌∷◌, ◌++◌, length, take, get_or, if◌then◌else◌, IsTrue, Contains, inl, inr, subst, sym, refl, ap, ◌∙◌}
 use Rattle.std.specs.List.{list_any}
+use Rattle.std.proofs.Math.Seq.{take-length}
 use Rattle.std.proofs.lemmas.List.{append-nil, append_assoc}
 use Rattle.std.proofs.lemmas.List.Folds.{list_any_at}
 use Rattle.indexmap.specs.IndexSet.{insert_key}
 use Rattle.indexmap.proofs.CallerLemmas.{Contains-list_any}
 use Rattle.mapf_low.specs.Forwards.FLevels.{IsAdded, Grows}
-use Rattle.mapf_low.proofs.Growing.{members_push}
+use Rattle.mapf_low.proofs.Growing.{members_push, none_in_front, FromSome, from_more}
 
 module _ {X : Type 0} (eq : X → X → Bool) (same : (x y : X) → eq x y ≡ true → x ≡ y) (itself : (x : X) → eq x x ≡ true) where
   -- what an insert leaves
@@ -74,3 +75,22 @@ grows_both E F a b c h k = record {
     from v (inl i) = (k.members v).1 (inl ((h.members v).1 (inl i)))
     from v (inr (inl e)) = (k.members v).1 (inl ((h.members v).1 (inr e)))
     from v (inr (inr f)) = (k.members v).1 (inr f)
+
+module _ (R : ℕ → ℕ → Type 0) where
+  -- a list that grows by what each of these items leads to
+  pub some_none : (items old : List ℕ) → Grows (FromSome R (take 0 items)) old old
+  some_none items old = grows_not (FromSome R (take 0 items)) old (λ v s. absurd (none_in_front items s.0 s.1))
+
+  pub some_more : (items old mid new : List ℕ) (k x : ℕ) → k < length items → x ≡ get_or items k x → Grows (FromSome R (take k items)) old mid → Grows (R x) mid new → Grows (FromSome R (take (k + 1) items)) old new
+  some_more items old mid new k x l is h one =
+      grows_as (λ v. FromSome R (take k items) v ⊎ R x v) (FromSome R (take (k + 1) items)) old new (λ v. from_more R items k x v l is)
+      (grows_both (FromSome R (take k items)) (R x) old mid new h one)
+
+  pub some_all : (items old new : List ℕ) (k : ℕ) → k ≡ length items → Grows (FromSome R (take k items)) old new → Grows (FromSome R items) old new
+  some_all items old new k e h = subst (λ xs. Grows (FromSome R xs) old new) (ap (λ n. take n items) e ∙ take-length items) h
+
+-- where each leads to itself at most
+pub some_itself : (E : ℕ → Type 0) (items old new : List ℕ) → Grows (FromSome (λ u v. (u ≡ v) × E v) items) old new → Grows (λ v. Contains items v × E v) old new
+some_itself E items old new h =
+    grows_as (FromSome (λ u v. (u ≡ v) × E v) items) (λ v. Contains items v × E v) old new
+    (λ v. ((λ s. (subst (Contains items) s.2.0 s.1, s.2.1)), (λ p. (v, p.0, (refl, p.1))))) h

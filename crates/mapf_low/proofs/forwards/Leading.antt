@@ -1,10 +1,9 @@
 -- Where the cells of an f-level lead.
 use Rattle.mapf_low.specs.Walk.{distance_at}
-use Rattle.std.proofs.Common.{◌≡◌, ◌⊎◌, ◌↔◌, ℕ, ◌+◌, ◌-◌, ◌<◌, ◌≤◌, List, length, take, get_or, Option, Some, MatchOption, Contains, inl, inr, subst, sym, ap, ◌∙◌, arith}
+use Rattle.std.proofs.Common.{◌≡◌, ◌⊎◌, ◌↔◌, ℕ, ◌+◌, ◌-◌, ◌<◌, ◌≤◌, List, Option, Some, MatchOption, Contains, inl, inr, subst, sym, ap, ◌∙◌, arith}
 use Rattle.mapf_grid.specs.Grid.{IsFree, IsBeside, Next, cells, HasSizes}
 use Rattle.mapf_low.specs.Query.{Query}
 use Rattle.mapf_low.specs.Forwards.FLevels.{Grows, IsWithin, Admits, Leads}
-use Rattle.mapf_low.proofs.Growing.{members_more, none_in_front, all_in_front}
 use Rattle.mapf_low.proofs.forwards.Grown.{grows_as, grows_both, grows_not}
 use Rattle.mapf_low.proofs.Places.{free_below}
 
@@ -13,29 +12,9 @@ pub same_distance : (o : Option ℕ) (m n : ℕ) → o ≡ Some m → o ≡ Some
 same_distance o m n e f = cc
 
 module _ (query : Query) (t far u : ℕ) where
-  -- the neighbours alone, one after another
+  -- the neighbours alone
   abbrev FitsBeside : List ℕ → ℕ → Type 0
   FitsBeside neighbours v = Contains neighbours v × Admits query t far u v
-
-  pub neighbours_none : (neighbours old : List ℕ) → Grows (λ v. Contains (take 0 neighbours) v × Admits query t far u v) old old
-  neighbours_none neighbours old = grows_not (FitsBeside (take 0 neighbours)) old (λ v p. absurd (none_in_front neighbours v p.0))
-
-  pub neighbours_more : (neighbours old mid new : List ℕ) (k x : ℕ) → k < length neighbours → x ≡ get_or neighbours k x → Grows (λ v. Contains (take k neighbours) v × Admits query t far u v) old mid →
-      Grows (λ v. (x ≡ v) × Admits query t far u v) mid new → Grows (λ v. Contains (take (k + 1) neighbours) v × Admits query t far u v) old new
-  neighbours_more neighbours old mid new k x l is h one =
-      grows_as (λ v. FitsBeside (take k neighbours) v ⊎ ((x ≡ v) × Admits query t far u v)) (FitsBeside (take (k + 1) neighbours)) old new (λ v. (to v, λ p. from v ((members_more neighbours k x v l is).0 p.0) p.1))
-      (grows_both (FitsBeside (take k neighbours)) (λ v. (x ≡ v) × Admits query t far u v) old mid new h one)
-    where
-      to : (v : ℕ) → FitsBeside (take k neighbours) v ⊎ ((x ≡ v) × Admits query t far u v) → FitsBeside (take (k + 1) neighbours) v
-      to v (inl p) = ((members_more neighbours k x v l is).1 (inl p.0), p.1)
-      to v (inr p) = ((members_more neighbours k x v l is).1 (inr p.0), p.1)
-
-      from : (v : ℕ) → Contains (take k neighbours) v ⊎ (x ≡ v) → Admits query t far u v → FitsBeside (take k neighbours) v ⊎ ((x ≡ v) × Admits query t far u v)
-      from v (inl i) a = inl (i, a)
-      from v (inr e) a = inr (e, a)
-
-  pub neighbours_all : (neighbours old new : List ℕ) (k : ℕ) → k ≡ length neighbours → Grows (λ v. Contains (take k neighbours) v × Admits query t far u v) old new → Grows (λ v. Contains neighbours v × Admits query t far u v) old new
-  neighbours_all neighbours old new k e h = grows_as (FitsBeside (take k neighbours)) (FitsBeside neighbours) old new (λ v. ((λ p. ((all_in_front neighbours k v e).0 p.0, p.1)), λ p. ((all_in_front neighbours k v e).1 p.0, p.1))) h
 
   abbrev WithItself : List ℕ → ℕ → Type 0
   WithItself neighbours v = ((u ≡ v) ⊎ Contains neighbours v) × Admits query t far u v

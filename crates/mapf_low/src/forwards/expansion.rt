@@ -5,7 +5,7 @@ ghost use Rattle.mapf_low.specs.Query.{IsPosed};
 ghost use Rattle.mapf_low.specs.Forwards.FLevels.{Grows, IsWithin, Admits, Leads, SomeLeads, Closes, ArePlaced};
 ghost use Rattle.mapf_plan.specs.Plan.{most_bound};
 
-use crate::forwards::f_level::FLevel;
+use crate::cell_set::CellSet;
 use crate::query::Query;
 use mapf_grid::{Cell, NoMemory};
 
@@ -14,10 +14,7 @@ use mapf_grid::{Cell, NoMemory};
 pub(crate) fn is_at(query: &Query, cell: Cell, far: u32) -> bool
     ensures { IsTrue result ↔ (distance_at query.now.table cell ≡ Some far) }
 {
-    match query.entry(cell) {
-        Some(distance) => distance == far,
-        None => false,
-    }
+    matches!(query.entry(cell), Some(distance) if distance == far)
 }
 
 /// Generates a state: adds a cell to the f-level, if it is this far from the goal and nothing forbids to arrive on it at this
@@ -29,7 +26,7 @@ fn generate(
     to: Cell,
     time: u32,
     far: u32,
-    level: &mut FLevel,
+    level: &mut CellSet,
 ) -> Result<(), NoMemory>
     requires { time ≤ query.now.limit + 1 }
     ensures { OnOk result (Grows (λ v. (to ≡ v) × Admits query.now time far from v) level.old level.new) }
@@ -48,7 +45,7 @@ fn generate_all(
     neighbours: &[Cell],
     time: u32,
     far: u32,
-    level: &mut FLevel,
+    level: &mut CellSet,
 ) -> Result<(), NoMemory>
     requires { time ≤ query.now.limit + 1 }
     ensures { OnOk result
@@ -62,7 +59,7 @@ fn generate_all(
 
 /// Expands a state within its f-level: adds the cells that it leads to with the same sum.
 #[inline]
-fn expand_within(query: &Query, sum: u32, from: Cell, level: &mut FLevel) -> Result<(), NoMemory>
+fn expand_within(query: &Query, sum: u32, from: Cell, level: &mut CellSet) -> Result<(), NoMemory>
     requires free { IsFree query.now.grid from }
     requires near { IsWithin query.now sum from }
     requires sum { sum ≤ query.now.limit }
@@ -80,7 +77,7 @@ fn expand_within(query: &Query, sum: u32, from: Cell, level: &mut FLevel) -> Res
 }
 
 /// Empties an f-level: expands all its states within it.
-pub(crate) fn expand_level(query: &Query, sum: u32, level: &mut FLevel) -> Result<(), NoMemory>
+pub(crate) fn expand_level(query: &Query, sum: u32, level: &mut CellSet) -> Result<(), NoMemory>
     requires posed { IsPosed query.now }
     requires placed { ArePlaced query.now sum level.old }
     requires sum { sum ≤ query.now.limit }
@@ -102,8 +99,8 @@ fn expand_beyond(
     query: &Query,
     sum: u32,
     from: Cell,
-    next: &mut FLevel,
-    after: &mut FLevel,
+    next: &mut CellSet,
+    after: &mut CellSet,
 ) -> Result<(), NoMemory>
     requires free { IsFree query.now.grid from }
     requires near { IsWithin query.now sum from }
@@ -127,9 +124,9 @@ fn expand_beyond(
 pub(crate) fn fill_later_levels(
     query: &Query,
     sum: u32,
-    level: &FLevel,
-    next: &mut FLevel,
-    after: &mut FLevel,
+    level: &CellSet,
+    next: &mut CellSet,
+    after: &mut CellSet,
 ) -> Result<(), NoMemory>
     requires placed { ArePlaced query.now sum level.now }
     requires sum { sum ≤ query.now.limit }

@@ -1,9 +1,9 @@
-ghost use Rattle.std.specs.Prelude.{◌≡◌, ◌↔◌, IsTrue, IfOk, Contains};
-ghost use Rattle.mapf_low.specs.Query.{IsPosed, HasDistances, MayEnd};
+ghost use Rattle.std.specs.Prelude.{◌≡◌, IfOk};
+ghost use Rattle.mapf_low.specs.Query.{IsPosed, HasDistances};
 ghost use Rattle.mapf_low.specs.Forwards.FLevels.{IsSearched};
 
+use crate::cell_set::CellSet;
 use crate::forwards::expansion::{expand_level, fill_later_levels};
-use crate::forwards::f_level::FLevel;
 use crate::query::Query;
 use mapf_grid::NoMemory;
 use std::alloc::Global;
@@ -13,13 +13,13 @@ use std::alloc::Global;
 #[derive(Drop)]
 pub(crate) struct Searched {
     pub(crate) nearest: u32,
-    pub(crate) levels: Vec<FLevel>,
+    pub(crate) levels: Vec<CellSet>,
     pub(crate) end: Option<u32>,
 }
 
 impl Searched {
     /// A search that emptied these f-levels and ends with this sum, or with none.
-    fn of(nearest: u32, levels: Vec<FLevel>, end: Option<u32>) -> Searched
+    fn of(nearest: u32, levels: Vec<CellSet>, end: Option<u32>) -> Searched
         ensures nearest { result.nearest ≡ nearest }
         ensures levels { result.levels.items ≡ levels.items }
         ensures end { result.end ≡ end }
@@ -30,13 +30,6 @@ impl Searched {
             end,
         }
     }
-}
-
-/// Whether the agent can end in an f-level of this sum.
-fn can_end(query: &Query, level: &FLevel, sum: u32) -> bool
-    ensures { IsTrue result ↔ (Contains level.now query.now.goal × MayEnd query.now sum) }
-{
-    query.may_end(sum) && level.contains(query.goal())
 }
 
 /// For how many cells the first f-level gets room, by the distance from the start to the goal: on open ground the shortest
@@ -64,14 +57,14 @@ pub(crate) fn search(alloc: Global, query: &Query) -> Result<Searched, NoMemory>
         });
     }
     let nearest = query.entry(start).unwrap();
-    let mut now = FLevel::new(alloc);
-    let mut next = FLevel::new(alloc);
-    let mut after = FLevel::new(alloc);
+    let mut now = CellSet::new(alloc);
+    let mut next = CellSet::new(alloc);
+    let mut after = CellSet::new(alloc);
     now.make_room(first_room(nearest))?;
     now.add(start)?;
     for sum in nearest..limit + 1 {
         expand_level(query, sum, &mut now)?;
-        if can_end(query, &now, sum) {
+        if query.can_end(&now, sum) {
             levels.push(now)?;
             return Ok(Searched::of(nearest, levels, Some(sum)));
         }
@@ -82,7 +75,7 @@ pub(crate) fn search(alloc: Global, query: &Query) -> Result<Searched, NoMemory>
         }
         now = next;
         next = after;
-        after = FLevel::new(alloc);
+        after = CellSet::new(alloc);
     }
     Ok(Searched::of(nearest, levels, None))
 }

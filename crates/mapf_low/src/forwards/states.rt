@@ -1,13 +1,10 @@
-ghost use Rattle.std.specs.Prelude.{◌≢◌, ℕ, ◌-◌, ◌<◌, ◌≤◌, ◌↔◌, IsTrue, OnOk, Contains};
-ghost use Rattle.std.specs.List.{AllPairs};
-ghost use Rattle.mapf_low.specs.Forwards.FLevels.{IsWithin, level_at, InFLevels};
-ghost use Rattle.mapf_low.specs.Forwards.Taken.{HasSum, Lists};
+ghost use Rattle.std.specs.Prelude.{◌-◌, ◌≤◌, ◌↔◌, IsTrue, Contains};
+ghost use Rattle.mapf_low.specs.Forwards.FLevels.{level_at, InFLevels};
 
-use crate::forwards::f_level::FLevel;
 use crate::forwards::searched::Searched;
 use crate::query::Query;
 use crate::reconstruction::Reached;
-use mapf_grid::{Cell, NoMemory};
+use mapf_grid::Cell;
 
 /// The states that a search reached: cells at time steps.
 #[derive(Clone, Copy)]
@@ -40,27 +37,5 @@ fn is_in_level(searched: &Searched, cell: Cell, sum: u64) -> bool
     if sum < nearest {
         return false;
     }
-    match searched.levels.get((sum - nearest) as usize) {
-        Some(level) => level.contains(cell),
-        None => false,
-    }
-}
-
-/// Lists the states of an f-level behind those of lower sums.
-pub(crate) fn list_level(
-    query: &Query,
-    sum: u32,
-    level: &FLevel,
-    states: &mut Vec<(Cell, u32)>,
-) -> Result<(), NoMemory>
-    requires within { (v : ℕ) → Contains level.now v → IsWithin query.now sum v }
-    requires lower { (s : ℕ × ℕ) → Contains states.old.items s → HasSum query.now.table (λ m. m < sum) s }
-    requires once { AllPairs ◌≢◌ states.old.items }
-    ensures { OnOk result (Lists query.now.table sum level.now states.old.items states.new.items) }
-{
-    for cell in level.cells() {
-        let distance = query.entry(*cell).unwrap();
-        states.push((*cell, sum - distance))?;
-    }
-    Ok(())
+    matches!(searched.levels.get((sum - nearest) as usize), Some(level) if level.contains(cell))
 }

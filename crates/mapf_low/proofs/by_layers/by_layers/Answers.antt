@@ -31,7 +31,7 @@ loop-time-preserved c =
     let next : IsNextLayer c.args.query.now (time + 1) (layer_at layers time) c.in_ok-next.next =
     subst (λ layer. IsNextLayer c.args.query.now (time + 1) layer c.in_ok-next.next) here c.in_ok-next.ensures in
     let now : ¬ EndsAt c.args.query.now (InLayers layers) time =
-    λ a. not_true c.ends_in.result (Contains c.index-layer.result.now c.args.query.now.goal × MayEnd c.args.query.now time) c.ends_in.ensures c.if-ends_in.false
+    λ a. not_true c.can_end.result (Contains c.index-layer.result.now c.args.query.now.goal × MayEnd c.args.query.now time) c.can_end.ensures c.if-can_end.false
     (subst (λ layer. Contains layer c.args.query.now.goal) (sym here) a.0, a.1) in
     record {
       long = ap length is ∙ (length-append layers (c.in_ok-next.next ∷ []) ∙ ap (λ n. n + 1) long);
@@ -51,7 +51,7 @@ reconstruct_path-requires c =
     record { posed = c.limit-limit.ensures.posed; distances = c.requires; reached_are = layers_reach c.args.query.now layers c.loop-time.invariant.layers_are } in
     record {
       linked = are_linked c.args.query.now c.args.query.now.limit (InLayers layers) (length layers) time set inside;
-      arrived = subst (λ layer. Contains layer c.args.query.now.goal) here (c.ends_in.ensures.0 c.if-ends_in.true).0;
+      arrived = subst (λ layer. Contains layer c.args.query.now.goal) here (c.can_end.ensures.0 c.if-can_end.true).0;
       short = omega arith;
     }
 
@@ -86,13 +86,13 @@ returns-then-is_empty c =
     none_through c.args.query.now c.args.query.now.limit (InLayers layers) (length layers) set time inside c.loop-time.invariant.before
     (subst (λ layer. (v : ℕ) → ¬ Contains layer v) (sym empty) (λ v i. omega (arith, i.1)))
 
-pub returns-then-ends_in : goal.returns-then-ends_in
-returns-then-ends_in c =
+pub returns-then-can_end : goal.returns-then-can_end
+returns-then-can_end c =
     let layers = c.loop-time.layers.items in
     let time = c.loop-time.time in
     let inside : time < length layers = omega arith in
     let here : c.index-layer.result.now ≡ layer_at layers time = c.index-layer.ensures ∙ get_or_default layers time c.index-layer.result.now [] inside in
-    let met = c.ends_in.ensures.0 c.if-ends_in.true in
+    let met = c.can_end.ensures.0 c.if-can_end.true in
     let set : Setting c.args.query.now c.args.query.now.limit (InLayers layers) (length layers) =
     record { posed = c.limit-limit.ensures.posed; distances = c.requires; reached_are = layers_reach c.args.query.now layers c.loop-time.invariant.layers_are } in
     own c.args.query.now c.args.query.now.limit (InLayers layers) (length layers) set time c.in_ok-path.path inside (omega arith)

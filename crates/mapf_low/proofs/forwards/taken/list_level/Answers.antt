@@ -3,7 +3,7 @@ use Rattle.std.proofs.Common.{◌≡◌, ◌≤◌, eqb, Some, Contains, subst, 
 use Rattle.std.specs.List.{IsDistinct}
 use Rattle.mapf_low.proofs.forwards.FLevelStates.{match_at}
 use Rattle.mapf_low.proofs.forwards.Taking.{lists_more}
-use Rattle.mapf_low.proofs.forwards.states.list_level.Goals as goal
+use Rattle.mapf_low.proofs.forwards.taken.list_level.Goals as goal
 
 pub loop-cell-preserved : goal.loop-cell-preserved
 loop-cell-preserved c =

@@ -1,7 +1,7 @@
 use Rattle.std.proofs.Common.{◌↔◌, subst, refl, eqb, IsTrue, Contains}
 use Rattle.std.proofs.lemmas.Bool.{eqb-true, eq-eqb}
 use Rattle.mapf_low.proofs.forwards.Grown.{told}
-use Rattle.mapf_low.proofs.forwards.f_level.FLevel.contains.Goals as goal
+use Rattle.mapf_low.proofs.cell_set.CellSet.contains.Goals as goal
 
 pub returns : goal.returns
 returns c =

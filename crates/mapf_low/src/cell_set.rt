@@ -2,25 +2,28 @@ ghost use Rattle.std.specs.Prelude.{◌≡◌, ◌↔◌, [], eqb, IsTrue, OnOk,
 ghost use Rattle.std.specs.List.{IsDistinct};
 ghost use Rattle.mapf_low.specs.Forwards.FLevels.{IsAdded};
 
-use crate::forwards::cell_hasher::CellHashers;
+mod cell_hasher;
+
+use crate::cell_set::cell_hasher::CellHashers;
 use indexmap::IndexSet;
 use mapf_grid::{Cell, NoMemory};
 use std::alloc::Global;
 use std::marker::Model;
 
-/// The cells that an agent may reach with one sum of time and distance, in the order in which they were reached.
-pub(crate) struct FLevel {
+/// Cells that an agent may reach, with one sum of time and distance or at one time step, in the order in which they were
+/// reached.
+pub(crate) struct CellSet {
     cells: IndexSet<Cell, CellHashers>,
 }
 
 // By hand, so that a proof about what holds one sees a call where it is dropped, and not its fields.
-impl Drop for FLevel {
+impl Drop for CellSet {
     fn drop(self) {
-        let FLevel { cells: _ } = self;
+        let CellSet { cells: _ } = self;
     }
 }
 
-impl Model for FLevel {
+impl Model for CellSet {
     ghost use Rattle.std.specs.Prelude.{ℕ, List, eqb};
     ghost use Rattle.std.specs.List.{IsDistinct};
 
@@ -31,12 +34,12 @@ impl Model for FLevel {
     ghost invariant = { λ c. IsDistinct eqb c.cells.keys };
 }
 
-impl FLevel {
+impl CellSet {
     /// No cell.
     pub(crate) fn new(alloc: Global) -> Self
         ensures { result ≡ [] }
     {
-        FLevel {
+        CellSet {
             cells: IndexSet::with_hasher(alloc, CellHashers),
         }
     }

@@ -3,7 +3,7 @@ use Rattle.std.proofs.lemmas.Bool.{eqb-true, eq-eqb}
 use Rattle.std.proofs.Common.{refl, eqb}
 use Rattle.mapf_low.specs.Forwards.FLevels.{IsAdded}
 use Rattle.mapf_low.proofs.forwards.Grown.{added}
-use Rattle.mapf_low.proofs.forwards.f_level.FLevel.add.Goals as goal
+use Rattle.mapf_low.proofs.cell_set.CellSet.add.Goals as goal
 
 pub returns : goal.returns
 returns c =
