@@ -72,7 +72,8 @@ pub(crate) fn first_conflict_of_pair_conflicts<P: AgentPaths>(
 
 /// The least time step of these pair conflicts; none where there are no pair conflicts.
 fn least_time(conflicts: &[PairConflict]) -> Option<u32>
-    ensures { MatchOption result (length conflicts.now ≡ 0) (λ t. (m : PairConflict) → Contains conflicts.now m → t ≤ m.time) }
+    ensures { MatchOption result (length conflicts.now ≡ 0)
+        (λ t. (m : PairConflict) → Contains conflicts.now m → t ≤ m.time) }
 {
     if conflicts.is_empty() {
         return None;
