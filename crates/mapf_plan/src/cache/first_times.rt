@@ -89,7 +89,7 @@ impl FirstTimes {
             return;
         }
         if self.reach_row(one).is_ok() {
-            keep_in_row(&mut self.rows[one], other, time);
+            let _ = keep_in_row(&mut self.rows[one], other, time);
         }
     }
 
@@ -106,21 +106,10 @@ impl FirstTimes {
     }
 }
 
-/// Keeps what is known of a row's path and another, unless memory runs out.
-fn keep_in_row(row: &mut Vec<FirstTime>, other: usize, time: FirstTime)
+/// Keeps what is known of a row's path and another, unless memory runs out. Of those before it that are new nothing is known.
+fn keep_in_row(row: &mut Vec<FirstTime>, other: usize, time: FirstTime) -> Result<(), NoMemory>
     requires { other < MOST_KEPT }
     ensures { IsSetTime row.old.items row.new.items other time }
-{
-    if reach_time(row, other).is_ok() {
-        row[other] = time;
-    }
-}
-
-/// Adds entries that nothing is known, until there is one of this number.
-fn reach_time(row: &mut Vec<FirstTime>, other: usize) -> Result<(), NoMemory>
-    requires { other < MOST_KEPT }
-    ensures entry { OnOk result (other < length row.new.items) }
-    ensures same { (j : ℕ) → time_in row.new.items j ≡ time_in row.old.items j }
 {
     if row.is_empty() {
         row.reserve(FIRST_ROOM)?;
@@ -128,6 +117,7 @@ fn reach_time(row: &mut Vec<FirstTime>, other: usize) -> Result<(), NoMemory>
     for _entry in row.len()..other + 1 {
         row.push(FirstTime::Unknown)?;
     }
+    row[other] = time;
     Ok(())
 }
 

@@ -42,10 +42,7 @@ pub fn write_text<S: Sink>(sink: &mut S, text: &[u8]) -> Result<(), DeviceFault>
     ensures written { OnOk result (Appends (S.contents sink.old) (S.contents sink.new) text.now) }
     ensures fault { IfErr result (IsWriteFaultOf text.now (S.contents sink.old) (S.contents sink.new)) }
 {
-    match write_whole(sink, text) {
-        Ok(()) => Ok(()),
-        Err(failed) => Err(DeviceFault::WriteFailed {
-            taken: failed.taken,
-        }),
-    }
+    write_whole(sink, text).map_err(|failed| DeviceFault::WriteFailed {
+        taken: failed.taken,
+    })
 }

@@ -1,5 +1,5 @@
-ghost use Rattle.std.specs.Prelude.{◌≡◌, ◌+◌, ◌<◌, ◌≤◌, ◌++◌, [], length, take, vec_len, is_err, IfOk, IfErr, IfSome, OnOk, IsErrOf};
-ghost use Rattle.std.specs.Io.KnownBytes.{Appends, Consumes, IsAtEnd};
+ghost use Rattle.std.specs.Prelude.{◌≡◌, ◌<◌, ◌≤◌, length, take, vec_len, is_err, IfOk, IfErr, IfSome, OnOk, IsErrOf};
+ghost use Rattle.std.specs.Io.KnownBytes.{Appends, IsAtEnd};
 ghost use Rattle.mapf_plan.specs.Device.{Counts, is_failed};
 
 use super::{Sink, Source};
@@ -53,41 +53,17 @@ pub fn read_whole<S: Source>(
     let mut block = [0u8; BLOCK];
     let mut bytes = Vec::new(alloc);
     loop {
-        if read_more(source, &mut block, &mut bytes, limit)? == 0 {
+        let given = source.read(&mut block).map_err(|_| ReadFault::Failed)?;
+        if given == 0 {
             return Ok(bytes);
         }
+        if given > limit - bytes.len() {
+            return Err(ReadFault::TooLong);
+        }
+        bytes
+            .extend_from_slice(&block[..given])
+            .map_err(|_| ReadFault::NoMemory)?;
     }
-}
-
-/// One call of `read`, whose bytes are appended. Answers how many they are, none only at the end.
-fn read_more<S: Source>(
-    source: &mut S,
-    block: &mut [u8],
-    bytes: &mut Vec<u8>,
-    limit: usize,
-) -> Result<usize, ReadFault>
-    requires countable { S.failures source.old < u64.MAX }
-    requires room { 0 < length block.old }
-    requires within { vec_len bytes.old ≤ limit }
-
-    ensures failed { Counts (is_failed result) (S.failures source.old) (S.failures source.new) }
-    ensures appended { IfOk result (λ n. bytes.new.items ≡ bytes.old.items ++ take n block.new) }
-    ensures grown { IfOk result (λ n. vec_len bytes.new ≡ vec_len bytes.old + n) }
-    ensures within { OnOk result (vec_len bytes.new ≤ limit) }
-    ensures consumed { IfOk result (λ n.
-        Consumes (S.remaining source.old) (S.remaining source.new) (take n block.new)) }
-    ensures end { IfOk result (λ n. n ≡ 0 → IsAtEnd (S.remaining source.new)) }
-    ensures too_long { IsErrOf result ReadFault.TooLong
-        → IfSome (S.remaining source.old) (λ all. limit < vec_len bytes.old + length all) }
-{
-    let given = source.read(block).map_err(|_| ReadFault::Failed)?;
-    if given > limit - bytes.len() {
-        return Err(ReadFault::TooLong);
-    }
-    bytes
-        .extend_from_slice(&block[..given])
-        .map_err(|_| ReadFault::NoMemory)?;
-    Ok(given)
 }
 
 /// Writes bytes to a sink, all of them, and flushes it.

@@ -42,23 +42,15 @@ fn push_two_numbers(text: &mut String, front: &str, first: u64, second: u64) -> 
     Ok(())
 }
 
+/// A line of positions for each path.
 fn push_lines(text: &mut String, paths: &[Path], map: &Map) -> Result<(), NoMemory>
     requires { AllByRecursion (AllByRecursion (λ c. c < cells map.now)) paths.now }
     ensures { OnOk result (string_bytes text.new ≡ string_bytes text.old ++ flat_map (line map.now) paths.now) }
 {
     for path in paths {
-        push_line(text, path.cells(), map)?;
+        push_positions(text, path.cells(), map)?;
+        text.push_str("\n")?;
     }
-    Ok(())
-}
-
-/// The positions of one agent and the line's end.
-fn push_line(text: &mut String, path: &[Cell], map: &Map) -> Result<(), NoMemory>
-    requires { AllByRecursion (λ c. c < cells map.now) path.now }
-    ensures { OnOk result (string_bytes text.new ≡ string_bytes text.old ++ line map.now path.now) }
-{
-    push_positions(text, path, map)?;
-    text.push_str("\n")?;
     Ok(())
 }
 
