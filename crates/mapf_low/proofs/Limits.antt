@@ -1,5 +1,5 @@
 -- An own path within a limit, and within a higher one.
-use Rattle.std.proofs.Common.{◌≡◌, ℕ, ◌≤◌, true, false, List, Option, Some, None, is_some, MatchOption, ⊎_elim, arith}
+use Rattle.std.proofs.Common.{ℕ, ◌≤◌, List, ⊎_elim, arith}
 use Rattle.mapf_grid.specs.Grid.{Grid}
 use Rattle.mapf_grid.specs.Least.{Precedes}
 use Rattle.mapf_plan.specs.Path.{cost}
@@ -15,9 +15,3 @@ own_by_bound g cs limit bound start goal q l own = record { member = record { pa
     least y a h =
         let within : cost y ≤ limit = ⊎_elim (λ p. omega (arith, p, own.member.within)) (λ p. omega (arith, p.0, own.member.within)) h in
         own.least y (record { path = a.path; within = within; obeys = a.obeys }) h
-
--- so what was found within a limit is found within the bound
-pub found_by_bound : (g : Grid) (cs : List Constraint) (limit bound start goal : ℕ) (found : Option (List ℕ)) → limit ≤ bound → is_some found ≡ true →
-    MatchOption found ((p : List ℕ) → ¬ IsAllowed g start goal limit cs p) (IsOwnPath g start goal limit cs) → MatchOption found ((p : List ℕ) → ¬ IsAllowed g start goal bound cs p) (IsOwnPath g start goal bound cs)
-found_by_bound g cs limit bound start goal None l e h = absurd (let f : false ≡ true = e in let m : ◌≡◌ {A = ℕ} 0 1 = cc in omega (arith, m))
-found_by_bound g cs limit bound start goal (Some q) l e h = own_by_bound g cs limit bound start goal q l h

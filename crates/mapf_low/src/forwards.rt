@@ -1,22 +1,23 @@
-ghost use Rattle.std.specs.Prelude.{◌≡◌, ℕ, ◌≤◌, List, IfOk, MatchOption};
+ghost use Rattle.std.specs.Prelude.{◌≡◌, ◌↔◌, ℕ, ◌≤◌, List, IsTrue, IfOk, MatchOption};
 ghost use Rattle.std.specs.Option.{option_map};
 ghost use Rattle.mapf_grid.specs.Grid.{IsFree};
 ghost use Rattle.mapf_low.specs.Walk.{AreDistances};
 ghost use Rattle.mapf_plan.specs.Path.{cost};
 ghost use Rattle.mapf_low.specs.Query.{HasDistances, IsFound};
+ghost use Rattle.mapf_low.specs.Forwards.Chain.{IsChain};
 ghost use Rattle.mapf_low.specs.Forwards.FLevels.{IsSearched, InFLevels};
 ghost use Rattle.mapf_low.specs.Reached.{AreLinked, IsReconstructed};
 ghost use Rattle.mapf_low.specs.Constraints.{IsAllowed};
 ghost use Rattle.mapf_low.specs.OwnPath.{IsOwnPath};
 ghost use Rattle.mapf_plan.specs.Plan.{most_bound};
 
-mod chain;
 mod expansion;
 mod searched;
 mod states;
 pub(crate) mod taken;
 
-use crate::forwards::chain::is_chain;
+use crate::cell_set::CellSet;
+use crate::forwards::expansion::is_at;
 use crate::forwards::searched::{Searched, search};
 use crate::forwards::states::States;
 use crate::query::{Query, Trip};
@@ -25,6 +26,23 @@ use crate::{Constraints, Distances};
 use mapf_grid::{Cell, Map, NoMemory};
 use mapf_plan::Path;
 use std::alloc::Global;
+
+/// Whether the cells of an f-level, in their order, are one nearer to the goal each, from one that is as far as the sum to the
+/// goal. Then they are the agent's path, and it needn't be read backwards.
+fn is_chain(query: &Query, sum: u32, level: &CellSet) -> bool
+    ensures { IsTrue result ↔ IsChain query.now.table sum level.now }
+{
+    let cells = level.cells();
+    if cells.len() != sum as usize + 1 {
+        return false;
+    }
+    for place in 0..cells.len() {
+        if !is_at(query, cells[place], sum - place as u32) {
+            return false;
+        }
+    }
+    true
+}
 
 /// The path that arrives on the goal at this time step, read from the states that were reached.
 fn read_path(alloc: Global, query: &Query, searched: &Searched, end: u32) -> Result<Path, NoMemory>

@@ -27,8 +27,8 @@ pub fn own_path_exists()
     ensures { OwnPathExists }
 {}
 
-/// An agent's own path, as [`crate::cheapest`] gives it, by layers over time: the cells reached at time 0, 1, 2 and so on,
-/// with a rising limit on the cost. Tests compare the two.
+/// An agent's own path, as [`crate::cheapest`] gives it, by layers over time: the cells reached at time 0, 1, 2 and so on.
+/// Tests compare the two.
 pub fn cheapest_by_layers(
     alloc: Global,
     map: &Map,
@@ -47,19 +47,7 @@ pub fn cheapest_by_layers(
         (IsOwnPath map.now start goal bound constraints.now)) }
 {
     let trip = Trip { start, goal };
-    let table = distances.table();
-    // A low limit keeps the layers small. The own path within one limit is that within every higher one.
-    let nearest = distances.get(start).unwrap_or(bound).min(bound);
-    let mut limit = nearest;
-    while limit < bound {
-        let query = Query::new(alloc, map, table, &trip, constraints, limit)?;
-        let found = by_layers(alloc, &query)?;
-        if found.is_some() {
-            return Ok(found);
-        }
-        limit = bound.min(2 * limit - nearest + 1);
-    }
-    let query = Query::new(alloc, map, table, &trip, constraints, bound)?;
+    let query = Query::new(alloc, map, distances.table(), &trip, constraints, bound)?;
     by_layers(alloc, &query)
 }
 

@@ -175,11 +175,8 @@ impl<'a> Query<'a> {
     pub(crate) fn is_usable(&self, cell: Cell, time: u32) -> bool
         ensures { IsTrue result ↔ IsUsable self.now self.now.limit time cell }
     {
-        let Some(entry) = self.table.get(cell) else {
-            return false;
-        };
-        let near = u64::from(time) + u64::from(entry) <= u64::from(self.limit);
-        near && self.allows_at(cell, time)
+        matches!(self.table.get(cell), Some(entry) if u64::from(time) + u64::from(entry) <= u64::from(self.limit))
+            && self.allows_at(cell, time)
     }
 
     /// Whether nothing forbids the goal from this time step on.

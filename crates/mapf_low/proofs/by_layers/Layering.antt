@@ -1,8 +1,8 @@
 -- Whole lists of layers.
 use Rattle.std.proofs.Common.{ℕ, ◌+◌, ◌<◌, List, length}
-use Rattle.mapf_low.specs.Query.{Query}
+use Rattle.mapf_low.specs.Query.{Query, IsPosed, HasDistances}
 use Rattle.mapf_low.specs.Layers.{IsFirstLayer, IsNextLayer, InLayers, layer_at}
-use Rattle.mapf_low.specs.Reached.{AreReached}
+use Rattle.mapf_low.proofs.FirstArrival.{Setting}
 
 -- the layers from time 0 on
 pub record AreLayers (query : Query) (layers : List (List ℕ)) : Type 0 where
@@ -11,6 +11,5 @@ pub record AreLayers (query : Query) (layers : List (List ℕ)) : Type 0 where
       IsNextLayer query (t + 1) (layer_at layers t) (layer_at layers (t + 1))
 
 -- have at each time the cells that are reached then
-pub layers_reach : (query : Query) (layers : List (List ℕ)) → AreLayers query layers →
-    AreReached query query.limit (InLayers layers) (length layers)
-layers_reach query layers h = record { first = h.first; next = h.next }
+pub layers_set : (query : Query) (layers : List (List ℕ)) → IsPosed query → HasDistances query → AreLayers query layers → Setting query query.limit (InLayers layers) (length layers)
+layers_set query layers posed distances h = record { posed = posed; distances = distances; reached_are = record { first = h.first; next = h.next } }

@@ -10,7 +10,7 @@ use Rattle.mapf_low.specs.Walk.{distance_at}
 use Rattle.mapf_low.specs.Forwards.Chain.{IsChain}
 use Rattle.mapf_low.specs.Forwards.FLevels.{level_at, InFLevels}
 use Rattle.mapf_low.specs.Reached.{AreLinked, ComesFrom, IsSmallestBefore, IsReconstructed}
-use Rattle.mapf_low.proofs.forwards.FLevelStates.{match_at, match_to, match_some}
+use Rattle.mapf_low.proofs.forwards.FLevelStates.{match_to, match_entry}
 use Rattle.mapf_low.proofs.forwards.Leading.{same_distance}
 
 module _ (query : Query) (nearest : ℕ) (levels : List (List ℕ)) (level : List ℕ) (one : length levels ≡ 1) (is : level ≡ level_at levels 0) (chain : IsChain query.table nearest level) where
@@ -26,9 +26,8 @@ module _ (query : Query) (nearest : ℕ) (levels : List (List ℕ)) (level : Lis
   -- at each time step there is one state
   pub at_chain : (t w : ℕ) → t ≤ nearest → InFLevels query nearest levels t w → w ≡ slice_index level t
   at_chain t w l h =
-      let near = match_some (distance_at query.table w) (λ n. (nearest ≤ t + n) × Contains (level_at levels (t + n - nearest)) w) h in
-      let in_level : (nearest ≤ t + near.0) × Contains (level_at levels (t + near.0 - nearest)) w =
-      match_at (distance_at query.table w) near.0 (λ n. (nearest ≤ t + n) × Contains (level_at levels (t + n - nearest)) w) near.1 h in
+      let near = match_entry (distance_at query.table w) (λ n. (nearest ≤ t + n) × Contains (level_at levels (t + n - nearest)) w) h in
+      let in_level = near.2 in
       by_cases (ℕ_discrete 0 (t + near.0 - nearest))
       (λ e. in_chain t near.0 w l near.1 (omega (arith, e, in_level.0)) (subst (λ xs. Contains xs w) (sym is) (subst (λ k. Contains (level_at levels k) w) (sym e) in_level.1)))
       (λ n.

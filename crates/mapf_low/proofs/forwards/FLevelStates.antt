@@ -18,9 +18,9 @@ match_at o n Q e h = let P : Option ℕ → Type 0 = λ o. MatchOption o ⊥ Q i
 pub match_to : (o : Option ℕ) (n : ℕ) (Q : ℕ → Type 0) → o ≡ Some n → Q n → MatchOption o ⊥ Q
 match_to o n Q e q = let P : Option ℕ → Type 0 = λ o. MatchOption o ⊥ Q in subst P (sym e) q
 
-pub match_some : (o : Option ℕ) (Q : ℕ → Type 0) → MatchOption o ⊥ Q → (n : ℕ) × (o ≡ Some n)
-match_some None Q h = absurd h
-match_some (Some n) Q h = (n, refl)
+pub match_entry : (o : Option ℕ) (Q : ℕ → Type 0) → MatchOption o ⊥ Q → (n : ℕ) × (o ≡ Some n) × Q n
+match_entry None Q h = absurd h
+match_entry (Some n) Q h = (n, refl, h)
 
 -- a step changes the distance by one at most
 pub step_apart : (query : Query) (u v m n : ℕ) → IsPosed query → HasDistances query → Next query.grid u v → distance_at query.table u ≡ Some m → distance_at query.table v ≡ Some n → m ≤ n + 1
@@ -82,9 +82,8 @@ module _ (query : Query) (limit nearest : ℕ) (C : ℕ → ℕ → Type 0) (gro
 
       first : (v : ℕ) → At 0 v → (v ≡ query.start) × IsUsable query limit 0 v
       first v a =
-          let n = match_some (distance_at query.table v) (λ n. (nearest ≤ 0 + n) × C (0 + n - nearest) v) a in
-          let p = match_at (distance_at query.table v) n.0 (λ n. (nearest ≤ 0 + n) × C (0 + n - nearest) v) n.1 a in
-          first_at v n.0 n.1 p.0 p.1 (h.sound (0 + n.0 - nearest) v p.1)
+          let n = match_entry (distance_at query.table v) (λ n. (nearest ≤ 0 + n) × C (0 + n - nearest) v) a in
+          first_at v n.0 n.1 n.2.0 n.2.1 (h.sound (0 + n.0 - nearest) v n.2.1)
 
       first_back : (v : ℕ) → (v ≡ query.start) × IsUsable query limit 0 v → At 0 v
       first_back v (is, (free, near)) =
@@ -113,9 +112,8 @@ module _ (query : Query) (limit nearest : ℕ) (C : ℕ → ℕ → Type 0) (gro
 
       next : (t v : ℕ) → At (t + 1) v → IsUsable query limit (t + 1) v × ((u : ℕ) × ComesFrom query (t + 1) (At t) v u)
       next t v a =
-          let n = match_some (distance_at query.table v) (λ n. (nearest ≤ t + 1 + n) × C (t + 1 + n - nearest) v) a in
-          let p = match_at (distance_at query.table v) n.0 (λ n. (nearest ≤ t + 1 + n) × C (t + 1 + n - nearest) v) n.1 a in
-          next_at t v n.0 n.1 p.0 p.1 (h.sound (t + 1 + n.0 - nearest) v p.1)
+          let n = match_entry (distance_at query.table v) (λ n. (nearest ≤ t + 1 + n) × C (t + 1 + n - nearest) v) a in
+          next_at t v n.0 n.1 n.2.0 n.2.1 (h.sound (t + 1 + n.0 - nearest) v n.2.1)
 
       leads_back : (t u v m n : ℕ) → distance_at query.table u ≡ Some m → distance_at query.table v ≡ Some n → IsUsable query limit (t + 1) v → nearest ≤ t + m → C (t + m - nearest) u → MayStep query (t + 1) u v → At (t + 1) v
       leads_back t u v m n at_u at_v o low there step =
@@ -131,7 +129,6 @@ module _ (query : Query) (limit nearest : ℕ) (C : ℕ → ℕ → Type 0) (gro
 
       next_back : (t v : ℕ) → IsUsable query limit (t + 1) v → (u : ℕ) → ComesFrom query (t + 1) (At t) v u → At (t + 1) v
       next_back t v o u (from, step) =
-          let n = match_some (distance_at query.table v) (λ n. t + 1 + n ≤ limit) o.1 in
-          let m = match_some (distance_at query.table u) (λ n. (nearest ≤ t + n) × C (t + n - nearest) u) from in
-          let there = match_at (distance_at query.table u) m.0 (λ n. (nearest ≤ t + n) × C (t + n - nearest) u) m.1 from in
-          leads_back t u v m.0 n.0 m.1 n.1 o there.0 there.1 step
+          let n = match_entry (distance_at query.table v) (λ n. t + 1 + n ≤ limit) o.1 in
+          let m = match_entry (distance_at query.table u) (λ n. (nearest ≤ t + n) × C (t + n - nearest) u) from in
+          leads_back t u v m.0 n.0 m.1 n.1 o m.2.0 m.2.1 step

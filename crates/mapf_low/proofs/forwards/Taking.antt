@@ -3,7 +3,7 @@ use Rattle.std.proofs.Common.{◌≡◌, ◌≢◌, ◌⊎◌, ℕ, ◌+◌, ◌
 use Rattle.std.specs.Option.{unwrap_or, option_map}
 use Rattle.std.specs.List.{IsDistinct, AllPairs}
 use Rattle.std.proofs.lemmas.Bool.{cases_lt, eq-eqb}
-use Rattle.std.proofs.lemmas.List.{take_all, get_or-take}
+use Rattle.std.proofs.lemmas.List.{get_or-take}
 use Rattle.std.proofs.lemmas.List.Quantifiers.{all_pairs_push}
 use Rattle.std.proofs.lemmas.Map.Keys.{apart_from_distinct}
 use Rattle.mapf_plan.specs.Path.{cost, at}
@@ -16,20 +16,20 @@ use Rattle.mapf_low.specs.Forwards.Taken.{HasSum, Lists, AreTakenBy}
 use Rattle.mapf_low.proofs.Growing.{members_push, members_more}
 use Rattle.mapf_low.proofs.OwnPaths.{same_own}
 use Rattle.mapf_low.proofs.FirstArrival.{reached}
-use Rattle.mapf_low.proofs.forwards.FLevelStates.{match_at, match_to, match_some}
+use Rattle.mapf_low.proofs.forwards.FLevelStates.{match_at, match_to, match_entry}
 use Rattle.mapf_low.proofs.forwards.Found.{setting}
 
 -- two sums of one state are one
 same_sum : (table : List (Option ℕ)) (s : ℕ × ℕ) (P Q : ℕ → Type 0) → HasSum table P s → HasSum table Q s → (m : ℕ) × P m × Q m
 same_sum table s P Q p q =
-    let n = match_some (distance_at table s.0) (λ n. P (s.1 + n)) p in
-    (s.1 + n.0, match_at (distance_at table s.0) n.0 (λ n. P (s.1 + n)) n.1 p, match_at (distance_at table s.0) n.0 (λ n. Q (s.1 + n)) n.1 q)
+    let n = match_entry (distance_at table s.0) (λ n. P (s.1 + n)) p in
+    (s.1 + n.0, n.2, match_at (distance_at table s.0) n.0 (λ n. Q (s.1 + n)) n.1 q)
 
 -- what is known of a sum
 pub sum_as : (table : List (Option ℕ)) (s : ℕ × ℕ) (P Q : ℕ → Type 0) → ((m : ℕ) → P m → Q m) → HasSum table P s → HasSum table Q s
 sum_as table s P Q f p =
-    let n = match_some (distance_at table s.0) (λ n. P (s.1 + n)) p in
-    match_to (distance_at table s.0) n.0 (λ n. Q (s.1 + n)) n.1 (f (s.1 + n.0) (match_at (distance_at table s.0) n.0 (λ n. P (s.1 + n)) n.1 p))
+    let n = match_entry (distance_at table s.0) (λ n. P (s.1 + n)) p in
+    match_to (distance_at table s.0) n.0 (λ n. Q (s.1 + n)) n.1 (f (s.1 + n.0) n.2)
 
 -- one state more of an f-level
 pub lists_more : (table : List (Option ℕ)) (sum : ℕ) (level : List ℕ) (old mid new : List (ℕ × ℕ)) (k x distance : ℕ) → k < length level → x ≡ get_or level k x → IsDistinct eqb level →
@@ -145,10 +145,9 @@ all_taken query nearest levels end found states count posed distances searched o
     -- what is in an f-level is listed
     listed : (t v : ℕ) → InFLevels query nearest levels t v → Contains states (v, t)
     listed t v i =
-        let n = match_some (distance_at query.table v) (λ n. (nearest ≤ t + n) × Contains (level_at levels (t + n - nearest)) v) i in
-        let p = match_at (distance_at query.table v) n.0 (λ n. (nearest ≤ t + n) × Contains (level_at levels (t + n - nearest)) v) n.1 i in
-        let inside : t + n.0 - nearest < length levels = is_inside (t + n.0 - nearest) v p.1 in
-        h.complete (t + n.0 - nearest) (v, t) (omega (arith, inside, whole)) p.1 (match_to (distance_at query.table v) n.0 (λ m. t + m ≡ nearest + (t + n.0 - nearest)) n.1 (omega (arith, p.0)))
+        let n = match_entry (distance_at query.table v) (λ n. (nearest ≤ t + n) × Contains (level_at levels (t + n - nearest)) v) i in
+        let inside : t + n.0 - nearest < length levels = is_inside (t + n.0 - nearest) v n.2.1 in
+        h.complete (t + n.0 - nearest) (v, t) (omega (arith, inside, whole)) n.2.1 (match_to (distance_at query.table v) n.0 (λ m. t + m ≡ nearest + (t + n.0 - nearest)) n.1 (omega (arith, n.2.0)))
       where
         is_inside : (k v : ℕ) → Contains (level_at levels k) v → k < length levels
         is_inside k v i = ⊎_elim (λ l. l) (λ l. absurd (Rattle.mapf_low.proofs.forwards.FLevelLists.past_all levels k v l i)) (cases_lt k (length levels))

@@ -1,4 +1,4 @@
-ghost use Rattle.std.specs.Prelude.{◌≡◌, ◌↔◌, ℕ, ◌+◌, ◌<◌, [], Some, set, length, IsTrue, IfOk, OnOk, Contains};
+ghost use Rattle.std.specs.Prelude.{◌≡◌, ◌↔◌, ℕ, ◌+◌, ◌<◌, [], Some, set, length, IsTrue, OnOk, Contains};
 ghost use Rattle.mapf_low.specs.Backwards.Tracing.{IsJoined};
 ghost use Rattle.mapf_low.specs.Backwards.StateTable.{IsSize, IsTable, place_of};
 
@@ -63,10 +63,7 @@ impl DeadEnds {
         ensures { IsTrue result ↔ Contains self.now.states (cell, time) }
     {
         !self.places.is_empty()
-            && is_state(
-                self.places[place_of(cell, time, self.places.len())],
-                (cell, time),
-            )
+            && self.places[place_of(cell, time, self.places.len())] == Some((cell, time))
     }
 
     /// Adds the cell at this time step to the states, where another may be forgotten.
@@ -110,14 +107,6 @@ fn place_of(cell: Cell, time: u32, count: usize) -> usize
     place as usize
 }
 
-/// Whether this state was found.
-#[inline]
-fn is_state(found: Option<State>, state: State) -> bool
-    ensures { IsTrue result ↔ (found ≡ Some state) }
-{
-    found == Some(state)
-}
-
 /// Puts a state at its place.
 fn put(cell: Cell, time: u32, places: &mut [Option<State>])
     requires { IsSize (length places.old) }
@@ -127,27 +116,7 @@ fn put(cell: Cell, time: u32, places: &mut [Option<State>])
     places[place] = Some((cell, time));
 }
 
-/// So many places with states from these, each at its own.
-fn with_states(
-    alloc: Global,
-    count: usize,
-    states: &[Option<State>],
-) -> Result<Vec<Option<State>>, NoMemory>
-    requires { IsSize count }
-    ensures count { IfOk result (λ table. length table.items ≡ count) }
-    ensures table { IfOk result (λ table. IsTable table.items) }
-    ensures states { IfOk result (λ table. (s : ℕ × ℕ) → Contains table.items (Some s) → Contains states.now (Some s)) }
-{
-    let mut places = vec![in alloc; None; count]?;
-    for state in states {
-        if let Some((cell, time)) = state {
-            put(*cell, *time, &mut places);
-        }
-    }
-    Ok(places)
-}
-
-/// Sees to it that there are at least so many places.
+/// Sees to it that there are at least so many places, with states of those that stood there before, each at its own place.
 fn widen(count: usize, places: &mut Vec<Option<State>>) -> Result<(), NoMemory>
     requires count { IsSize count }
     requires table { IsTable places.old.items }
@@ -159,6 +128,12 @@ fn widen(count: usize, places: &mut Vec<Option<State>>) -> Result<(), NoMemory>
     if count <= places.len() {
         return Ok(());
     }
-    *places = with_states(*places.allocator(), count, places)?;
+    let mut wider = vec![in *places.allocator(); None; count]?;
+    for state in places.as_slice() {
+        if let Some((cell, time)) = state {
+            put(*cell, *time, &mut wider);
+        }
+    }
+    *places = wider;
     Ok(())
 }

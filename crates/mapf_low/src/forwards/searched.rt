@@ -50,11 +50,7 @@ pub(crate) fn search(alloc: Global, query: &Query) -> Result<Searched, NoMemory>
     let start = query.start();
     let mut levels = Vec::new(alloc);
     if !query.is_usable(start, 0) {
-        return Ok(Searched {
-            nearest: 0,
-            levels,
-            end: None,
-        });
+        return Ok(Searched::of(0, levels, None));
     }
     let nearest = query.entry(start).unwrap();
     let mut now = CellSet::new(alloc);

@@ -17,14 +17,8 @@ impl Reached for States<'_> {
     ghost has = { λ s. InFLevels s.query.now s.searched.now.nearest s.searched.now.levels.items };
 
     fn has(&self, cell: Cell, time: u32) -> bool {
-        match self.query.entry(cell) {
-            Some(distance) => is_in_level(
-                self.searched,
-                cell,
-                u64::from(time) + u64::from(distance),
-            ),
-            None => false,
-        }
+        matches!(self.query.entry(cell), Some(distance)
+            if is_in_level(self.searched, cell, u64::from(time) + u64::from(distance)))
     }
 }
 

@@ -29,7 +29,7 @@ expand_level-requires-clause-placed c =
 pub returns-then-can_end-clause-searched : goal.returns-then-can_end-clause-searched
 returns-then-can_end-clause-searched c =
     let ground = ground_of c.args.query.now c.start-start.result c.unwrap-nearest.result c.entry.result c.limit-limit.ensures.posed c.requires c.start-start.ensures.start c.entry.ensures c.unwrap-nearest.ensures in
-    searched_as c.of.ensures.nearest (c.of.ensures.levels ∙ c.in_ok-push.ensures.items) c.of.ensures.end
+    searched_as c.of-then-can_end.ensures.nearest (c.of-then-can_end.ensures.levels ∙ c.in_ok-push.ensures.items) c.of-then-can_end.ensures.end
     (searched_here c.args.query.now c.unwrap-nearest.result ground c.loop-sum.levels.items c.loop-sum.now c.loop-sum.next c.loop-sum.after c.loop-sum.invariant.searching
     c.loop-sum.sum c.loop-sum.invariant.long c.expand_level.new.level c.in_ok-expand_level.ensures.closes c.in_ok-expand_level.ensures.placed
     (omega arith) (c.can_end.ensures.0 c.if-can_end.true))

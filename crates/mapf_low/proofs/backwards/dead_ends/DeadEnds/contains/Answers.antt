@@ -1,4 +1,4 @@
-use Rattle.std.proofs.Common.{◌≡◌, ◌↔◌, ◌<◌, ℕ, length, get_or, IsTrue, Contains, subst, ap, ◌∙◌, arith}
+use Rattle.std.proofs.Common.{rules, ◌≡◌, ◌↔◌, ◌<◌, ℕ, Some, length, get_or, IsTrue, Contains, subst, ap, ◌∙◌, arith}
 use Rattle.std.proofs.lemmas.Bool.Decides.{nat_tests}
 use Rattle.mapf_low.specs.Backwards.Tracing.{DeadEnds}
 use Rattle.mapf_low.specs.Backwards.StateTable.{place_of}
@@ -13,4 +13,5 @@ returns-then-not-is_empty c =
     let place : c.place_of.result ≡ place_of (length table) s = c.place_of.ensures ∙ ap (λ n. place_of n s) (omega (arith, c.len.ensures, c.self.inside.places.ok.0)) in
     let h = at_place table s c.index.result.now c.self.invariant.at_places (place_below (length table) s (has_size table c.self.invariant some))
     (c.index.ensures ∙ ap (λ n. get_or table n c.index.result.now) place) in
-    subst (λ (d : DeadEnds). IsTrue c.is_state.result ↔ Contains d.states s) c.self.view_is (λ t. h.0 (c.is_state.ensures.0 t), λ i. c.is_state.ensures.1 (h.1 i))
+    let same : IsTrue c.eq.result ↔ (c.index.result.now ≡ Some s) = search rules in
+    subst (λ (d : DeadEnds). IsTrue c.eq.result ↔ Contains d.states s) c.self.view_is (λ t. h.0 (same.0 t), λ i. same.1 (h.1 i))

@@ -1,5 +1,0 @@
-use Rattle.mapf_low.proofs.backwards.StateTables.{HasOnly}
-use Rattle.mapf_low.proofs.backwards.dead_ends.with_states.Given as goal
-
-abbrev pub invariant-loop-state : goal.invariant-loop-state
-invariant-loop-state l = HasOnly l.states l.count l.places.items
