@@ -28,9 +28,10 @@ pub mod Queries
 pub mod SameSets
 pub mod Books
 pub mod Rising
-pub mod Merged
-pub mod RunLists
-pub mod Least
+pub mod Queues
+pub mod InOrder
+pub mod BucketQueues
+pub mod Buckets
 pub mod OpenNodes
 pub mod TurnLemmas
 pub mod Remaining

@@ -16,7 +16,7 @@ use Rattle.mapf_tree.specs.Tree.{TreeNode, HasPlan, root_of, side_of, key, Plann
 use Rattle.mapf_tree.specs.Search.{IsChild}
 use Rattle.mapf_tree.specs.Nodes.{Node, node_key, StandsFor, IsConflictOf, AllStand, HasNodeFor}
 use Rattle.mapf_tree.specs.Family.{IsRoot, IsSide}
-use Rattle.mapf_tree.specs.OpenList.{IsRising, IsAdded, IsAddedIfSome}
+use Rattle.mapf_tree.specs.OpenList.{IsRising, IsPut, IsAddedIfSome}
 use Rattle.mapf_tree.specs.Turns.{IsTurnOf}
 use Rattle.mapf_tree.proofs.Plans.{same_plan}
 use Rattle.mapf_tree.proofs.Unique.{same_member}
@@ -53,23 +53,20 @@ module _ (p : Problem) (first : Node) (rest : List Node) (x : PlannedNode) (risi
     (λ s. ⊎_elim (λ e. absurd (s.1 (same_stands p s.0.0 first m x s.0.2 is (ap node_key (sym e))))) (λ i. (s.0.0, i, s.0.2)) (here_or_there rest s.0.1)),
   )
 
-module _ (p : Problem) (old new : List Node) (node : Node) (y : PlannedNode) (all : AllStand p old) (added : IsAdded old node new) (is : StandsFor p node y) where
+module _ (p : Problem) (old new : List Node) (node : Node) (y : PlannedNode) (all : AllStand p old) (put : IsPut old node new) (is : StandsFor p node y) where
   -- and all nodes stand for nodes
   added_all : AllStand p new
-  added_all n c = ⊎_elim (λ i. all n i) (λ e. (y, subst (λ k. StandsFor p k y) (sym e) is)) (added.only n c)
+  added_all n c = ⊎_elim (λ e. (y, subst (λ k. StandsFor p k y) (sym e) is)) (λ i. all n i.0) ((put n).0 c)
 
-  -- a node that is added adds its node
+  -- a node that is put in adds its node
   added_shows : (m : PlannedNode) → HasNodeFor p new m ↔ (HasNodeFor p old m ⊎ (m ≡ y))
   added_shows m = (
-    (λ s. ⊎_elim (λ i. inl (s.0, i, s.2)) (λ e. inr (same_stands p s.0 node m y s.2 is (ap node_key e))) (added.only s.0 s.1)),
-    ⊎_elim (λ s. ⊎_elim (λ e. with_key (same_stands p s.0 node m y s.2 is e)) (λ o. (s.0, added.stay s.0 s.1 o, s.2)) (same_or_other (node_key s.0) (node_key node))) with_key,
+    (λ s. ⊎_elim (λ e. inr (same_stands p s.0 node m y s.2 is (ap node_key e))) (λ i. inl (s.0, i.0, s.2)) ((put s.0).0 s.1)),
+    ⊎_elim (λ s. ⊎_elim (λ e. itself (same_stands p s.0 node m y s.2 is e)) (λ o. (s.0, (put s.0).1 (inr (s.1, o)), s.2)) (same_or_other (node_key s.0) (node_key node))) itself,
   )
     where
-      with_key : m ≡ y → HasNodeFor p new m
-      with_key e =
-          let n = added.key.0 in
-          let x = added_all n added.key.1 in
-          let same : x.0 ≡ m = same_stands p n node x.0 y x.1 is added.key.2 ∙ sym e in (n, added.key.1, subst (λ z. StandsFor p n z) same x.1)
+      itself : m ≡ y → HasNodeFor p new m
+      itself e = (node, (put node).1 (inl refl), subst (λ z. StandsFor p node z) (sym e) is)
 
 -- what a list shows once the node of a node is put in, if that has one
 pub record AddsSide (p : Problem) (old new : List Node) (side : TreeNode) : Type 0 where

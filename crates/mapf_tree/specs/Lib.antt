@@ -11,7 +11,7 @@ pub mod Book
 pub mod SharedChanges
 pub mod Laws
 pub mod OpenList
-pub mod Runs
+pub mod Buckets
 pub mod Search
 pub mod LowerBound
 pub mod Turns

@@ -1,66 +1,62 @@
 ghost use Rattle.std.specs.Prelude.{◌≡◌, ◌↔◌, [], take, OnOk, IfErr, IsTrue};
 ghost use Rattle.mapf_tree.specs.OpenList.{IsTaken};
 
-mod by_key;
+mod bucket;
 mod first;
-mod open_nodes;
-mod rest;
-mod rest_nodes;
-mod run;
-mod run_nodes;
-mod runs;
+mod nodes;
+mod queue;
 
 use crate::Node;
-use crate::open_list::by_key::order_of;
-use crate::open_list::open_nodes::OpenNodes;
-use crate::open_list::rest::Rest;
-use crate::open_list::runs::Runs;
+use bucket::Bucket;
 pub use first::First;
+use nodes::NodesOfBuckets;
 use std::alloc::Global;
-use std::cmp::Ordering;
+use std::collections::BTreeMap;
 use std::marker::Model;
 
 /// The nodes that wait, in the order of their keys; no two have one key.
 ///
-/// Parents are taken in this order, so that the children of a level come in it, too, where they cost what their parents cost, and
-/// those that cost more come in a few rising runs. Most nodes are put behind the last of a run, and no place is looked for.
+/// Parents are taken in this order, so the children of one cost and depth come in it, too, as far as their parents cost the
+/// same: they are a union of as many rising sequences as their parents have different costs, and need no more queues.
 pub struct OpenList {
-    /// The nodes that came behind all of the runs with their cost and depth.
-    runs: Runs,
-    /// The others. A node of the runs that has the key of one of them waits no longer.
-    rest: Rest,
+    alloc: Global,
+    /// By cost and depth; each has a node.
+    buckets: BTreeMap<(u64, usize), Bucket>,
 }
 
 // By hand, so that a proof about what holds one sees a call where it is dropped, and not its fields.
 impl Drop for OpenList {
     fn drop(self) {
-        let OpenList { runs: _, rest: _ } = self;
+        let OpenList {
+            alloc: _,
+            buckets: _,
+        } = self;
     }
 }
 
 impl Model for OpenList {
     ghost use Rattle.std.specs.Prelude.{List};
     ghost use Rattle.mapf_tree.specs.Nodes.{Node};
+    ghost use Rattle.std.specs.BTreeMap.{values};
+    ghost use Rattle.mapf_tree.specs.Buckets.{nodes_of, AreBuckets};
 
     ghost Value = { List Node };
 
-    ghost use Rattle.mapf_tree.specs.OpenList.{IsRising, merged};
+    ghost view = { λ l. nodes_of (values l.buckets) };
 
-    ghost view = { λ l. merged l.runs l.rest };
-
-    ghost invariant = { λ l. IsRising l.runs × IsRising l.rest };
+    ghost invariant = { λ l. AreBuckets l.buckets.entries };
 }
 
 impl OpenList {
-    ghost use Rattle.mapf_tree.specs.OpenList.{IsRising, IsPut, IsAdded};
+    ghost use Rattle.mapf_tree.specs.OpenList.{IsRising, IsPut};
 
     /// No node waits.
     pub fn new(alloc: Global) -> OpenList
         ensures { result ≡ [] }
     {
         OpenList {
-            runs: Runs::new(alloc),
-            rest: Rest::new(alloc),
+            alloc,
+            buckets: BTreeMap::new(alloc),
         }
     }
 
@@ -68,7 +64,7 @@ impl OpenList {
     pub fn is_empty(&self) -> bool
         ensures { IsTrue result ↔ (self.now ≡ []) }
     {
-        self.runs.is_empty() && self.rest.is_empty()
+        self.buckets.is_empty()
     }
 
     /// Puts a node in at its place; a node that waits there with the same key goes.
@@ -80,20 +76,15 @@ impl OpenList {
         ensures err { IfErr result (λ _. self.new ≡ self.old) }
         ensures rising { IsRising self.new }
     {
-        self.rest.put(node)
-    }
-
-    /// Adds a node at its place, which is looked for once. Where a node waits with the same key, one of the two stays.
-    pub(crate) fn add(&mut self, node: Node) -> Result<(), Node>
-        ensures ok { OnOk result (IsAdded self.old node self.new) }
-
-        // When memory runs out the node comes back, and the list is unchanged.
-        ensures back { IfErr result (λ n. n ≡ node) }
-        ensures err { IfErr result (λ _. self.new ≡ self.old) }
-    {
-        match self.runs.push(node)? {
-            Some(node) => self.rest.add(node),
-            None => Ok(()),
+        let level = (node.key().cost, node.key().depth);
+        if let Some(bucket) = self.buckets.get_mut(&level) {
+            return bucket.put(node);
+        }
+        let mut bucket = Bucket::new(self.alloc);
+        bucket.put(node)?;
+        match self.buckets.insert(level, bucket) {
+            Ok(_none) => Ok(()),
+            Err(refused) => Err(refused.value.1.into_one()),
         }
     }
 
@@ -102,14 +93,13 @@ impl OpenList {
         ensures taken { IsTaken self.old result self.new }
         ensures rising { IsRising self.old }
     {
-        match order_of(self.runs.first(), self.rest.first()) {
-            Ordering::Less => self.runs.take_first(),
-            Ordering::Equal => {
-                let _passed_over = self.runs.take_first();
-                self.rest.take_first()
-            }
-            Ordering::Greater => self.rest.take_first(),
+        let level = *self.buckets.first_key_value()?.0;
+        let bucket = self.buckets.get_mut(&level)?;
+        let first = bucket.take_first();
+        if bucket.is_empty() {
+            self.buckets.pop_first();
         }
+        first
     }
 
     /// The first so many of the nodes, in the order of their keys.
@@ -117,6 +107,6 @@ impl OpenList {
         ensures first { result ≡ take count self.now }
         ensures rising { IsRising self.now }
     {
-        First::of(OpenNodes::of(self.runs.iter(), self.rest.iter()), count)
+        First::of(NodesOfBuckets::of(self.buckets.values()), count)
     }
 }

@@ -2,14 +2,14 @@ ghost use Rattle.std.specs.Prelude.{length};
 ghost use Rattle.std.specs.Iterator.{at_most};
 ghost use Rattle.mapf_tree.specs.OpenList.{GivesFirst};
 
+use super::nodes::NodesOfBuckets;
 use crate::Node;
-use crate::open_list::open_nodes::OpenNodes;
 use std::marker::Model;
 
 /// The first waiting nodes, in the order of their keys.
 #[derive(Drop)]
 pub struct First<'a> {
-    nodes: OpenNodes<'a>,
+    nodes: NodesOfBuckets<'a>,
     left: usize,
 }
 
@@ -26,7 +26,7 @@ impl<'a> First<'a> {
     ghost use Rattle.std.specs.Prelude.{◌≡◌, take};
 
     /// The first so many of these nodes.
-    pub(crate) fn of(nodes: OpenNodes<'a>, left: usize) -> First<'a>
+    pub(crate) fn of(nodes: NodesOfBuckets<'a>, left: usize) -> First<'a>
         ensures { result ≡ take left nodes.entry }
     {
         First { nodes, left }

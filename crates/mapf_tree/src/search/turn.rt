@@ -50,7 +50,7 @@ pub(crate) fn add_if_some(waiting: &mut OpenList, node: Option<Node>) -> Result<
     ensures { OnOk result (IsAddedIfSome waiting.old node waiting.new) }
 {
     if let Some(node) = node {
-        waiting.add(node).map_err(|_refused| NoMemory)?;
+        waiting.put(node).map_err(|_refused| NoMemory)?;
     }
     Ok(())
 }

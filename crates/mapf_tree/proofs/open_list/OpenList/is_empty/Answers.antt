@@ -1,12 +1,6 @@
-use Rattle.std.proofs.Common.{◌≡◌, ◌∙◌, sym, refl, true, false}
-use Rattle.mapf_tree.proofs.Merged.{merged_none, none_merged}
+use Rattle.std.proofs.Common.{◌∙◌, sym}
+use Rattle.mapf_tree.proofs.Buckets.{no_buckets, no_nodes}
 use Rattle.mapf_tree.proofs.open_list.OpenList.is_empty.Goals as goal
 
-pub returns-then-is_empty : goal.returns-then-is_empty
-returns-then-is_empty c = (
-  (λ t. sym c.self.view_is ∙ none_merged _ _ (c.if-is_empty.ensures.0 refl) (c.is_empty-then-is_empty.ensures.0 t)),
-  (λ e. c.is_empty-then-is_empty.ensures.1 (merged_none _ _ c.self.invariant (c.self.view_is ∙ e)).1),
-)
-
-pub returns-else-is_empty : goal.returns-else-is_empty
-returns-else-is_empty c = ((λ t. let z : false ≡ true = sym c.if-is_empty.false ∙ t in cc), (λ e. c.is_empty.ensures.1 (merged_none _ _ c.self.invariant (c.self.view_is ∙ e)).0))
+pub returns : goal.returns
+returns c = ((λ t. sym c.self.view_is ∙ no_nodes _ (c.is_empty.ensures.0 t)), (λ e. c.is_empty.ensures.1 (no_buckets _ c.self.invariant (c.self.view_is ∙ e))))

@@ -1,31 +1,36 @@
-use Rattle.std.proofs.Common.{subst}
-use Rattle.mapf_tree.specs.OpenList.{IsRising}
-use Rattle.mapf_tree.proofs.Merged.{merged_rises}
-use Rattle.mapf_tree.proofs.Least.{less_taken, equal_taken, greater_taken}
+use Rattle.std.proofs.Common.{◌≡◌, ◌∙◌, ap, sym, refl, subst, ◌++◌, true, false}
+use Rattle.mapf_tree.specs.OpenList.{IsRising, IsTaken}
+use Rattle.mapf_tree.proofs.Buckets.{all_of, buckets_rise, taken_first, still_are, popped}
 use Rattle.mapf_tree.proofs.open_list.OpenList.take_least.Goals.{in-Some-1, in-None-1}
 use Rattle.mapf_tree.proofs.open_list.OpenList.take_least.Goals as goal
 
-pub returns-in-Less-clause-taken : goal.returns-in-Less-clause-taken
-returns-in-Less-clause-taken c = less_taken _ _ _ _ _ _ _ c.self.invariant c.self.view_is c.first.ensures.first c.first-2.ensures.first c.in-Less.ensures c.take_first.ensures.taken
+pub invariant_of-self-then-is_empty : goal.invariant_of-self-then-is_empty
+invariant_of-self-then-is_empty c =
+    let t = taken_first _ _ _ _ _ _ _ _ c.self.invariant c.self.view_is c.in_ok-level.ensures.first (sym c.in_ok-bucket.ensures.value) (c.get_mut.follows.holds c.take_first-first.new.self).0 c.take_first-first.ensures in
+    (popped _ _ _ _ _ _ _ t c.self.invariant _ c.pop_first.result c.pop_first.ensures.variant c.pop_first.ensures.removal).0
 
-pub returns-in-Equal-clause-taken : goal.returns-in-Equal-clause-taken
-returns-in-Equal-clause-taken c =
-    let taken = equal_taken _ _ _ _ _ _ _ _ _ c.self.invariant c.self.view_is c.first.ensures.first c.first-2.ensures.first c.in-Equal.ensures
-    c.take_first-passed_over.ensures.taken c.take_first-in-Equal.ensures.taken in
-    elim c.match-passed_over.branch [
+pub invariant_of-self-else-is_empty : goal.invariant_of-self-else-is_empty
+invariant_of-self-else-is_empty c =
+    let t = taken_first _ _ _ _ _ _ _ _ c.self.invariant c.self.view_is c.in_ok-level.ensures.first (sym c.in_ok-bucket.ensures.value) (c.get_mut.follows.holds c.take_first-first.new.self).0 c.take_first-first.ensures in
+    still_are _ _ _ _ _ _ _ t c.self.invariant c.take_first-first.ensures (λ e. let z : false ≡ true = c.if-is_empty.ensures.1 e in cc) (c.get_mut.follows.holds c.take_first-first.new.self).4
+
+pub returns-then-is_empty-clause-taken : goal.returns-then-is_empty-clause-taken
+returns-then-is_empty-clause-taken c =
+    let t = taken_first _ _ _ _ _ _ _ _ c.self.invariant c.self.view_is c.in_ok-level.ensures.first (sym c.in_ok-bucket.ensures.value) (c.get_mut.follows.holds c.take_first-first.new.self).0 c.take_first-first.ensures in
+    let left = (popped _ _ _ _ _ _ _ t c.self.invariant _ c.pop_first.result c.pop_first.ensures.variant c.pop_first.ensures.removal).1 in
+    let taken = subst (λ ns. IsTaken c.args.self.now c.take_first-first.result ns) (ap (λ ns. ns ++ all_of t.rest) (c.if-is_empty.ensures.0 refl) ∙ sym (ap all_of left)) t.taken in
+    elim c.match-pop_first.branch [
       | in-Some-1 w ↦ rw w.self-is taken
       | in-None-1 w ↦ rw w.self-is taken
     ]
 
-pub returns-in-Greater-clause-taken : goal.returns-in-Greater-clause-taken
-returns-in-Greater-clause-taken c =
-    greater_taken _ _ _ _ _ _ _ c.self.invariant c.self.view_is c.first.ensures.first c.first-2.ensures.first c.in-Greater.ensures c.take_first-in-Greater.ensures.taken
+pub returns-else-is_empty-clause-taken : goal.returns-else-is_empty-clause-taken
+returns-else-is_empty-clause-taken c =
+    let t = taken_first _ _ _ _ _ _ _ _ c.self.invariant c.self.view_is c.in_ok-level.ensures.first (sym c.in_ok-bucket.ensures.value) (c.get_mut.follows.holds c.take_first-first.new.self).0 c.take_first-first.ensures in
+    subst (λ rs. IsTaken c.args.self.now c.take_first-first.result (all_of rs)) (sym t.new) t.taken
 
-pub returns-in-Less-clause-rising : goal.returns-in-Less-clause-rising
-returns-in-Less-clause-rising c = subst IsRising c.self.view_is (merged_rises _ c.self.inside.rest c.self.invariant.0)
+pub returns-then-is_empty-clause-rising : goal.returns-then-is_empty-clause-rising
+returns-then-is_empty-clause-rising c = subst IsRising c.self.view_is (buckets_rise _ c.self.invariant)
 
-pub returns-in-Equal-clause-rising : goal.returns-in-Equal-clause-rising
-returns-in-Equal-clause-rising c = subst IsRising c.self.view_is (merged_rises _ c.self.inside.rest c.self.invariant.0)
-
-pub returns-in-Greater-clause-rising : goal.returns-in-Greater-clause-rising
-returns-in-Greater-clause-rising c = subst IsRising c.self.view_is (merged_rises _ c.self.inside.rest c.self.invariant.0)
+pub returns-else-is_empty-clause-rising : goal.returns-else-is_empty-clause-rising
+returns-else-is_empty-clause-rising c = subst IsRising c.self.view_is (buckets_rise _ c.self.invariant)
