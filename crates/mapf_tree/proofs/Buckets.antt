@@ -5,7 +5,6 @@ use Rattle.std.specs.List.{AllByRecursion}
 use Rattle.std.specs.List.Sorted.{IsStrictlySortedBy}
 use Rattle.std.specs.Map.{lookup, set_value}
 use Rattle.std.specs.Ordering.{is_eq, match_ordering, ordering_then}
-use Rattle.std.specs.Borrow.{Bor}
 use Rattle.std.specs.Prelude.{IsSome, IfSome, OnOk, IfErr}
 use Rattle.std.proofs.Math.Bool.{cond}
 use Rattle.std.proofs.lemmas.Bool.{cases_order}
@@ -17,7 +16,7 @@ use Rattle.mapf_plan.specs.Plan.{plan_cost}
 use Rattle.mapf_tree.specs.Nodes.{Node, node_key}
 use Rattle.mapf_tree.specs.declared.tree.key.Key.{Key}
 use Rattle.mapf_tree.specs.Tree.{key_rank}
-use Rattle.mapf_tree.specs.OpenList.{IsRising, IsPut, IsTaken, GivesFirst}
+use Rattle.mapf_tree.specs.OpenList.{IsRising, IsPut, IsTaken}
 use Rattle.mapf_tree.specs.Buckets.{nodes_of, IsBucket, AreBuckets, HaveNodes, level_cmp}
 use Rattle.mapf_tree.proofs.Keyed.{cmp_less, cmp_equal, cmp_greater}
 use Rattle.mapf_tree.proofs.Rising.{first_before, rises_on}
@@ -372,7 +371,10 @@ pub behind_have : (buckets later : List (List Node)) (bucket : List Node) → bu
 behind_have buckets later bucket e have ns c = have ns (subst (λ rs. Contains rs ns) (sym e) (there later c))
 
 -- the first node of the next bucket is given, where nothing is left of the one before
-pub bucket_steps : (left bucket kept : List Node) (buckets later : List (List Node)) (now : List Node) (given : Option (Bor Node)) → left ≡ [] → buckets ≡ bucket ∷ later → HaveNodes buckets → GivesFirst bucket given kept → left ++ nodes_of buckets ≡ now → GivesFirst now given (kept ++ nodes_of later)
-bucket_steps left bucket kept buckets later now None none e have gives view =
-    let some = have bucket (subst (λ rs. Contains rs bucket) (sym e) (here later refl)) in absurd (nowhere (subst (λ ns. Contains ns some.0) gives.0 (subst (λ ns. Contains ns some.0) (sym some.2) (here some.1 refl))))
-bucket_steps left bucket kept buckets later now (Some n) none e have gives view = sym view ∙ ap (λ ns. ns ++ nodes_of buckets) none ∙ ap nodes_of e ∙ ap (λ ns. ns ++ nodes_of later) gives
+pub bucket_steps : (left bucket kept : List Node) (buckets later : List (List Node)) (now : List Node) (n : Node) → left ≡ [] → buckets ≡ bucket ∷ later → bucket ≡ n ∷ kept → left ++ nodes_of buckets ≡ now → now ≡ n ∷ (kept ++ nodes_of later)
+bucket_steps left bucket kept buckets later now n none e gives view = sym view ∙ ap (λ ns. ns ++ nodes_of buckets) none ∙ ap nodes_of e ∙ ap (λ ns. ns ++ nodes_of later) gives
+
+-- and it has one
+pub bucket_gives : (bucket : List Node) (buckets later : List (List Node)) → buckets ≡ bucket ∷ later → HaveNodes buckets → bucket ≡ [] → ⊥
+bucket_gives bucket buckets later e have none =
+    let some = have bucket (subst (λ rs. Contains rs bucket) (sym e) (here later refl)) in nowhere (subst (λ ns. Contains ns some.0) (sym some.2 ∙ none) (here some.1 refl))

@@ -106,11 +106,6 @@ pub record AreBuckets (buckets : List ((ℕ × ℕ) × List Node)) : Type 0 wher
   pub each : (bucket : (ℕ × ℕ) × List Node) → Contains buckets bucket → IsBucket bucket.0 bucket.1
   pub ordered : IsStrictlySortedBy level_cmp (map (λ bucket. bucket.0) buckets)
 
--- what is left of a bucket; nothing where there is none
-abbrev pub left_of : Option (List Node) → List Node
-left_of None = []
-left_of (Some nodes) = nodes
-
 -- each has a node
 abbrev pub HaveNodes : List (List Node) → Type 0
 HaveNodes lists =

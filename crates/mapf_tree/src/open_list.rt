@@ -3,13 +3,11 @@ ghost use Rattle.mapf_tree.specs.OpenList.{IsTaken};
 
 mod bucket;
 mod first;
-mod nodes;
 mod queue;
 
 use crate::Node;
 use bucket::Bucket;
 pub use first::First;
-use nodes::NodesOfBuckets;
 use std::alloc::Global;
 use std::collections::BTreeMap;
 use std::marker::Model;
@@ -107,6 +105,6 @@ impl OpenList {
         ensures first { result ≡ take count self.now }
         ensures rising { IsRising self.now }
     {
-        First::of(NodesOfBuckets::of(self.buckets.values()), count)
+        First::of(self.buckets.values(), count)
     }
 }

@@ -4,8 +4,8 @@ ghost use Rattle.std.specs.Prelude.{◌≡◌, ◌↔◌, [], ◌∷◌, length,
 ghost use Rattle.mapf_tree.specs.Nodes.{node_key};
 ghost use Rattle.mapf_tree.specs.OpenList.{IsRising, IsPut, IsTaken};
 ghost use Rattle.mapf_tree.specs.Buckets.{EachLacksKey, IsFoundAt, IsEndOf, IsLeastTo, ComesFirst};
+ghost use Rattle.mapf_tree.specs.Buckets.{nodes_of, in_order, HaveOwnKeys};
 
-use super::nodes::NodesOfBucket;
 use super::queue::Queue;
 use crate::Node;
 use std::alloc::Global;
@@ -92,11 +92,12 @@ impl Bucket {
         bucket.take_first().unwrap()
     }
 
-    /// The nodes, in order.
-    pub(crate) fn iter(&self) -> NodesOfBucket<'_>
-        ensures { result ≡ self.now }
+    /// The queues that have its nodes.
+    pub(crate) fn queues(&self) -> &[Queue]
+        ensures nodes { in_order (nodes_of result.now) ≡ self.now }
+        ensures own { HaveOwnKeys (nodes_of result.now) }
     {
-        NodesOfBucket::of(self.queues.as_slice())
+        self.queues.as_slice()
     }
 }
 
