@@ -1,5 +1,5 @@
 -- From a search for the agent of one side of a node's conflict to that side of the tree.
-use Rattle.std.proofs.Common.{◌≡◌, ℕ, ◌+◌, ◌<◌, ◌≤◌, List, [], ◌∷◌, ◌++◌, length, get_or, set, Option, Some, None, subst, subst₂, sym, refl, ap, ◌∙◌, ⊎_elim, arith, get_or-set_same, get_or-set_other}
+use Rattle.std.proofs.Common.{◌≡◌, ℕ, ◌+◌, ◌<◌, ◌≤◌, List, [], ◌∷◌, ◌++◌, length, get_or, set, Option, Some, None, option_map, subst, subst₂, sym, ap, ◌∙◌, ⊎_elim, arith, get_or-set_same, get_or-set_other}
 use Rattle.std.proofs.lemmas.List.{length-set}
 use Rattle.std.proofs.lemmas.List.Sums.{sum_by-set, get_or-le-sum_by}
 use Rattle.mapf_grid.specs.Grid.{Grid}
@@ -14,7 +14,7 @@ use Rattle.mapf_low.proofs.Sets.{own_set, none_set}
 use Rattle.mapf_tree.specs.declared.tree.side.Side.{Side}
 use Rattle.mapf_tree.specs.Problem.{Problem}
 use Rattle.mapf_tree.specs.Tree.{IsOwnPathOf, TreeNode, HasPlan, side, side_of, agent_on, constraint_on, constraints_of, PlannedNode}
-use Rattle.mapf_tree.specs.Nodes.{Changed, AreChanges, turned, Node, StandsFor, IsConflictOf, IsSameSet}
+use Rattle.mapf_tree.specs.Nodes.{AreChanges, turned, Node, StandsFor, IsConflictOf, IsSameSet}
 use Rattle.mapf_tree.specs.Family.{IsSide, IsOwn, IsOwnWithin, Leaves}
 use Rattle.mapf_tree.specs.Laws.{NoneIsDearer}
 use Rattle.mapf_grid.proofs.Lists.{set_cases}
@@ -23,13 +23,10 @@ use Rattle.mapf_tree.proofs.Measure.{grown_all}
 use Rattle.mapf_tree.proofs.ConstraintSets.{IsWith, with_front, IsWith-cons}
 use Rattle.mapf_tree.proofs.Plans.{OwnAt, same_paths}
 
--- what was searched: agent a under one constraint k more than it had at the node
-pub record IsSearched (p : Problem) (node : Node) (c : Conflict) (s : Side) (a limit : ℕ) (k : Constraint) (more : List Constraint) (found : Option (List ℕ)) : Type 0 where
-  pub agent : a ≡ agent_on c s
-  pub forbidden : k ≡ constraint_on c s
+-- what is searched: a path for agent a under one constraint k more than it had at the node, within what the others leave
+pub record IsSought (p : Problem) (node : Node) (a limit : ℕ) (k : Constraint) (more : List Constraint) : Type 0 where
   pub after : IsWith k (get_or node.constraints a []) more
   pub leaves : Leaves p node.plan a limit
-  pub own : IsOwnWithin p limit a more found
 
 -- an own path is that of the set of constraints
 IsOwn-set : (p : Problem) (limit i : ℕ) (xs ys : List Constraint) (found : Option (List ℕ)) → IsSameSet xs ys → IsOwnWithin p limit i xs found → IsOwnWithin p limit i ys found
@@ -74,13 +71,6 @@ module _ (p : Problem) (node : Node) (m : PlannedNode) (c : Conflict) (s : Side)
       subst (IsSameSet more) (sym (get_or-set_same m.0.constraints (agent_on c s) (constraint_on c s ∷ constraints_of m.0 (agent_on c s)) [] in_pair))
       (IsWith-cons (constraint_on c s) (constraints_of m.0 (agent_on c s)) (get_or node.constraints (agent_on c s) []) more (shows.sets (agent_on c s) agent_inside) after)
 
-  -- what was found is the own path of the side's agent, or none
-  found_there : (a limit : ℕ) (k : Constraint) (more : List Constraint) (found : Option (List ℕ)) → IsSearched p node c s a limit k more found → IsOwnWithin p limit (agent_on c s) (constraints_of there (agent_on c s)) found
-  found_there a limit k more found h = IsOwn-set p limit (agent_on c s) more (constraints_of there (agent_on c s)) found (same h) (subst (λ i. IsOwnWithin p limit i more found) h.agent h.own)
-    where
-      same : IsSearched p node c s a limit k more found → IsSameSet more (constraints_of there (agent_on c s))
-      same h = set_there more (subst (λ x. IsWith x (get_or node.constraints (agent_on c s) []) more) h.forbidden (subst (λ i. IsWith k (get_or node.constraints i []) more) h.agent h.after))
-
   -- the side's agent has a path in the node's plan
   in_plan : agent_on c s < length node.plan
   in_plan = subst (λ n. agent_on c s < n) (sym (ap length shows.plan ∙ shows.member.plan.agents)) agent_inside
@@ -93,103 +83,85 @@ module _ (p : Problem) (node : Node) (m : PlannedNode) (c : Conflict) (s : Side)
       (λ ne. subst₂ (λ cs q. IsOwnPathOf p i cs q) (sym (get_or-set_other m.0.constraints (agent_on c s) i _ [] (λ e. ne (sym e))))
       (ap (λ l. path_of l i) (sym shows.plan)) (shows.member.plan.own i h))
 
-  -- what the others leave is at most the bound
-  limit_le : (limit : ℕ) → Leaves p node.plan (agent_on c s) limit → limit ≤ p.bound
-  limit_le limit leaves = omega (arith, leaves, get_or-le-sum_by cost node.plan (agent_on c s) [] in_plan)
+  module _ (limit : ℕ) (more : List Constraint) (sought : IsSought p node (agent_on c s) limit (constraint_on c s) more) where
+    -- what the others leave is at most the bound
+    limit_le : limit ≤ p.bound
+    limit_le = omega (arith, sought.leaves, get_or-le-sum_by cost node.plan (agent_on c s) [] in_plan)
 
-  -- what a path may cost, and what the plan costs with it
-  costs_with : (limit : ℕ) (path : List ℕ) → Leaves p node.plan (agent_on c s) limit → plan_cost (set node.plan (agent_on c s) path) + limit ≡ p.bound + cost path
-  costs_with limit path leaves =
-      let changed : plan_cost (set node.plan (agent_on c s) path) + cost (path_of node.plan (agent_on c s)) ≡ plan_cost node.plan + cost path = sum_by-set cost node.plan (agent_on c s) path [] in_plan in
-      omega (arith, changed, leaves)
+    -- the plan with the agent's new path, and what it costs
+    abbrev plan_with : List ℕ → List (List ℕ)
+    plan_with path = set node.plan (agent_on c s) path
 
-  module _ (limit : ℕ) (plan : List (List ℕ)) (leaves : Leaves p node.plan (agent_on c s) limit) (has : HasPlan p there plan) where
-    -- the agent's path in the plan of this side
-    own_in : OwnAt p there (agent_on c s) (path_of plan (agent_on c s))
-    own_in = has.own (agent_on c s) agent_inside
+    costs_with : (path : List ℕ) → plan_cost (plan_with path) + limit ≡ p.bound + cost path
+    costs_with path =
+        let changed : plan_cost (plan_with path) + cost (path_of node.plan (agent_on c s)) ≡ plan_cost node.plan + cost path = sum_by-set cost node.plan (agent_on c s) path [] in_plan in
+        omega (arith, changed, sought.leaves)
 
-    -- the other agents have the paths that they had
-    same_in : plan ≡ set node.plan (agent_on c s) (path_of plan (agent_on c s))
-    same_in =
-        same_paths p there plan (set node.plan (agent_on c s) (path_of plan (agent_on c s))) has.agents
-        (length-set node.plan (agent_on c s) (path_of plan (agent_on c s)) ∙ ap length shows.plan ∙ shows.member.plan.agents) has.own (own_there (path_of plan (agent_on c s)) own_in)
+    -- it has as many paths as there are agents
+    agents_with : (path : List ℕ) → length (plan_with path) ≡ length p.inst.starts
+    agents_with path = length-set node.plan (agent_on c s) path ∙ ap length shows.plan ∙ shows.member.plan.agents
 
-    -- it costs at most what they leave
-    within_in : cost (path_of plan (agent_on c s)) ≤ limit
-    within_in =
-        let leaves_here : Leaves p plan (agent_on c s) limit = omega (arith, costs_with limit (path_of plan (agent_on c s)) leaves, ap plan_cost same_in) in
-        none_is_dearer p there plan (agent_on c s) limit has leaves_here
+    -- the set that the agent has on this side, searched, gives the own path there
+    found_there : (found : Option (List ℕ)) → IsOwnWithin p limit (agent_on c s) more found → IsOwnWithin p limit (agent_on c s) (constraints_of there (agent_on c s)) found
+    found_there found own = IsOwn-set p limit (agent_on c s) more (constraints_of there (agent_on c s)) found (set_there more sought.after) own
 
-    -- so it is the own path within that
-    own_within_in : IsOwnWithin p limit (agent_on c s) (constraints_of there (agent_on c s)) (Some (path_of plan (agent_on c s)))
-    own_within_in = own_by_limit _ _ limit p.bound _ _ (path_of plan (agent_on c s)) (limit_le limit leaves) within_in own_in
+    -- on this side the other agents have the paths that they had, so the agent's path is its own within what they leave
+    own_within_in : (plan : List (List ℕ)) → HasPlan p there plan → IsOwnWithin p limit (agent_on c s) (constraints_of there (agent_on c s)) (Some (path_of plan (agent_on c s)))
+    own_within_in plan has = own_by_limit _ _ limit p.bound _ _ path limit_le within own
+      where
+        path : List ℕ
+        path = path_of plan (agent_on c s)
 
-  -- no path for the agent within what the others leave of the bound: the side isn't in the tree
-  pub no_side : (a limit : ℕ) (k : Constraint) (more : List Constraint) → IsSearched p node c s a limit k more None → IsSide p m c s None
-  no_side a limit k more h plan has =
-      let leaves : Leaves p node.plan (agent_on c s) limit = subst (λ i. Leaves p node.plan i limit) h.agent h.leaves in
-      found_there a limit k more None h (path_of plan (agent_on c s)) (own_within_in limit plan leaves has).member
+        own : OwnAt p there (agent_on c s) path
+        own = has.own (agent_on c s) agent_inside
 
-  -- the plan has as many paths as there are agents
-  same_length : (plan : List (List ℕ)) (a : ℕ) (path : List ℕ) → plan ≡ set node.plan a path → length plan ≡ length p.inst.starts
-  same_length plan a path e = ap length e ∙ length-set node.plan a path ∙ ap length shows.plan ∙ shows.member.plan.agents
+        same : plan ≡ plan_with path
+        same = same_paths p there plan (plan_with path) has.agents (agents_with path) has.own (own_there path own)
 
-  module _ (a limit : ℕ) (k : Constraint) (more : List Constraint) (path : List ℕ) (plan : List (List ℕ)) (searched : IsSearched p node c s a limit k more (Some path)) (is_plan : plan ≡ set node.plan a path) where
-    leaves : Leaves p node.plan (agent_on c s) limit
-    leaves = subst (λ i. Leaves p node.plan i limit) searched.agent searched.leaves
+        within : cost path ≤ limit
+        within = omega (arith, costs_with path, ap plan_cost same, has.within)
 
-    replaced : set node.plan (agent_on c s) path ≡ plan
-    replaced = ap (λ j. set node.plan j path) (sym searched.agent) ∙ sym is_plan
+    -- no path for the agent within what the others leave of the bound: the side isn't in the tree
+    pub no_side : IsOwnWithin p limit (agent_on c s) more None → IsSide p m c s None
+    no_side none plan has = found_there None none (path_of plan (agent_on c s)) (own_within_in plan has).member
 
-    found : IsOwnWithin p limit (agent_on c s) (constraints_of there (agent_on c s)) (Some path)
-    found = found_there a limit k more (Some path) searched
+    -- with one the plan has each agent's own path on this side, and costs at most the bound
+    has_side : (path : List ℕ) → IsOwnWithin p limit (agent_on c s) more (Some path) → HasPlan p there (plan_with path)
+    has_side path own = record {
+      agents = agents_with path;
+      own = own_there path (own_by_bound _ _ limit p.bound _ _ path limit_le (found_there (Some path) own));
+      within = omega (arith, costs_with path, own.member.within);
+    }
 
-    -- the plan has each agent's own path on this side
-    all_there : (i : ℕ) → i < length p.inst.starts → OwnAt p there i (path_of plan i)
-    all_there i h =
-        subst (λ l. OwnAt p there i (path_of l i)) replaced (own_there path (own_by_bound _ _ limit p.bound _ _ path (limit_le limit leaves) found) i h)
-
-    -- and costs at most the bound
-    within : plan_cost plan ≤ p.bound
-    within = omega (arith, costs_with limit path leaves, ap plan_cost replaced, found.member.within)
-
-    -- so the side has this plan
-    pub has_side : HasPlan p there plan
-    has_side = record { agents = same_length plan a path is_plan; own = all_there; within = within }
-
-    -- and the new node stands for the side
-    pub side_stands : (new : Node) → new.name ≡ node.name ++ s ∷ [] → new.changes ≡ node.changes ++ record { agent = a; constraint = k; path = path } ∷ [] →
-        new.constraints ≡ set node.constraints a (k ∷ get_or node.constraints a []) → new.plan ≡ plan → new.rule ≡ node.rule → IsConflictOf node.rule plan new.conflict → IsSide p m c s (Some new)
-    side_stands new name changes constraints stand rule conflict = (
-      plan,
+    -- so the new node stands for the side
+    pub side_stands : (path : List ℕ) → IsOwnWithin p limit (agent_on c s) more (Some path) → (new : Node) → new.name ≡ node.name ++ s ∷ [] →
+        new.changes ≡ node.changes ++ record { agent = agent_on c s; constraint = constraint_on c s; path = path } ∷ [] →
+        new.constraints ≡ set node.constraints (agent_on c s) (constraint_on c s ∷ get_or node.constraints (agent_on c s) []) → new.plan ≡ plan_with path → new.rule ≡ node.rule →
+        IsConflictOf node.rule (plan_with path) new.conflict → IsSide p m c s (Some new)
+    side_stands path own new name changes constraints stand rule conflict = (
+      plan_with path,
       record {
         member = record { inside = side s shows.member.inside shows.member.plan first has; plan = has };
         name = name ∙ ap (λ l. l ++ s ∷ []) shows.name;
-        changes = subst (AreChanges p there plan) (sym (changes ∙ ap (λ x. node.changes ++ x ∷ []) change)) (turned s shows.changes first has);
+        changes = subst (AreChanges p there (plan_with path)) (sym (changes ∙ ap (λ q. node.changes ++ record { agent = agent_on c s; constraint = constraint_on c s; path = q } ∷ []) now)) (turned s shows.changes first has);
         plan = stand;
-        agents = ap length constraints ∙ length-set node.constraints a _ ∙ shows.agents;
-        sets = λ i h. subst (λ l. IsSameSet (get_or l i []) (constraints_of there i)) (sym renamed) (sets i h);
+        agents = ap length constraints ∙ length-set node.constraints (agent_on c s) _ ∙ shows.agents;
+        sets = λ i h. subst (λ l. IsSameSet (get_or l i []) (constraints_of there i)) (sym constraints) (sets i h);
         rule = rule ∙ shows.rule;
         conflict = subst₂ (λ r q. IsConflictOf r q new.conflict) shows.rule (sym stand) conflict;
       },
     )
       where
-        has : HasPlan p there plan
-        has = has_side
+        has : HasPlan p there (plan_with path)
+        has = has_side path own
 
-        -- what this turn changed
-        new_path : path ≡ path_of plan (agent_on c s)
-        new_path = sym (ap (λ l. path_of l (agent_on c s)) (sym replaced) ∙ get_or-set_same node.plan (agent_on c s) path [] in_plan)
-
-        change : ◌≡◌ {A = Changed} (record { agent = a; constraint = k; path = path }) (record { agent = agent_on c s; constraint = constraint_on c s; path = path_of plan (agent_on c s) })
-        change = let agent : a ≡ agent_on c s = searched.agent in let forbidden : k ≡ constraint_on c s = searched.forbidden in let now : path ≡ path_of plan (agent_on c s) = new_path in cc
+        -- the path of this turn's change
+        now : path ≡ path_of (plan_with path) (agent_on c s)
+        now = sym (get_or-set_same node.plan (agent_on c s) path [] in_plan)
 
         -- the set that the agent has now
         own_set : List Constraint
         own_set = constraint_on c s ∷ get_or node.constraints (agent_on c s) []
-
-        renamed : new.constraints ≡ set node.constraints (agent_on c s) own_set
-        renamed = constraints ∙ ap (λ j. set node.constraints j (k ∷ get_or node.constraints j [])) searched.agent ∙ ap (λ x. set node.constraints (agent_on c s) (x ∷ get_or node.constraints (agent_on c s) [])) searched.forbidden
 
         sets : (i : ℕ) → i < length p.inst.starts → IsSameSet (get_or (set node.constraints (agent_on c s) own_set) i []) (constraints_of there i)
         sets i h =
@@ -197,28 +169,12 @@ module _ (p : Problem) (node : Node) (m : PlannedNode) (c : Conflict) (s : Side)
             (λ e. subst (λ j. IsSameSet own_set (constraints_of there j)) e (set_there own_set (with_front (constraint_on c s) (get_or node.constraints (agent_on c s) []))))
             (λ ne. subst (IsSameSet (get_or node.constraints i [])) (sym (get_or-set_other m.0.constraints (agent_on c s) i _ [] (λ e. ne (sym e)))) (shows.sets i h))
 
-  -- the other way round: what a side of the tree tells of the own path of its agent
-  module _ (a limit : ℕ) (k : Constraint) (more : List Constraint) (agent : a ≡ agent_on c s) (forbidden : k ≡ constraint_on c s) (after : IsWith k (get_or node.constraints a []) more) (leaves : Leaves p node.plan a limit) where
-    -- the limit by the side's agent
-    leaves_on : Leaves p node.plan (agent_on c s) limit
-    leaves_on = subst (λ i. Leaves p node.plan i limit) agent leaves
-
-    -- the set by the side's constraint
-    same_set : IsSameSet (constraints_of there (agent_on c s)) more
-    same_set x =
-        let same = set_there more (subst (λ y. IsWith y (get_or node.constraints (agent_on c s) []) more) forbidden (subst (λ i. IsWith k (get_or node.constraints i []) more) agent after)) x in
-        (same.1, same.0)
-
-    -- where the side is in the tree, it is the agent's path there
-    pub own_of_side : (new : Node) → IsSide p m c s (Some new) → IsOwnWithin p limit a more (Some (path_of new.plan a))
-    own_of_side new has =
-        let found = own_within_in limit has.0 leaves_on has.1.member.plan in
-        let own : IsOwnWithin p limit (agent_on c s) more (Some (path_of has.0 (agent_on c s))) = IsOwn-set p limit (agent_on c s) (constraints_of there (agent_on c s)) more (Some (path_of has.0 (agent_on c s))) same_set found in
-        subst (λ i. IsOwnWithin p limit i more (Some (path_of new.plan i))) (sym agent) (subst (λ l. IsOwnWithin p limit (agent_on c s) more (Some (path_of l (agent_on c s)))) (sym has.1.plan) own)
-
-    -- where it isn't, there is none
-    pub none_of_side : IsSide p m c s None → IsOwnWithin p limit a more None
-    none_of_side none path allowed =
-        ⊎_elim
-        (λ w. none (set node.plan a w.0) (has_side a limit k more w.0 (set node.plan a w.0) (record { agent = agent; forbidden = forbidden; after = after; leaves = leaves; own = w.1 }) refl))
-        (λ n. n path allowed) (own_path p.inst.grid (get_or p.inst.starts a 0) (get_or p.inst.goals a 0) limit more)
+    -- the other way round: where a side is in the tree, it has its agent's own path, and where it isn't, there is none
+    pub own_of_side : (found : Option Node) → IsSide p m c s found → IsOwnWithin p limit (agent_on c s) more (option_map (λ n. path_of n.plan (agent_on c s)) found)
+    own_of_side (Some new) has =
+        subst (λ l. IsOwnWithin p limit (agent_on c s) more (Some (path_of l (agent_on c s)))) (sym has.1.plan)
+        (IsOwn-set p limit (agent_on c s) (constraints_of there (agent_on c s)) more (Some (path_of has.0 (agent_on c s)))
+        (λ x. let same = set_there more sought.after x in (same.1, same.0)) (own_within_in has.0 has.1.member.plan))
+    own_of_side None none = λ path allowed.
+        ⊎_elim (λ w. none (plan_with w.0) (has_side w.0 w.1)) (λ n. n path allowed)
+        (own_path p.inst.grid (get_or p.inst.starts (agent_on c s) 0) (get_or p.inst.goals (agent_on c s) 0) limit more)

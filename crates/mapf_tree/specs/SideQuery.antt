@@ -4,6 +4,8 @@ use Rattle.std.specs.Prelude.{◌≡◌, ℕ, ◌<◌, ◌≤◌, ◌↔◌, ◌
 use Rattle.mapf_plan.specs.Path.{cost}
 use Rattle.mapf_plan.specs.declared.conflict.Conflict.{Conflict}
 use Rattle.mapf_low.specs.declared.constraint.Constraint.{Constraint}
+use Rattle.mapf_plan.specs.Plan.{most_bound}
+use Rattle.mapf_low.specs.Kept.{HasTwoEnds}
 use Rattle.mapf_low.specs.Walk.{AreDistances}
 use Rattle.mapf_tree.specs.declared.tree.side.Side.{Side}
 use Rattle.mapf_tree.specs.Problem.{Problem}
@@ -35,6 +37,15 @@ IsFoundBy query = IsOwnWithin query.problem query.limit query.agent query.constr
 abbrev pub CostsAtLeast : SideQuery → ℕ → Type 0
 CostsAtLeast query least =
     (path : List ℕ) → IsAllowedFor (record query.problem { bound = query.limit }) query.agent query.constraints path → least ≤ cost path
+
+-- what always holds of a query: its agent is one of the problem's, the limit is no larger than bounds are, a swap that it forbids
+-- is between two cells, and its path costs at least so much
+pub record IsAsked (query : SideQuery) (least : ℕ) : Type 0 where
+  pub inside : query.agent < length query.problem.inst.starts
+  pub bound : query.problem.bound ≤ most_bound
+  pub limit : query.limit ≤ most_bound
+  pub ends : HasTwoEnds query.constraint
+  pub costs : CostsAtLeast query least
 
 -- an agent, and a table of how far each cell of a map is from its start, if there is one
 pub record FromStart : Type 0 where

@@ -2,7 +2,7 @@
 
 ghost use Rattle.std.specs.Prelude.{◌<◌, ◌≤◌, [], length, IfOk, None, MatchOption};
 ghost use Rattle.mapf_plan.specs.Plan.{most_bound};
-ghost use Rattle.mapf_tree.specs.SideQuery.{IsFoundBy, IsFromStart, IsQueryOf};
+ghost use Rattle.mapf_tree.specs.SideQuery.{IsFromStart, IsQueryOf};
 ghost use Rattle.mapf_tree.specs.Family.{AreRootPaths, IsBranching, IsChildOf, IsOwn, IsOwnWithin, IsRoot};
 
 use crate::{FromStart, Node, Problem, Side, SideQuery};
@@ -51,8 +51,7 @@ pub fn child(
     ensures { IfOk result (IsChildOf problem.now node.now side) }
 {
     let query = SideQuery::of(alloc, problem, node, side)?;
-    let path = query.own_path(alloc)?;
-    child_from(alloc, node, &query, path)
+    child_with(alloc, node, &query, &FromStart::none(query.agent()))
 }
 
 /// The child of a node of the tree on the side that a query is of. Its path is looked for backwards first if there is a table
@@ -68,23 +67,7 @@ pub fn child_with(
     requires from_start { IsFromStart query.now.problem from_start.now }
     ensures { IfOk result (IsChildOf query.now.problem node.now query.now.side) }
 {
-    let path = query.own_path_with(alloc, from_start)?;
-    child_from(alloc, node, query, path)
-}
-
-/// The child that a query is for, from the own path that it asks for.
-fn child_from(
-    alloc: Global,
-    node: &Node,
-    query: &SideQuery<'_>,
-    path: Option<Path>,
-) -> Result<Option<Node>, NoMemory>
-    requires node { IsBranching query.now.problem node.now }
-    requires query { IsQueryOf node.now query.now }
-    requires path { IsFoundBy query.now path }
-    ensures { IfOk result (IsChildOf query.now.problem node.now query.now.side) }
-{
-    let path = match path {
+    let path = match query.own_path_with(alloc, from_start)? {
         Some(path) => Some(Arc::new(alloc, path)?),
         None => None,
     };
@@ -102,7 +85,8 @@ pub fn root_path(alloc: Global, problem: &Problem, agent: usize) -> Result<Optio
 
 /// Each agent's own path under no constraints, if every agent has one; otherwise the root isn't in the tree.
 fn root_paths(alloc: Global, problem: &Problem) -> Result<Option<Vec<Path>>, NoMemory>
-    ensures { IfOk result (λ found. MatchOption found (IsRoot problem.now None) (λ paths. AreRootPaths problem.now paths.items)) }
+    ensures { IfOk result (λ found.
+        MatchOption found (IsRoot problem.now None) (λ paths. AreRootPaths problem.now paths.items)) }
 {
     let agents = problem.instance().agents();
     let mut paths = Vec::with_capacity(alloc, agents)?;

@@ -1,6 +1,6 @@
 //! Distances from an agent's start, by which its paths are looked for backwards.
 
-ghost use Rattle.std.specs.Prelude.{◌≡◌, ◌<◌, length, slice_index, option_map, IfSome, None};
+ghost use Rattle.std.specs.Prelude.{◌≡◌, ◌<◌, length, slice_index, IfSome, Some, None};
 ghost use Rattle.std.specs.Arc.{arc_value};
 ghost use Rattle.mapf_low.specs.Walk.{AreDistances};
 ghost use Rattle.mapf_tree.specs.Problem.{Problem};
@@ -75,25 +75,23 @@ impl FromStart {
         FromStart::none(self.agent)
     }
 
-    /// The agent.
-    pub(crate) fn agent(&self) -> usize
-        ensures { result ≡ self.now.agent }
+    /// The distances from this agent's start, if there is a table of them.
+    pub(crate) fn distances_of(&self, agent: usize) -> Option<&Distances>
+        ensures { IfSome result (λ d. (self.now.agent ≡ agent) × (self.now.table ≡ Some d.now)) }
     {
-        self.agent
-    }
-
-    /// The distances, if there is a table.
-    pub(crate) fn distances(&self) -> Option<&Distances>
-        ensures { option_map (λ d. d.now) result ≡ self.now.table }
-    {
-        self.distances.as_deref()
+        if self.agent == agent {
+            self.distances.as_deref()
+        } else {
+            None
+        }
     }
 }
 
 /// A table of the distances from the start of an agent of a problem. None where memory runs out.
 fn table_of(alloc: Global, problem: &Problem, agent: usize) -> Option<Arc<Distances>>
     requires { agent < length problem.now.inst.starts }
-    ensures { IfSome result (λ d. AreDistances problem.now.inst.grid (slice_index problem.now.inst.starts agent) (arc_value d)) }
+    ensures { IfSome result (λ d.
+        AreDistances problem.now.inst.grid (slice_index problem.now.inst.starts agent) (arc_value d)) }
 {
     let instance = problem.instance();
     let distances = Distances::to(alloc, instance.map(), instance.start(agent)).ok()?;

@@ -40,7 +40,8 @@ impl Model for Problem {
 
     ghost view = { λ p. record { inst = p.instance; bound = p.bound; nodes = p.nodes; rule = p.rule } };
 
-    ghost invariant = { λ p. IsReady (record { inst = p.instance; bound = p.bound; nodes = p.nodes; rule = p.rule }) p.distances.items };
+    ghost invariant = { λ p.
+        IsReady (record { inst = p.instance; bound = p.bound; nodes = p.nodes; rule = p.rule }) p.distances.items };
 }
 
 impl Problem {
@@ -53,17 +54,12 @@ impl Problem {
         bound: u32,
     ) -> Result<Problem, (Instance, NoMemory)>
         requires { bound ≤ most_bound }
-        ensures made { IfOk result (λ p. p ≡ record { inst = instance; bound = bound; nodes = None; rule = Classical }) }
+        ensures made { IfOk result (λ p.
+            p ≡ record { inst = instance; bound = bound; nodes = None; rule = Classical }) }
         ensures err { IfErr result (λ e. e.0 ≡ instance) }
     {
         match distances_to_goals(alloc, &instance) {
-            Ok(distances) => Ok(Problem {
-                instance,
-                distances,
-                bound,
-                nodes: None,
-                rule: Rule::Classical,
-            }),
+            Ok(distances) => Ok(Problem::with(instance, distances, bound)),
             Err(fault) => Err((instance, fault)),
         }
     }
@@ -91,40 +87,18 @@ impl Problem {
         requires few { nodes ≤ most_nodes }
         ensures { result ≡ record { inst = self.inst; bound = self.bound; nodes = Some nodes; rule = self.rule } }
     {
-        let Problem {
-            instance,
-            distances,
-            bound,
-            nodes: _before,
-            rule,
-        } = self;
-        Problem {
-            instance,
-            distances,
-            bound,
-            nodes: Some(nodes),
-            rule,
-        }
+        let mut problem = self;
+        problem.nodes = Some(nodes);
+        problem
     }
 
     /// The same problem, where besides no agent may enter a cell at the time step at which another leaves it.
     pub fn forbid_following(self) -> Problem
         ensures { result ≡ record { inst = self.inst; bound = self.bound; nodes = self.nodes; rule = NoFollowing } }
     {
-        let Problem {
-            instance,
-            distances,
-            bound,
-            nodes,
-            rule: _before,
-        } = self;
-        Problem {
-            instance,
-            distances,
-            bound,
-            nodes,
-            rule: Rule::NoFollowing,
-        }
+        let mut problem = self;
+        problem.rule = Rule::NoFollowing;
+        problem
     }
 
     /// What is to be solved.

@@ -17,13 +17,13 @@ turned-requires-clause-small c =
     let found : IsFoundBy c.args.self.now (Some path) = subst (λ p. IsFoundBy c.args.self.now (option_map arc_value p)) c.in-Some.is c.requires.path in
     let plan : length c.args.node.now.plan ≡ length c.args.self.now.problem.inst.starts = ap length c.requires.node.stands.plan ∙ c.requires.node.stands.member.plan.agents in
     let inside : c.self.inside.agent < length c.args.node.now.plan =
-    subst (λ n. c.self.inside.agent < n) (sym (plan ∙ ap (λ (q : SideQuery). length q.problem.inst.starts) (sym c.self.view_is))) c.self.invariant.0 in
+    subst (λ n. c.self.inside.agent < n) (sym (plan ∙ ap (λ (q : SideQuery). length q.problem.inst.starts) (sym c.self.view_is))) c.self.invariant.inside in
     omega (
       arith,
       ap (λ (x : Changed). plan_cost (set c.args.node.now.plan x.agent x.path)) c.in_ok-change.ensures.ok,
       within_bound c.self.inside.problem.now c.args.node.now.plan c.self.inside.agent c.self.inside.limit c.self.inside.constraints path inside
           (subst (IsQueryOf c.args.node.now) (sym c.self.view_is) c.requires.query).leaves (subst (λ q. IsFoundBy q (Some path)) (sym c.self.view_is) found),
-      c.self.invariant.1,
+      c.self.invariant.bound,
     )
 
 pub returns : goal.returns
