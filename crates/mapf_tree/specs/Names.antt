@@ -22,9 +22,9 @@ turns_of (suc few) (suc bits) n =
     if nat_lt n (2 ^ bits) then Left ∷ turns_of few bits n else Right ∷ turns_of few bits (n - 2 ^ bits)
 
 -- what always holds of a name: the number is that of its turns, and turns stand behind it only where it is full
-pub record IsKept (first few : ℕ) (rest : List Side) : Type 0 where
+pub record IsKept (first few : ℕ) (suffix : List Side) : Type 0 where
   pub within : few ≤ 64
-  pub filled : few < 64 → rest ≡ []
+  pub filled : few < 64 → suffix ≡ []
   pub number : number_of (turns_of few 64 first) 64 ≡ first
 
 -- the turns that lie apart; none where nothing does

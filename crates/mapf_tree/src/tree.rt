@@ -3,7 +3,6 @@
 mod family;
 mod from_start;
 mod key;
-mod later_turns;
 mod name;
 mod problem;
 mod side;

@@ -8,8 +8,10 @@ ghost use Rattle.std.proofs.Common.{rules};
 ghost use Rattle.std.specs.Cmp.Rules.{comparing};
 ghost use Rattle.mapf_tree.specs.Names.{turn, number_of, turns_of};
 
+mod suffix;
+
 use crate::Side;
-use crate::tree::later_turns::LaterTurns;
+use crate::tree::name::suffix::Suffix;
 use mapf_grid::NoMemory;
 use std::alloc::Global;
 use std::cmp::Ordering;
@@ -29,7 +31,7 @@ pub struct Name {
     /// How many turns these are.
     few: usize,
     /// The turns behind the first 64.
-    rest: LaterTurns,
+    suffix: Suffix,
 }
 
 // By hand, so that a proof about what holds one sees a call where it is dropped, and not its fields.
@@ -38,7 +40,7 @@ impl Drop for Name {
         let Name {
             first: _,
             few: _,
-            rest: _,
+            suffix: _,
         } = self;
     }
 }
@@ -50,9 +52,9 @@ impl Model for Name {
 
     ghost Value = { List Side };
 
-    ghost view = { λ n. turns_of n.few 64 n.first ++ n.rest };
+    ghost view = { λ n. turns_of n.few 64 n.first ++ n.suffix };
 
-    ghost invariant = { λ n. IsKept n.first n.few n.rest };
+    ghost invariant = { λ n. IsKept n.first n.few n.suffix };
 }
 
 impl Name {
@@ -63,7 +65,7 @@ impl Name {
         Name {
             first: 0,
             few: 0,
-            rest: LaterTurns::none(),
+            suffix: Suffix::none(),
         }
     }
 
@@ -71,7 +73,7 @@ impl Name {
     pub fn len(&self) -> usize
         ensures { result ≡ length self.now }
     {
-        self.few + self.rest.len()
+        self.few + self.suffix.as_slice().len()
     }
 
     /// The name one turn further. Up to 64 turns it takes no memory.
@@ -83,13 +85,13 @@ impl Name {
             return Ok(Name {
                 first: number_with(self.first, self.few, side),
                 few: self.few + 1,
-                rest: LaterTurns::none(),
+                suffix: Suffix::none(),
             });
         }
         Ok(Name {
             first: self.first,
             few: self.few,
-            rest: self.rest.with(alloc, side)?,
+            suffix: self.suffix.with(alloc, side)?,
         })
     }
 
@@ -100,7 +102,7 @@ impl Name {
         Ok(Name {
             first: self.first,
             few: self.few,
-            rest: self.rest.copy(alloc)?,
+            suffix: self.suffix.copy(alloc)?,
         })
     }
 
@@ -109,7 +111,7 @@ impl Name {
         ensures { IfOk result (λ turns. turns.items ≡ self.now) }
     {
         let mut turns = first_turns(alloc, self.first, self.few)?;
-        turns.extend_from_slice(self.rest.as_slice())?;
+        turns.extend_from_slice(self.suffix.as_slice())?;
         Ok(turns)
     }
 }
@@ -191,7 +193,7 @@ impl Ord for Name {
     fn cmp(&self, other: &Name) -> Ordering {
         match self.first.cmp(&other.first) {
             Ordering::Equal => match self.few.cmp(&other.few) {
-                Ordering::Equal => self.rest.as_slice().cmp(other.rest.as_slice()),
+                Ordering::Equal => self.suffix.as_slice().cmp(other.suffix.as_slice()),
                 decided => decided,
             },
             decided => decided,

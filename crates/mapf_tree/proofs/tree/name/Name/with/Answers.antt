@@ -17,9 +17,9 @@ invariant_of-result c = record {
 
 pub returns-then-self-lt-KEPT-clause-name : goal.returns-then-self-lt-KEPT-clause-name
 returns-then-self-lt-KEPT-clause-name c =
-    name_more c.self.inside.first c.self.inside.few c.args.side c.if-self-lt-KEPT.true c.self.invariant.number c.number_with.result c.self.inside.rest c.none.result c.number_with.ensures
+    name_more c.self.inside.first c.self.inside.few c.args.side c.if-self-lt-KEPT.true c.self.invariant.number c.number_with.result c.self.inside.suffix c.none.result c.number_with.ensures
     (c.self.invariant.filled c.if-self-lt-KEPT.true) c.none.ensures
     ∙ ap (λ l. l ++ c.args.side ∷ []) c.self.view_is
 
 pub returns-in_err-with-clause-small : goal.returns-in_err-with-clause-small
-returns-in_err-with-clause-small c small = absurd (omega (arith, small, full c.self.inside.first c.self.inside.few c.self.inside.rest c.args.self.now c.self.invariant c.self.view_is c.if-self-lt-KEPT.false))
+returns-in_err-with-clause-small c small = absurd (omega (arith, small, full c.self.inside.first c.self.inside.few c.self.inside.suffix c.args.self.now c.self.invariant c.self.view_is c.if-self-lt-KEPT.false))
