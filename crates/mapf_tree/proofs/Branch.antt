@@ -1,36 +1,27 @@
 -- A valid plan that obeys a node obeys one of its sides.
-use Rattle.std.proofs.Common.{◌≡◌, ℕ, ◌<◌, List, [], ◌∷◌, length, get_or, set, inl, inr, subst, sym, ap, ◌∙◌, arith, get_or-set_same, get_or-set_other}
-use native.Mathlib.Decide.{ℕ_discrete}
+use Rattle.std.proofs.Common.{◌≡◌, ℕ, ◌<◌, List, [], ◌∷◌, length, inl, inr, subst, sym, ◌∙◌, arith}
 use Rattle.mapf_grid.proofs.Decide.{by_cases}
+use Rattle.mapf_grid.proofs.Lists.{set_cases}
 use Rattle.mapf_plan.specs.declared.conflict.Conflict.{Conflict}
 use Rattle.mapf_plan.specs.declared.conflict.Conflict.TheVariants.{Vertex, Swapping, Following}
 use Rattle.mapf_plan.specs.declared.rule.Rule.{Rule}
 use Rattle.mapf_plan.specs.Plan.{IsConflict, path_of}
-use Rattle.mapf_low.specs.declared.constraint.Constraint.{Constraint}
 use Rattle.mapf_low.specs.Constraints.{Obeys, Breaks}
 use Rattle.mapf_tree.specs.Problem.{Problem}
 use Rattle.mapf_tree.specs.declared.tree.side.Side.{Side}
 use Rattle.mapf_tree.specs.declared.tree.side.Side.TheVariants.{Left, Right}
-use Rattle.mapf_tree.specs.Tree.{TreeNode, side_of, constraint_on, agent_on}
+use Rattle.mapf_tree.specs.Tree.{TreeNode, side_of, constraints_of, constraint_on, agent_on}
 use Rattle.mapf_tree.specs.Laws.{ObeysNode, ObeysOneSide}
 use Rattle.mapf_low.proofs.OwnPaths.{dec_breaks}
 use Rattle.mapf_tree.proofs.Followers.{of_parts}
 
--- a path obeys one constraint more for agent a, if it keeps that one where it is agent a's
-obeys_set : (cs : List (List Constraint)) (a j : ℕ) (x : Constraint) (p : List ℕ) → a < length cs → (j ≡ a → ¬ Breaks p x) → Obeys (get_or cs j []) p → Obeys (get_or (set cs a (x ∷ get_or cs a [])) j []) p
-obeys_set cs a j x p h new old = go (ℕ_discrete j a)
-  where
-    go : Dec (j ≡ a) → Obeys (get_or (set cs a (x ∷ get_or cs a [])) j []) p
-    go (yes e) =
-        let eq : get_or (set cs a (x ∷ get_or cs a [])) j [] ≡ x ∷ get_or cs j [] =
-        ap (λ k. get_or (set cs a (x ∷ get_or cs a [])) k []) e ∙ get_or-set_same cs a (x ∷ get_or cs a []) [] h ∙ ap (λ k. x ∷ get_or cs k []) (sym e) in
-        subst (λ l. Obeys l p) (sym eq) (new e, old)
-    go (no e) = subst (λ l. Obeys l p) (sym (get_or-set_other cs a j (x ∷ get_or cs a []) [] e)) old
-
 -- a plan that obeys a node, and keeps the constraint of a side, obeys that side
-obeys_side : (problem : Problem) (node : TreeNode) (other : List (List ℕ)) (c : Conflict) (s : Side) → agent_on c s < length node.constraints → ¬ Breaks (path_of other (agent_on c s)) (constraint_on c s) → ObeysNode problem node other → ObeysNode problem (side_of node c s) other
-obeys_side problem node other c s h keeps obeys i lt =
-    obeys_set node.constraints (agent_on c s) i (constraint_on c s) (path_of other i) h (λ e b. keeps (subst (λ k. Breaks (path_of other k) (constraint_on c s)) e b)) (obeys i lt)
+obeys_side : (problem : Problem) (node : TreeNode) (other : List (List ℕ)) (c : Conflict) (s : Side) → length node.constraints ≡ length problem.inst.starts → ¬ Breaks (path_of other (agent_on c s)) (constraint_on c s) →
+    ObeysNode problem node other → ObeysNode problem (side_of node c s) other
+obeys_side problem node other c s n keeps obeys i lt =
+    set_cases (λ cs. Obeys cs (path_of other i)) node.constraints (agent_on c s) i (constraint_on c s ∷ constraints_of node (agent_on c s)) [] (omega (arith, n, lt))
+    (λ e. (subst (λ k. ¬ Breaks (path_of other k) (constraint_on c s)) e keeps, subst (λ k. Obeys (constraints_of node k) (path_of other i)) (sym e) (obeys i lt)))
+    (λ _. obeys i lt)
 
 -- a plan in which both agents break what their sides forbid has the conflict
 both_break : (rule : Rule) (plan other : List (List ℕ)) (c : Conflict) → length plan ≡ length other → IsConflict rule plan c → Breaks (path_of other (agent_on c Left)) (constraint_on c Left) → Breaks (path_of other (agent_on c Right)) (constraint_on c Right) → IsConflict rule other c
@@ -55,8 +46,5 @@ obeys_one_side problem node plan other c nc np is valid obeys =
     by_cases (dec_breaks (path_of other (agent_on c Left)) (constraint_on c Left))
     (λ l.
     by_cases (dec_breaks (path_of other (agent_on c Right)) (constraint_on c Right))
-    (λ r. absurd (valid.no_conflict c (both_break problem.rule plan other c (np ∙ sym valid.agents) is l r))) (λ r. inr (kept Right r)))
-    (λ l. inl (kept Left l))
-  where
-    kept : (s : Side) → ¬ Breaks (path_of other (agent_on c s)) (constraint_on c s) → ObeysNode problem (side_of node c s) other
-    kept s keeps = obeys_side problem node other c s (subst (λ k. agent_on c s < k) (np ∙ sym nc) (agent_below problem.rule plan c s is)) keeps obeys
+    (λ r. absurd (valid.no_conflict c (both_break problem.rule plan other c (np ∙ sym valid.agents) is l r))) (λ r. inr (obeys_side problem node other c Right nc r obeys)))
+    (λ l. inl (obeys_side problem node other c Left nc l obeys))

@@ -14,46 +14,32 @@ module _ (problem : Problem) where
   weight (yes h) = 0
   weight (no n) = 1
 
-  -- what follows from a fact weighs no more than it
-  weight_le : {A B : Type 0} (d : Dec A) (e : Dec B) → (A → B) → weight e ≤ weight d
+  -- what follows from a fact weighs no more than it, and less where it holds and the fact doesn't
+  lighter : {A B : Type 0} (d : Dec A) (e : Dec B) → (A → B) → (weight e ≤ weight d) × (¬ A → B → weight e < weight d)
   unfolding weight
-  weight_le (yes h) (yes k) f = omega arith
-  weight_le (yes h) (no n) f = absurd (n (f h))
-  weight_le (no n) (yes k) f = omega arith
-  weight_le (no n) (no k) f = omega arith
-
-  -- and less, where it holds and the fact doesn't
-  weight_lt : {A B : Type 0} (d : Dec A) (e : Dec B) → ¬ A → B → weight e < weight d
-  unfolding weight
-  weight_lt (yes h) e n b = absurd (n h)
-  weight_lt (no m) (yes k) n b = omega arith
-  weight_lt (no m) (no k) n b = absurd (k b)
+  lighter (yes h) (yes k) f = (omega arith, λ n b. absurd (n h))
+  lighter (yes h) (no n) f = absurd (n (f h))
+  lighter (no n) (yes k) f = (omega arith, λ m b. omega arith)
+  lighter (no n) (no k) f = (omega arith, λ m b. absurd (k b))
 
   -- how many of a list are not reached
   count : Option (List ℕ) → List PlannedNode → ℕ
   count last [] = 0
   count last (m ∷ ms) = weight (dec_reached problem last m) + count last ms
 
-  -- where more is reached, no more are left
-  count_le : (from to : Option (List ℕ)) (ms : List PlannedNode) → ((m : PlannedNode) → IsReached from m → IsReached to m) → count to ms ≤ count from ms
+  -- where more is reached, no more are left; and fewer, where one of them is reached then and wasn't before
+  fewer : (from to : Option (List ℕ)) (ms : List PlannedNode) (x : PlannedNode) → ((m : PlannedNode) → IsReached from m → IsReached to m) →
+      ¬ IsReached from x → IsReached to x → (count to ms ≤ count from ms) × (Contains ms x → count to ms < count from ms)
   unfolding count
-  count_le from to [] f = omega arith
-  count_le from to (m ∷ ms) f = omega (arith, weight_le (dec_reached problem from m) (dec_reached problem to m) (f m), count_le from to ms f)
-
-  -- and fewer, where one of them is reached then and wasn't before
-  count_lt : (from to : Option (List ℕ)) (ms : List PlannedNode) (x : PlannedNode) → ((m : PlannedNode) → IsReached from m → IsReached to m) →
-      Contains ms x → ¬ IsReached from x → IsReached to x → count to ms < count from ms
-  unfolding count
-  count_lt from to [] x f i n r = absurd (nowhere i)
-  count_lt from to (m ∷ ms) x f i n r =
-      ⊎_elim
-      (λ e. omega (
-        arith,
-        count_le from to ms f,
-        weight_lt (dec_reached problem from m) (dec_reached problem to m)
-            (subst (λ y. ¬ IsReached from y) (sym e) n) (subst (IsReached to) (sym e) r),
-      ))
-      (λ j. omega (arith, weight_le (dec_reached problem from m) (dec_reached problem to m) (f m), count_lt from to ms x f j n r)) (here_or_there ms i)
+  fewer from to [] x f n r = (omega arith, λ i. absurd (nowhere i))
+  fewer from to (m ∷ ms) x f n r =
+      let one = lighter (dec_reached problem from m) (dec_reached problem to m) (f m) in
+      let others = fewer from to ms x f n r in (
+        omega (arith, one.0, others.0),
+        λ i.
+            ⊎_elim (λ e. omega (arith, others.0, one.1 (subst (λ y. ¬ IsReached from y) (sym e) n) (subst (IsReached to) (sym e) r)))
+            (λ j. omega (arith, one.0, others.1 j)) (here_or_there ms i),
+      )
 
 -- the nodes of the tree that are not taken
 pub remaining : Problem → Option (List ℕ) → ℕ
@@ -75,4 +61,4 @@ remaining_falls p q from to n e some t = subst (λ r. remaining q to < remaining
     falls [] l is = absurd (omega (arith, l, some))
     falls (x ∷ xs) l is =
         let h = (is x).0 (here xs refl) in
-        count_lt q from to (members q).0 x (λ m. still_reached from to x m h.2 h.1) ((members q).2 x h.0) h.2 h.1
+        (fewer q from to (members q).0 x (λ m. still_reached from to x m h.2 h.1) h.2 h.1).1 ((members q).2 x h.0)
