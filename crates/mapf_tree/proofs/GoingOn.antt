@@ -1,4 +1,4 @@
--- A search over many turns, and its answer.
+-- A search over many steps, and its answer.
 use Rattle.std.proofs.Common.{◌≡◌, ◌⊎◌, ℕ, ◌+◌, ◌<◌, ◌≤◌, List, [], ◌∷◌, Option, Some, None, Result, Ok, Err, IfOk, inl, inr, subst, sym, refl, ◌∙◌, ⊎_elim, arith, Contains}
 use Rattle.std.specs.Option.{ok_or}
 use Rattle.mapf_grid.specs.declared.fault.NoMemory.{NoMemory}
@@ -10,7 +10,7 @@ use Rattle.mapf_tree.specs.Problem.{Problem}
 use Rattle.mapf_tree.specs.Tree.{PlannedNode, IsMember}
 use Rattle.mapf_tree.specs.Search.{IsReached, Searched, IsSearch, IsLawful, IsEnded, TakesBetween, answer_of}
 use Rattle.mapf_tree.specs.Answered.{IsStated, IsAnswerUpTo, IsAnswerOf, IsBestAnswer}
-use Rattle.mapf_tree.specs.Turns.{TakesOne, IsStep}
+use Rattle.mapf_tree.specs.Steps.{TakesOne, IsStep}
 use Rattle.mapf_tree.proofs.Descent.{answer_is_optimum, none_is_none}
 use Rattle.mapf_tree.proofs.Limits.{cut_is_below}
 
@@ -49,19 +49,11 @@ takes_more p from now new n further took one =
     back : (m : PlannedNode) → IsMember p m × IsReached new m × ¬ IsReached from m → Contains (one.0 ∷ took.0) m
     back m k = ⊎_elim (λ r. there took.0 ((took.3 m).1 (k.0, r, k.2))) (λ e. here took.0 (sym e)) ((one.3 m k.0).0 k.1)
 
--- one node more after those of a search that goes on
-took_more : (p : Problem) (from : Option (List ℕ)) (now new : Searched) (n : ℕ) → GoesOn p from now n → TakesOne p now.last new.last → TakesBetween p from new.last (n + 1)
-took_more p from now new n g one = takes_more p from now.last new.last n g.further g.took one
-
--- and one more with each step
-pub goes_more : (p : Problem) (from : Option (List ℕ)) (now new : Searched) (n : ℕ) → GoesOn p from now n → new.problem ≡ now.problem → IsSearch new → IsStep now new (Ok Working) → GoesOn p from new (n + 1)
-goes_more p from now new n g e h step =
-    let one : TakesOne p now.last new.last = subst (λ q. TakesOne q now.last new.last) g.same step.1 in
-    record { same = e ∙ g.same; going = step.0; search = h; further = λ m i r. (one.3 m i).1 (inl (g.further m i r)); took = took_more p from now new n g one }
-
--- as a step that doesn't finish does
+-- and one more with each step that doesn't finish
 pub goes_on : (p : Problem) (from : Option (List ℕ)) (now new : Searched) (n : ℕ) (r : Progress) → ¬ (r ≡ Finished) → GoesOn p from now n → new.problem ≡ now.problem → IsSearch new → IsStep now new (Ok r) → GoesOn p from new (n + 1)
-goes_on p from now new n Working not_finished g e h step = goes_more p from now new n g e h step
+goes_on p from now new n Working not_finished g e h step =
+    let one : TakesOne p now.last new.last = subst (λ q. TakesOne q now.last new.last) g.same step.1 in
+    record { same = e ∙ g.same; going = step.0; search = h; further = λ m i r. (one.3 m i).1 (inl (g.further m i r)); took = takes_more p from now.last new.last n g.further g.took one }
 goes_on p from now new n Finished not_finished g e h step = absurd (not_finished refl)
 
 -- the nodes that were taken
@@ -73,13 +65,9 @@ pub taken_at_end : (p : Problem) (from : Option (List ℕ)) (now new : Searched)
     (k : ℕ) × (k ≤ turns) × TakesBetween new.problem from new.last k
 taken_at_end p from now new n turns g h e (inl same) = (n, omega (arith, h), subst (λ q. TakesBetween q from new.last n) (sym (e ∙ g.same)) (subst (λ l. TakesBetween p from l n) (sym same) g.took))
 taken_at_end p from now new n turns g h e (inr one) =
-    (n + 1, omega (arith, h), subst (λ q. TakesBetween q from new.last (n + 1)) (sym (e ∙ g.same)) (took_more p from now new n g (subst (λ q. TakesOne q now.last new.last) g.same one)))
+    (n + 1, omega (arith, h), subst (λ q. TakesBetween q from new.last (n + 1)) (sym (e ∙ g.same)) (takes_more p from now.last new.last n g.further g.took (subst (λ q. TakesOne q now.last new.last) g.same one)))
 
--- an answer that a search has is right
-pub answer_is_right : (s : Searched) (given : Answer) → IsSearch s → s.outcome ≡ Ok (Some given) → IsAnswerOf s.problem given
-answer_is_right s given h e = let k = subst (λ o. IsLawful s.problem s.waiting s.last o) e h in k.1
-
--- and so is what is said of the nodes that it took and of those that wait
+-- what is said of the nodes that a search with an answer took and of those that wait
 pub ended : (s : Searched) (given : Answer) → IsSearch s → s.outcome ≡ Ok (Some given) → IsEnded s.problem s.waiting s.last given
 ended s given h e = let k = subst (λ o. IsLawful s.problem s.waiting s.last o) e h in k.2
 

@@ -33,7 +33,7 @@ pub mod InOrder
 pub mod BucketQueues
 pub mod Buckets
 pub mod OpenNodes
-pub mod TurnLemmas
+pub mod Expansions
 pub mod Remaining
 pub mod GoingOn
 pub mod LowerBounds

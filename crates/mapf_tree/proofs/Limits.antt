@@ -15,7 +15,7 @@ use Rattle.mapf_tree.specs.Tree.{PlannedNode, IsMember, IsSolution, key}
 use Rattle.mapf_tree.specs.Cut.{IsAtPlace, IsInCut, IsCutAt}
 use Rattle.mapf_tree.specs.Answered.{stated, IsStated, IsAnswerUpTo, IsAnswerOf}
 use Rattle.mapf_tree.specs.Search.{IsReached, IsWaiting, TakesBetween}
-use Rattle.mapf_tree.specs.Turns.{IsSearchAt}
+use Rattle.mapf_tree.specs.Steps.{IsSearchAt}
 use Rattle.mapf_tree.specs.Laws.{StatedIsUnique}
 use Rattle.mapf_tree.proofs.Descent.{cheaper_solution}
 use Rattle.mapf_tree.proofs.Distinct.{distinct_le}
@@ -35,6 +35,23 @@ none_is_cheaper p m member no_later plan valid =
         let l : plan_cost m.1 ≤ plan_cost w.0.1 =
         first_le (plan_cost m.1) (plan_cost w.0.1) (length m.0.name ∷ map turn m.0.name) (length w.0.0.name ∷ map turn w.0.0.name) (no_later w.0 w.1) in
         omega (arith, l, w.2)
+
+-- no solution comes before a node where a search gives up
+none_before_cut : (p : Problem) (n : ℕ) (m : PlannedNode) → IsCutAt p n m → (s : PlannedNode) → IsSolution p s → ¬ Precedes (key s) (key m)
+none_before_cut p n m is s solves l = ⊎_elim (λ cut. asymmetric (key s) (key m) l (cut.1 s solves)) (λ first. first.least s solves l) is.1
+
+module _ (p : Problem) (n : ℕ) (m : PlannedNode) (is : IsAtPlace p n m) (xs : List PlannedNode) (all : (y : PlannedNode) → IsMember p y → Precedes (key y) (key m) → Contains xs y) where
+  -- a list that has all nodes before the one at place n has n nodes at least
+  at_least : n ≤ length xs
+  at_least = omega (arith, is.count, distinct_le is.before xs (distinct is.before is.once) (λ y c. let h = (is.each y).0 c in all y h.0 h.1))
+
+  -- and more, if it has that one too
+  more_than : Contains xs m → n < length xs
+  more_than itself =
+      let more : length (m ∷ is.before) ≤ length xs =
+      distinct_le (m ∷ is.before) xs ((λ c. irreflexive (key m) ((is.each m).0 c).1), distinct is.before is.once)
+      (λ y c. ⊎_elim (λ e. subst (Contains xs) e itself) (λ i. let h = (is.each y).0 i in all y h.0 h.1) (here_or_there is.before c)) in
+      omega (arith, is.count, more)
 
 module _ (p : Problem) (last : Option (List ℕ)) (Waits : PlannedNode → Type 0) (at : IsSearchAt p last Waits) where
   module _ (x : PlannedNode) (least : IsLeast key Waits x) where
@@ -90,36 +107,19 @@ module _ (p : Problem) (last : Option (List ℕ)) (Waits : PlannedNode → Type 
     -- where fewer are taken and x is a solution, it doesn't
     pub solved_before : (n k : ℕ) → TakesBetween p None last k → k < n → HasNoConflict p.rule x.1 → (m : PlannedNode) → ¬ IsCutAt p n m
     solved_before n k took less free m is =
-        let fewer : length is.0.before ≤ length took.0 = distinct_le is.0.before took.0 (distinct is.0.before is.0.once) inside in
-        omega (arith, less, fewer, is.0.count, took.2)
+        omega (arith, less, took.2, at_least p n m is.0 took.0 (λ y h l. (took.3 y).1 (h, before_is_reached y h (before_le (key y) (key m) (key x) l no_later), λ r. r)))
       where
-        solves : IsSolution p x
-        solves = record { planned = waits.member; no_conflict = free }
-
         no_later : ¬ Precedes (key x) (key m)
-        no_later = ⊎_elim (λ cut l. asymmetric (key x) (key m) l (cut.1 x solves)) (λ first. first.least x solves) is.1
-
-        inside : (y : PlannedNode) → Contains is.0.before y → Contains took.0 y
-        inside y c =
-            let h = (is.0.each y).0 c in
-            (took.3 y).1 (h.0, before_is_reached y h.0 (before_le (key y) (key m) (key x) h.1 no_later), λ r. r)
+        no_later = none_before_cut p n m is x (record { planned = waits.member; no_conflict = free })
 
   -- where nothing waits and no more are taken than may be, it doesn't either
   pub empty_before : ((x : PlannedNode) → ¬ Waits x) → (n k : ℕ) → TakesBetween p None last k → k ≤ n → (m : PlannedNode) → ¬ IsCutAt p n m
-  empty_before empty n k took few m is =
-      let fewer : length (m ∷ is.0.before) ≤ length took.0 = distinct_le (m ∷ is.0.before) took.0 (not_itself, distinct is.0.before is.0.once) inside in
-      omega (arith, few, fewer, is.0.count, took.2)
+  empty_before empty n k took few m is = omega (arith, few, took.2, more_than p n m is.0 took.0 (λ y h l. taken y h) (taken m is.0.member))
     where
-      not_itself : ¬ Contains is.0.before m
-      not_itself c = irreflexive (key m) ((is.0.each m).0 c).1
-
       taken : (y : PlannedNode) → IsMember p y → Contains took.0 y
       taken y h =
           by_cases (dec_reached p last y) (λ r. (took.3 y).1 (h, r, λ s. s))
           (λ n. let w = waits_above p last y.0 y.1 h.inside h.plan n in absurd (empty w.0 ((at.waits w.0).1 w.1)))
-
-      inside : (y : PlannedNode) → Contains (m ∷ is.0.before) y → Contains took.0 y
-      inside y c = ⊎_elim (λ e. subst (Contains took.0) e (taken m is.0.member)) (λ i. taken y ((is.0.each y).0 i).0) (here_or_there is.0.before c)
 
 -- where the search doesn't give up, the answer is that without a limit
 pub as_stated : (p : Problem) (given : Answer) → ((n : ℕ) → p.nodes ≡ Some n → (m : PlannedNode) → ¬ IsCutAt p n m) → IsStated p given → IsAnswerOf p given
@@ -135,18 +135,11 @@ as_given_up p n m given e is said = subst (λ o. IsAnswerUpTo o p given) (sym e)
 
 -- that node costs no more than any valid plan
 pub cut_is_below : (p : Problem) (n : ℕ) (m : PlannedNode) → IsCutAt p n m → (plan : List (List ℕ)) → IsValid p.rule p.inst plan → plan_cost m.1 ≤ plan_cost plan
-cut_is_below p n m is = none_is_cheaper p m is.0.member (λ s solves. ⊎_elim (λ cut l. asymmetric (key s) (key m) l (cut.1 s solves)) (λ first. first.least s solves) is.1)
+cut_is_below p n m is = none_is_cheaper p m is.0.member (none_before_cut p n m is)
 
 -- one node is at a place: two would be as many as the later one has before it
 earlier_at : (p : Problem) (n : ℕ) (a b : PlannedNode) → IsAtPlace p n a → IsAtPlace p n b → ¬ Precedes (key a) (key b)
-earlier_at p n a b h k l =
-    let fewer : length (a ∷ h.before) ≤ length k.before = distinct_le (a ∷ h.before) k.before ((λ c. irreflexive (key a) ((h.each a).0 c).1), distinct h.before h.once) inside in
-    omega (arith, fewer, h.count, k.count)
-  where
-    inside : (y : PlannedNode) → Contains (a ∷ h.before) y → Contains k.before y
-    inside y c =
-        ⊎_elim (λ e. subst (Contains k.before) e ((k.each a).1 (h.member, l)))
-        (λ i. let o = (h.each y).0 i in (k.each y).1 (o.0, transitive (key y) (key a) (key b) o.1 l)) (here_or_there h.before c)
+earlier_at p n a b h k l = omega (arith, k.count, more_than p n a h k.before (λ y i before. (k.each y).1 (i, transitive (key y) (key a) (key b) before l)) ((k.each a).1 (h.member, l)))
 
 same_place : (p : Problem) (n : ℕ) (a b : PlannedNode) → IsAtPlace p n a → IsAtPlace p n b → a ≡ b
 same_place p n a b h k =

@@ -14,11 +14,11 @@ use Rattle.mapf_tree.specs.Nodes.{Node, node_key, AllStand, HasNodeFor}
 use Rattle.mapf_tree.specs.Answered.{IsBestAnswer}
 use Rattle.mapf_tree.specs.OpenList.{IsRising}
 use Rattle.mapf_tree.specs.Search.{IsLawful}
-use Rattle.mapf_tree.specs.LowerBound.{IsLeastWaiting, IsLowerBound, IsBelowAll, least_stated}
+use Rattle.mapf_tree.specs.LowerBound.{IsLeastCost, IsLowerBound, IsBelowAll, least_stated}
 use Rattle.mapf_tree.proofs.Descent.{none_is_none}
 use Rattle.mapf_tree.proofs.GoingOn.{best_answer}
 use Rattle.mapf_tree.proofs.OpenNodes.{first_is_least}
-use Rattle.mapf_tree.proofs.TurnLemmas.{least_below, none_left}
+use Rattle.mapf_tree.proofs.Expansions.{least_below, none_left}
 
 -- a list that gave its first node begins with it
 pub first_given : (nodes given rest : List Node) (first : Node) → given ≡ take 1 nodes → given ≡ first ∷ rest → (others : List Node) × (nodes ≡ first ∷ others)
@@ -30,10 +30,10 @@ pub cost-key : (k : Key) (n : Node) → key_rank k ≡ node_key n → k.cost ≡
 cost-key k n e = cc
 
 -- the first node of an open list is the least that waits
-pub first_is_least_waiting : (p : Problem) (nodes rest : List Node) (first : Node) (least : ℕ) → AllStand p nodes → IsRising nodes → nodes ≡ first ∷ rest → least ≡ plan_cost first.plan → IsLeastWaiting p nodes least
-first_is_least_waiting p nodes rest first least all rising e is =
+pub first_is_least_cost : (p : Problem) (nodes rest : List Node) (first : Node) (least : ℕ) → AllStand p nodes → IsRising nodes → nodes ≡ first ∷ rest → least ≡ plan_cost first.plan → IsLeastCost p nodes least
+first_is_least_cost p nodes rest first least all rising e is =
     let x = all first (subst (λ ns. Contains ns first) (sym e) (here rest refl)) in
-    inr (x.0, subst (λ ns. IsLeast key (HasNodeFor p ns) x.0) (sym e) (first_is_least p first rest x.0 (subst IsRising e rising) x.1), is ∙ ap plan_cost x.1.plan)
+    (x.0, subst (λ ns. IsLeast key (HasNodeFor p ns) x.0) (sym e) (first_is_least p first rest x.0 (subst IsRising e rising) x.1), is ∙ ap plan_cost x.1.plan)
 
 -- where no plan costs at most the bound, each costs more
 over_bound : (bound cost : ℕ) → (cost ≤ bound → ⊥) → bound + 1 ≤ cost

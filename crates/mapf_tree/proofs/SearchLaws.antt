@@ -1,4 +1,4 @@
--- The turns of a search.
+-- The steps of a search.
 use Rattle.std.proofs.Common.{◌≡◌, ◌≢◌, ◌⊎◌, ◌↔◌, ℕ, zero, suc, ◌<◌, ◌≤◌, List, [], ◌∷◌, length, get_or, set, Option, Some, None, inl, inr, subst, sym, refl, ap, ◌∙◌, ⊎_elim, arith, length-append, Contains}
 use Rattle.std.proofs.lemmas.Bool.{cases_lt}
 use Rattle.mapf_grid.specs.Least.{Precedes, IsLeast}
@@ -15,7 +15,7 @@ use Rattle.mapf_tree.specs.Problem.{Problem}
 use Rattle.mapf_tree.specs.declared.tree.side.Side.{Side}
 use Rattle.mapf_tree.specs.Tree.{TreeNode, HasPlan, InTree, root, side, side_of, constraint_on, agent_on, root_of, key, IsFirstSolution, IsAnswer, PlannedNode, IsMember}
 use Rattle.mapf_tree.specs.Search.{IsReached, IsChild, IsWaiting}
-use Rattle.mapf_tree.specs.Turns.{IsSearchAt, IsTurn, TurnTakesNext, EndsAtAnswer, SearchStarts}
+use Rattle.mapf_tree.specs.Steps.{IsSearchAt, Expands, TakesNext, EndsAtAnswer, SearchStarts}
 use Rattle.mapf_tree.proofs.Plans.{AllowedAt}
 use Rattle.mapf_tree.proofs.Unique.{same_member}
 
@@ -100,7 +100,7 @@ module _ (problem : Problem) where
     reached_then m (inr e) = λ l. irreflexive (key x) (subst (λ y. Precedes (key x) (key y)) e l)
 
     -- what waits then waited before and isn't x, or is a side of x
-    pub next_waits : (Next : PlannedNode → Type 0) → IsTurn problem Waits x Next → (m : PlannedNode) → Next m ↔ IsWaiting problem (Some (key x)) m
+    pub next_waits : (Next : PlannedNode → Type 0) → Expands problem Waits x Next → (m : PlannedNode) → Next m ↔ IsWaiting problem (Some (key x)) m
     next_waits Next is m = ((λ c. ⊎_elim old new ((is m).0 c)), (λ w. (is m).1 (back w)))
       where
         old : Waits m × (m ≢ x) → IsWaiting problem (Some (key x)) m
@@ -125,8 +125,8 @@ module _ (problem : Problem) where
                 ((at.waits m).1 (record { member = w.member; open_yet = λ r. w.open_yet (reached_then m (inl r)); from = from }), λ e. w.open_yet (reached_then m (inr e)))
 
     -- so the search goes on
-    turn_takes_next : (Next : PlannedNode → Type 0) → ¬ HasNoConflict problem.rule x.1 → IsTurn problem Waits x Next → IsSearchAt problem (Some (key x)) Next
-    turn_takes_next Next conflict is =
+    takes_next : (Next : PlannedNode → Type 0) → ¬ HasNoConflict problem.rule x.1 → Expands problem Waits x Next → IsSearchAt problem (Some (key x)) Next
+    takes_next Next conflict is =
         record { waits = next_waits Next is; none_yet = λ m h r. ⊎_elim (at.none_yet m h) (λ e n. conflict (subst (λ y. HasNoConflict problem.rule y.1) e n)) (reached_now m h r) }
 
     -- all that comes before x is reached, and no solution
@@ -153,10 +153,10 @@ module _ (problem : Problem) where
     none_yet = λ m h r. absurd r;
   }
 
--- a turn takes the next node
-pub turn_law : TurnTakesNext
-turn_law problem last waiting next x at least conflict is = (
-  turn_takes_next problem last (Contains waiting) x at least (Contains next) conflict is,
+-- the next node is taken
+pub next_law : TakesNext
+next_law problem last waiting next x at least conflict is = (
+  takes_next problem last (Contains waiting) x at least (Contains next) conflict is,
   λ m h. (reached_now problem last (Contains waiting) x at least m h, reached_then problem last (Contains waiting) x at least m),
 )
 

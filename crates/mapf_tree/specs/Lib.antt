@@ -14,5 +14,5 @@ pub mod OpenList
 pub mod Buckets
 pub mod Search
 pub mod LowerBound
-pub mod Turns
+pub mod Steps
 pub mod Worked

@@ -10,10 +10,13 @@ use Rattle.mapf_tree.specs.Problem.{Problem}
 use Rattle.mapf_tree.specs.Tree.{PlannedNode, key}
 use Rattle.mapf_tree.specs.Nodes.{Node, HasNodeFor}
 
--- the cost of the least node that waits; or more than the bound, where none waits
+-- the cost of the least node that waits
+abbrev pub IsLeastCost : Problem → List Node → ℕ → Type 0
+IsLeastCost problem nodes least = (x : PlannedNode) × IsLeast key (HasNodeFor problem nodes) x × (least ≡ plan_cost x.1)
+
+-- that cost; or more than the bound, where none waits
 abbrev pub IsLeastWaiting : Problem → List Node → ℕ → Type 0
-IsLeastWaiting problem nodes least =
-    ((nodes ≡ []) × (least ≡ problem.bound + 1)) ⊎ ((x : PlannedNode) × IsLeast key (HasNodeFor problem nodes) x × (least ≡ plan_cost x.1))
+IsLeastWaiting problem nodes least = ((nodes ≡ []) × (least ≡ problem.bound + 1)) ⊎ IsLeastCost problem nodes least
 
 -- what an answer states that each plan without conflict costs at least
 abbrev pub least_stated : Answer → ℕ

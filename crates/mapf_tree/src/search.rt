@@ -1,16 +1,16 @@
-ghost use Rattle.std.specs.Prelude.{◌≡◌, ◌<◌, ◌≤◌, ℕ, Ok, Err, Some, None, IfOk, IfSome, OnErr, IsErr, IsSome, MatchOption};
+ghost use Rattle.std.specs.Prelude.{◌≡◌, ◌<◌, ◌≤◌, ℕ, Ok, Err, Some, None, IfOk, OnErr, IsErr, IsSome};
 ghost use Rattle.std.specs.Option.{option_copied, option_map};
 ghost use Rattle.mapf_plan.specs.declared.answer.Answer.{Answer};
 ghost use Rattle.mapf_tree.specs.Tree.{key_rank};
 
 mod alone;
 mod children;
-mod limit;
+mod lower_bound;
 mod progress;
 mod taken;
 mod turn;
 
-use crate::search::limit::{given_up, least_stated, least_waiting};
+use crate::search::lower_bound::answer_at_limit;
 use crate::search::turn::{Turn, add_if_some, take_turn};
 use crate::{Key, Node, OpenList, Problem, root};
 pub use alone::solve_alone;
@@ -51,7 +51,12 @@ impl<'p> Model for Search<'p> {
 
     ghost Value = { Searched };
 
-    ghost view = { λ s. record { problem = s.problem.now; waiting = s.waiting; last = option_map key_rank s.last; outcome = s.outcome } };
+    ghost view = { λ s. record {
+      problem = s.problem.now;
+      waiting = s.waiting;
+      last = option_map key_rank s.last;
+      outcome = s.outcome;
+    } };
 
     ghost invariant = { λ s. IsLawful s.problem.now s.waiting (option_map key_rank s.last) s.outcome
         × IsCounted s.problem.now (option_map key_rank s.last) s.taken };
@@ -62,8 +67,7 @@ impl<'p> Search<'p> {
     ghost use Rattle.mapf_tree.specs.Family.{IsRoot};
     ghost use Rattle.mapf_tree.specs.Answered.{IsAnswerOf, IsBestAnswer};
     ghost use Rattle.mapf_tree.specs.Search.{IsSearch, IsEnded, TakesBetween, answer_of};
-    ghost use Rattle.mapf_tree.specs.LowerBound.{IsLowerBound, IsBelowAll};
-    ghost use Rattle.mapf_tree.specs.Turns.{IsStep};
+    ghost use Rattle.mapf_tree.specs.Steps.{IsStep};
 
     /// A search that has taken no node yet.
     pub fn new(alloc: Global, problem: &'p Problem) -> Result<Search<'p>, NoMemory>
@@ -109,18 +113,25 @@ impl<'p> Search<'p> {
 
         // What is taken and what waits; exactly so many nodes were taken, or there is the answer.
         ensures search { IsSearch self.new }
-        ensures working { result ≡ Ok Progress.Working → (self.new.outcome ≡ Ok None) × TakesBetween self.new.problem self.old.last self.new.last turns }
-        ensures finished { result ≡ Ok Progress.Finished → (given : Answer) × (self.new.outcome ≡ Ok (Some given)) × IsAnswerOf self.new.problem given }
+        ensures working { result ≡ Ok Progress.Working → (self.new.outcome ≡ Ok None)
+            × TakesBetween self.new.problem self.old.last self.new.last turns }
+        ensures finished { result ≡ Ok Progress.Finished → (given : Answer)
+            × (self.new.outcome ≡ Ok (Some given)) × IsAnswerOf self.new.problem given }
         ensures no_memory { OnErr result (IsErr self.new.outcome) }
 
         // With the answer no more were taken than it needs: the last one is the solution, nothing waits, or no more may be taken.
-        ensures within { result ≡ Ok Progress.Finished → (n : ℕ) × (n ≤ turns) × TakesBetween self.new.problem self.old.last self.new.last n }
-        ensures ended { (given : Answer) → self.new.outcome ≡ Ok (Some given) → IsEnded self.new.problem self.new.waiting self.new.last given }
+        ensures within { result ≡ Ok Progress.Finished → (n : ℕ)
+            × (n ≤ turns) × TakesBetween self.new.problem self.old.last self.new.last n }
+        ensures ended { (given : Answer) → self.new.outcome ≡ Ok (Some given)
+            → IsEnded self.new.problem self.new.waiting self.new.last given }
 
         // A search that has ended does nothing, and neither does one of no turns.
-        ensures answered { (given : Answer) → self.old.outcome ≡ Ok (Some given) → (result ≡ Ok Progress.Finished) × (self.new ≡ self.old) × (children.new ≡ children.old) }
-        ensures failed { IsErr self.old.outcome → IsErr result × (self.new ≡ self.old) × (children.new ≡ children.old) }
-        ensures none { turns ≡ 0 → self.old.outcome ≡ Ok None → (result ≡ Ok Progress.Working) × (self.new ≡ self.old) × (children.new ≡ children.old) }
+        ensures answered { (given : Answer) → self.old.outcome ≡ Ok (Some given)
+            → (result ≡ Ok Progress.Finished) × (self.new ≡ self.old) × (children.new ≡ children.old) }
+        ensures failed { IsErr self.old.outcome
+            → IsErr result × (self.new ≡ self.old) × (children.new ≡ children.old) }
+        ensures none { turns ≡ 0 → self.old.outcome ≡ Ok None
+            → (result ≡ Ok Progress.Working) × (self.new ≡ self.old) × (children.new ≡ children.old) }
     {
         if let Progress::Finished = self.progress()? {
             return Ok(Progress::Finished);
@@ -144,20 +155,6 @@ impl<'p> Search<'p> {
         search.into_answer().ok_or(NoMemory)
     }
 
-    /// Whether there is an answer.
-    fn progress(&self) -> Result<Progress, NoMemory>
-        ensures search { IsSearch self.now }
-        ensures working { result ≡ Ok Progress.Working → self.now.outcome ≡ Ok None }
-        ensures finished { result ≡ Ok Progress.Finished → (given : Answer) × (self.now.outcome ≡ Ok (Some given)) }
-        ensures failed { OnErr result (IsErr self.now.outcome) }
-    {
-        match &self.outcome {
-            Ok(Some(_answer)) => Ok(Progress::Finished),
-            Ok(None) => Ok(Progress::Working),
-            Err(refused) => Err(*refused),
-        }
-    }
-
     /// Takes one node, or gives up where the problem's limit says so.
     fn step<C: Children>(&mut self, children: &mut C) -> Result<Progress, NoMemory>
         requires serves { C.serves children.old self.old.problem }
@@ -167,7 +164,7 @@ impl<'p> Search<'p> {
         ensures search { IsSearch self.new }
         ensures step { IsStep self.old self.new result }
     {
-        if let Some(given) = given_up(self.problem, &self.waiting, self.taken) {
+        if let Some(given) = answer_at_limit(self.problem, &self.waiting, self.taken) {
             self.outcome = Ok(Some(given));
             return Ok(Progress::Finished);
         }
@@ -237,24 +234,12 @@ impl<'p> Search<'p> {
     {
         self.last.as_ref()
     }
+
     /// How many nodes were taken, the solution among them. A number that has reached `u64::MAX` stays there.
     pub fn taken(&self) -> u64
         ensures taken { result < u64.MAX → TakesBetween self.now.problem None self.now.last result }
         ensures search { IsSearch self.now }
     {
         self.taken
-    }
-
-    /// What each plan without conflict costs at least: what the least waiting node costs, or more than the bound where none
-    /// waits; with an answer, what that states. None after memory ran out.
-    pub fn lower_bound(&self) -> Option<u64>
-        ensures is { MatchOption result (IsErr self.now.outcome) (IsLowerBound self.now.problem self.now.waiting self.now.outcome) }
-        ensures below { IfSome result (IsBelowAll self.now.problem) }
-    {
-        match &self.outcome {
-            Ok(None) => Some(least_waiting(self.problem, &self.waiting)),
-            Ok(Some(answer)) => Some(least_stated(answer)),
-            Err(_) => None,
-        }
     }
 }

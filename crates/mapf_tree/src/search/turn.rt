@@ -1,6 +1,6 @@
 ghost use Rattle.std.specs.Prelude.{◌≡◌, IfOk, OnOk};
 ghost use Rattle.mapf_tree.specs.OpenList.{IsAddedIfSome};
-ghost use Rattle.mapf_tree.specs.Turns.{IsTurned};
+ghost use Rattle.mapf_tree.specs.Steps.{TakesLeast};
 ghost use Rattle.mapf_tree.specs.Nodes.{AllStand};
 
 use crate::search::taken::key_and_plan;
@@ -28,7 +28,7 @@ pub(crate) fn take_turn<C: Children>(
     requires serves { C.serves children.old problem.now }
     requires nodes { AllStand problem.now waiting.old }
     ensures serves { C.serves children.new problem.now }
-    ensures turned { IfOk result (IsTurned problem.now waiting.old waiting.new) }
+    ensures turned { IfOk result (TakesLeast problem.now waiting.old waiting.new) }
 {
     children.ahead(problem, waiting);
     let Some(node) = waiting.take_least() else {

@@ -1,6 +1,6 @@
 use Rattle.std.proofs.Common.{◌≡◌, ◌+◌, Ok, subst, arith}
 use Rattle.mapf_tree.specs.declared.search.progress.Progress.TheVariants.{Finished}
-use Rattle.mapf_tree.specs.Turns.{IsStep}
+use Rattle.mapf_tree.specs.Steps.{IsStep}
 use Rattle.mapf_tree.proofs.GoingOn.{goes_on, taken_between, taken_at_end, ended}
 use Rattle.mapf_tree.proofs.search.Search.go.Goals as goal
 

@@ -3,8 +3,8 @@ use Rattle.std.specs.Option.{option_map}
 use Rattle.mapf_plan.specs.declared.answer.Answer.TheVariants as answer
 use Rattle.mapf_tree.specs.Tree.{key_rank}
 use Rattle.mapf_tree.specs.Search.{Searched, IsLawful}
-use Rattle.mapf_tree.specs.Turns.{TakesOne, IsTurned}
-use Rattle.mapf_tree.proofs.TurnLemmas.{branched_lawful, counted_more, solved_lawful, empty_lawful, given_up_lawful}
+use Rattle.mapf_tree.specs.Steps.{TakesOne, TakesLeast}
+use Rattle.mapf_tree.proofs.Expansions.{branched_lawful, counted_more, solved_lawful, empty_lawful, given_up_lawful}
 use Rattle.mapf_tree.proofs.search.Search.step.Goals as goal
 use Rattle.mapf_tree.proofs.search.Search.step.Goals.{In-Some, In-Ok-Branched, In-Ok-Solved, In-Ok-Empty}
 
@@ -16,7 +16,7 @@ branched g c =
     branched_lawful c.self.inside.problem.now c.self.inside.waiting c.take_turn.new.waiting (option_map key_rank c.self.inside.last)
     c.self.inside.outcome c.in-Ok-Branched.key c.self.invariant.0
     (ap (λ (s : Searched). s.outcome) c.self.view_is ∙ c.requires.open_yet)
-    (subst (λ t. IsTurned c.self.inside.problem.now c.self.inside.waiting c.take_turn.new.waiting t) c.in-Ok-Branched.field-0-is c.in-Ok-Branched.ensures.turned)
+    (subst (λ t. TakesLeast c.self.inside.problem.now c.self.inside.waiting c.take_turn.new.waiting t) c.in-Ok-Branched.field-0-is c.in-Ok-Branched.ensures.turned)
 
 -- a turn that took a solution: the search has its answer, with one node more taken
 solved : (g : _) (c : In-Ok-Solved g) →
@@ -26,7 +26,7 @@ solved g c =
     solved_lawful c.self.inside.problem.now c.self.inside.waiting c.take_turn.new.waiting (option_map key_rank c.self.inside.last)
     c.self.inside.outcome c.self.inside.taken c.in-Ok-Solved.key c.in-Ok-Solved.plan c.self.invariant.0
     (ap (λ (s : Searched). s.outcome) c.self.view_is ∙ c.requires.open_yet) c.self.invariant.1 c.in_default.ensures.limit c.in_default.ensures.turn
-    (subst (λ t. IsTurned c.self.inside.problem.now c.self.inside.waiting c.take_turn.new.waiting t) c.in-Ok-Solved.field-0-is c.in-Ok-Solved.ensures.turned)
+    (subst (λ t. TakesLeast c.self.inside.problem.now c.self.inside.waiting c.take_turn.new.waiting t) c.in-Ok-Solved.field-0-is c.in-Ok-Solved.ensures.turned)
 
 -- a turn that found nothing: the search has its answer
 empty : (g : _) (c : In-Ok-Empty g) →
@@ -35,7 +35,7 @@ empty g c =
     empty_lawful c.self.inside.problem.now c.self.inside.waiting c.take_turn.new.waiting (option_map key_rank c.self.inside.last)
     c.self.inside.outcome c.self.inside.taken c.self.invariant.0
     (ap (λ (s : Searched). s.outcome) c.self.view_is ∙ c.requires.open_yet) c.self.invariant.1 c.in_default.ensures.limit
-    (subst (λ t. IsTurned c.self.inside.problem.now c.self.inside.waiting c.take_turn.new.waiting t) c.in-Ok-Empty.field-0-is c.in-Ok-Empty.ensures.turned)
+    (subst (λ t. TakesLeast c.self.inside.problem.now c.self.inside.waiting c.take_turn.new.waiting t) c.in-Ok-Empty.field-0-is c.in-Ok-Empty.ensures.turned)
 
 -- the search gives up
 gave_up : (g : _) (c : In-Some g) → IsLawful c.self.inside.problem.now c.self.inside.waiting (option_map key_rank c.self.inside.last) (Ok (Some c.in-Some.given))
@@ -55,7 +55,7 @@ returns-in-Some-clause-step g c = ((_, refl), inl (ap (λ (s : Searched). s.last
 pub invariant_of-self-in-Ok-Branched : goal.invariant_of-self-in-Ok-Branched
 invariant_of-self-in-Ok-Branched g c =
     let turned = branched g (goal.at.invariant_of-self-in-Ok-Branched g c).In-Ok-Branched in
-    let turn = subst (λ t. IsTurned c.self.inside.problem.now c.self.inside.waiting c.take_turn.new.waiting t) c.in-Ok-Branched.field-0-is c.in-Ok-Branched.ensures.turned in (
+    let turn = subst (λ t. TakesLeast c.self.inside.problem.now c.self.inside.waiting c.take_turn.new.waiting t) c.in-Ok-Branched.field-0-is c.in-Ok-Branched.ensures.turned in (
       turned.0,
       counted_more c.self.inside.problem.now c.self.inside.waiting c.take_turn.new.waiting (option_map key_rank c.self.inside.last) (Some (key_rank c.in-Ok-Branched.key)) turn.0 c.self.inside.taken _
           c.self.invariant.1 c.in_default.ensures.turn turn.1 turned.1 c.saturating_add-self-inside.ensures,
@@ -74,7 +74,7 @@ returns-in-Ok-Branched-clause-step g c = (
 pub invariant_of-self-in-Ok-Solved : goal.invariant_of-self-in-Ok-Solved
 invariant_of-self-in-Ok-Solved g c =
     let turned = solved g (goal.at.invariant_of-self-in-Ok-Solved g c).In-Ok-Solved in
-    let turn = subst (λ t. IsTurned c.self.inside.problem.now c.self.inside.waiting c.take_turn.new.waiting t) c.in-Ok-Solved.field-0-is c.in-Ok-Solved.ensures.turned in (
+    let turn = subst (λ t. TakesLeast c.self.inside.problem.now c.self.inside.waiting c.take_turn.new.waiting t) c.in-Ok-Solved.field-0-is c.in-Ok-Solved.ensures.turned in (
       turned.0,
       counted_more c.self.inside.problem.now c.self.inside.waiting c.take_turn.new.waiting (option_map key_rank c.self.inside.last) (Some (key_rank c.in-Ok-Solved.key)) turn.0 c.self.inside.taken _
           c.self.invariant.1 c.in_default.ensures.turn turn.1 turned.1 c.saturating_add-self-inside-in-Ok-Solved.ensures,

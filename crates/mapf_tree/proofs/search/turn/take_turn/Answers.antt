@@ -2,7 +2,7 @@ use Rattle.std.proofs.Common.{◌≡◌, ◌∷◌, Some, subst, sym, ap, ◌∙
 use Rattle.mapf_plan.specs.declared.conflict.Conflict.{Conflict}
 use Rattle.mapf_tree.specs.Nodes.{Node}
 use Rattle.mapf_tree.specs.Family.{IsBranching}
-use Rattle.mapf_tree.proofs.TurnLemmas.{solved_case, branches, branched_case, conflict_there, some_there, conflict_absent}
+use Rattle.mapf_tree.proofs.Expansions.{solved_case, branches, branched_case, conflict_there, some_there, conflict_absent}
 use Rattle.mapf_tree.proofs.search.turn.take_turn.Goals as goal
 
 pub returns-then-is_none-clause-turned : goal.returns-then-is_none-clause-turned

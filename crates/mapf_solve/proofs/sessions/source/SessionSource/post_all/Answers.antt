@@ -1,4 +1,4 @@
-use Rattle.mapf_tree.proofs.TurnLemmas.{branches}
+use Rattle.mapf_tree.proofs.Expansions.{branches}
 use Rattle.mapf_solve.proofs.WaitingNodes.{others_wait}
 use Rattle.mapf_solve.proofs.sessions.source.SessionSource.post_all.Goals as goal
 

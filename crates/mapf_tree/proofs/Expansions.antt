@@ -1,4 +1,4 @@
--- One turn of a search over nodes.
+-- One step of a search over nodes.
 use Rattle.std.proofs.Common.{◌≡◌, ◌⊎◌, ℕ, ◌+◌, ◌<◌, ◌≤◌, min, List, [], ◌∷◌, Bool, true, false, Option, Some, None, is_some, IsSome, not, Result, Ok, inl, inr, subst, sym, refl, ap, ◌∙◌, ⊎_elim, arith, Contains}
 use Rattle.mapf_grid.specs.declared.fault.NoMemory.{NoMemory}
 use Rattle.mapf_grid.specs.Least.{IsLeast}
@@ -14,13 +14,13 @@ use Rattle.mapf_plan.specs.declared.answer.Answer.{Answer}
 use Rattle.mapf_plan.specs.declared.answer.Answer.TheVariants as answer
 use Rattle.mapf_tree.specs.Problem.{Problem, IsLimit}
 use Rattle.mapf_tree.specs.Search.{IsReached, IsWaiting, IsTakenTo, NoneSolves, IsLawful, IsCounted, TakesBetween, most_counted}
-use Rattle.mapf_tree.specs.Turns.{IsSearchAt, IsTurnOf, IsTurned, IsGivenUp, GoesUpTo, TakesOne}
+use Rattle.mapf_tree.specs.Steps.{IsSearchAt, ExpandsLeast, TakesLeast, IsGivenUp, GoesUpTo, TakesOne}
 use Rattle.mapf_tree.specs.Nodes.{Node, node_key, AllStand, HasNodeFor}
 use Rattle.mapf_grid.proofs.Members.{nowhere, here}
 use Rattle.mapf_tree.proofs.SearchLaws.{reached_now, reached_then, next_waits, ends_at_first, ends_at_none, starts}
 use Rattle.mapf_tree.proofs.Limits.{least_is_below, is_cut, solved_before, empty_before, as_stated, as_given_up}
 use Rattle.mapf_tree.proofs.GoingOn.{takes_none, takes_more}
-use Rattle.mapf_tree.proofs.OpenNodes.{first_is_least, key-stands, none_stands, conflict_stands, solved_turn, branched_turn, root_node, node_adds, AddsSide}
+use Rattle.mapf_tree.proofs.OpenNodes.{key-stands, none_stands, conflict_stands, solved_turn, branched_turn, root_node, node_adds, AddsSide}
 
 module _ (p : Problem) (last : Option (List ℕ)) (old : List Node) (taken : IsTakenTo p last old) (none : NoneSolves p last) where
   -- the search over the nodes that wait
@@ -35,7 +35,7 @@ module _ (p : Problem) (last : Option (List ℕ)) (old : List Node) (taken : IsT
   pub none_left : old ≡ [] → IsAnswer p None
   none_left e = ends_at_none p last (HasNodeFor p old) at (λ x s. nowhere (subst (λ ns. Contains ns s.0) e s.1))
 
-  module _ (new : List Node) (x : PlannedNode) (turn : IsTurnOf p old new x) where
+  module _ (new : List Node) (x : PlannedNode) (turn : ExpandsLeast p old new x) where
     -- x waited
     waited : IsWaiting p last x
     waited = (taken.waits x).0 turn.least.member
@@ -83,8 +83,8 @@ root_waits p o old new none is given = (record { greatest = tt; none_before = λ
     at : IsSearchAt p None (HasNodeFor p new)
     at = starts p (HasNodeFor p new) (λ m. ((λ s. ⊎_elim (λ k. absurd (nowhere k.1)) (λ h. h) ((adds.shows m).0 s)), (λ h. (adds.shows m).1 (inr h))))
 
--- a turn that takes a node whose plan has no conflict
-pub solved_case : (p : Problem) (old new : List Node) (first : Node) (k : Key) (plan : List (List ℕ)) → old ≡ first ∷ new → IsRising old → AllStand p old → first.conflict ≡ None → key_rank k ≡ node_key first → plan ≡ first.plan → k.cost ≡ plan_cost first.plan → IsTurned p old new (variant.Solved k plan)
+-- a node is taken whose plan has no conflict
+pub solved_case : (p : Problem) (old new : List Node) (first : Node) (k : Key) (plan : List (List ℕ)) → old ≡ first ∷ new → IsRising old → AllStand p old → first.conflict ≡ None → key_rank k ≡ node_key first → plan ≡ first.plan → k.cost ≡ plan_cost first.plan → TakesLeast p old new (variant.Solved k plan)
 solved_case p old new first k plan e rising all none rank is cost =
     let x = all first (subst (λ ns. Contains ns first) (sym e) (here new refl)) in
     let free = none_stands p first x.0 x.1 none in
@@ -110,8 +110,8 @@ branches p old rest first e all some =
     let x = all first (subst (λ ns. Contains ns first) (sym e) (here rest refl)) in
     record { of = x.0; stands = x.1; conflict = some }
 
--- a turn that takes a node whose plan has a conflict
-pub branched_case : (p : Problem) (old rest mid new : List Node) (first : Node) (k : Key) (l r : Option Node) → old ≡ first ∷ rest → IsRising old → AllStand p old → ((c : Conflict) × (first.conflict ≡ Some c)) → IsChildOf p first Left l → IsChildOf p first Right r → IsAddedIfSome rest l mid → IsAddedIfSome mid r new → key_rank k ≡ node_key first → IsTurned p old new (variant.Branched k)
+-- a node is expanded
+pub branched_case : (p : Problem) (old rest mid new : List Node) (first : Node) (k : Key) (l r : Option Node) → old ≡ first ∷ rest → IsRising old → AllStand p old → ((c : Conflict) × (first.conflict ≡ Some c)) → IsChildOf p first Left l → IsChildOf p first Right r → IsAddedIfSome rest l mid → IsAddedIfSome mid r new → key_rank k ≡ node_key first → TakesLeast p old new (variant.Branched k)
 branched_case p old rest mid new first k l r e rising all c left right put put' rank =
     let x = all first (subst (λ ns. Contains ns first) (sym e) (here rest refl)) in
     let f = conflict_stands p first x.0 c.0 x.1 c.1 in
@@ -122,7 +122,7 @@ going : (p : Problem) (old : List Node) (last : Option (List ℕ)) (outcome : Re
 going p old last outcome h e = let k = subst (λ o. IsLawful p old last o) e h in k
 
 -- a node waits, so one more may be taken
-one_more : (p : Problem) (old new : List Node) (x : PlannedNode) (k n : ℕ) → GoesUpTo p old k → p.nodes ≡ Some n → IsTurnOf p old new x → k < n
+one_more : (p : Problem) (old new : List Node) (x : PlannedNode) (k n : ℕ) → GoesUpTo p old k → p.nodes ≡ Some n → ExpandsLeast p old new x → k < n
 one_more p old new x k n up e turn =
     ⊎_elim (λ less. less) (λ none. absurd (nowhere (subst (λ ns. Contains ns turn.least.member.0) none turn.least.member.1))) (up n e)
 
@@ -132,7 +132,7 @@ counted_first p = ((λ below. takes_none p None), (λ n limit. omega arith))
 
 -- the count after one node more
 pub counted_more : (p : Problem) (old new : List Node) (last to : Option (List ℕ)) (x : PlannedNode) (k more : ℕ) → IsCounted p last k → GoesUpTo p old k
-    → IsTurnOf p old new x → TakesOne p last to → more ≡ min (k + 1) most_counted → IsCounted p to more
+    → ExpandsLeast p old new x → TakesOne p last to → more ≡ min (k + 1) most_counted → IsCounted p to more
 counted_more p old new last to x k more counted up turn one is = (
   (λ below. let same : more ≡ k + 1 = omega (arith, is, below) in
       subst (TakesBetween p None to) (sym same) (takes_more p None last to k (λ m h r. absurd r) (counted.0 (omega (arith, same, below))) one)),
@@ -145,8 +145,8 @@ counted_at p last k n counted few limit =
     let less = counted.1 n limit in
     (counted.0 (omega (arith, less, (subst IsLimit limit few).1)), less)
 
--- it goes on after a turn that branched
-pub branched_lawful : (p : Problem) (old new : List Node) (last : Option (List ℕ)) (outcome : Result (Option Answer) NoMemory) (k : Key) → IsLawful p old last outcome → outcome ≡ Ok None → IsTurned p old new (variant.Branched k) → IsLawful p new (Some (key_rank k)) outcome × TakesOne p last (Some (key_rank k))
+-- it goes on once a node is expanded
+pub branched_lawful : (p : Problem) (old new : List Node) (last : Option (List ℕ)) (outcome : Result (Option Answer) NoMemory) (k : Key) → IsLawful p old last outcome → outcome ≡ Ok None → TakesLeast p old new (variant.Branched k) → IsLawful p new (Some (key_rank k)) outcome × TakesOne p last (Some (key_rank k))
 branched_lawful p old new last outcome k h e t =
     let s = going p old last outcome h e in
     let to = taken_to p last old s.0 s.1 new t.0 t.1 in
@@ -154,9 +154,9 @@ branched_lawful p old new last outcome k h e t =
     let one = takes_one p last old s.0 s.1 new t.0 t.1 in
     (subst (λ o. IsLawful p new (Some (key_rank k)) o) (sym e) (subst (λ r. IsTakenTo p (Some r) new × NoneSolves p (Some r)) (sym t.3) (to, none)), subst (λ r. TakesOne p last (Some r)) (sym t.3) one)
 
--- it has the answer after a turn that took a solution
+-- it has the answer once a solution is taken
 pub solved_lawful : (p : Problem) (old new : List Node) (last : Option (List ℕ)) (outcome : Result (Option Answer) NoMemory) (taken : ℕ) (k : Key) (plan : List (List ℕ)) → IsLawful p old last outcome → outcome ≡ Ok None
-    → IsCounted p last taken → IsLimit p.nodes → GoesUpTo p old taken → IsTurned p old new (variant.Solved k plan) → IsLawful p new (Some (key_rank k)) (Ok (Some (answer.Plan plan k.cost))) × TakesOne p last (Some (key_rank k))
+    → IsCounted p last taken → IsLimit p.nodes → GoesUpTo p old taken → TakesLeast p old new (variant.Solved k plan) → IsLawful p new (Some (key_rank k)) (Ok (Some (answer.Plan plan k.cost))) × TakesOne p last (Some (key_rank k))
 solved_lawful p old new last outcome taken k plan h e counted few up t =
     let s = going p old last outcome h e in
     let to = taken_to p last old s.0 s.1 new t.0 t.1 in
@@ -173,9 +173,9 @@ solved_lawful p old new last outcome taken k plan h e counted few up t =
       subst (λ r. TakesOne p last (Some r)) (sym t.3) one,
     )
 
--- and after a turn that found nothing
+-- and where nothing waits
 pub empty_lawful : (p : Problem) (old new : List Node) (last : Option (List ℕ)) (outcome : Result (Option Answer) NoMemory) (taken : ℕ) → IsLawful p old last outcome → outcome ≡ Ok None → IsCounted p last taken → IsLimit p.nodes
-    → IsTurned p old new variant.Empty → IsLawful p new last (Ok (Some (answer.None p.bound)))
+    → TakesLeast p old new variant.Empty → IsLawful p new last (Ok (Some (answer.None p.bound)))
 empty_lawful p old new last outcome taken h e counted few t =
     let s = going p old last outcome h e in (
       subst (λ ns. IsTakenTo p last ns) (t.0 ∙ sym t.1) s.0,
@@ -189,15 +189,13 @@ empty_lawful p old new last outcome taken h e counted few t =
 -- and where it gives up
 pub given_up_lawful : (p : Problem) (waiting : List Node) (last : Option (List ℕ)) (outcome : Result (Option Answer) NoMemory) (taken : ℕ) (given : Answer) → IsLawful p waiting last outcome → outcome ≡ Ok None
     → IsCounted p last taken → IsLimit p.nodes → IsGivenUp p waiting taken given → IsLawful p waiting last (Ok (Some given))
-given_up_lawful p waiting last outcome taken given h e counted few up =
+given_up_lawful p waiting last outcome taken given h e counted few (n, limit, all, (least, (x, first, cost), said)) =
     let s = going p waiting last outcome h e in
-    let x = s.0.stand up.first (subst (λ ns. Contains ns up.first) (sym up.waits) (here up.rest refl)) in
-    let least = subst (λ ns. IsLeast key (HasNodeFor p ns) x.0) (sym up.waits) (first_is_least p up.first up.rest x.0 (subst IsRising up.waits up.rising) x.1) in
-    let count = counted_at p last taken up.nodes counted few up.limit in
-    let all : taken ≡ up.nodes = omega (arith, count.1, up.all) in
-    let took = subst (TakesBetween p None last) all count.0 in
-    let said : given ≡ answer.GaveUp up.nodes (plan_cost x.0.1) = up.states ∙ ap (λ plan. answer.GaveUp up.nodes (plan_cost plan)) x.1.plan in (
+    let count = counted_at p last taken n counted few limit in
+    let is : taken ≡ n = omega (arith, count.1, all) in
+    let took = subst (TakesBetween p None last) is count.0 in
+    let states : given ≡ answer.GaveUp n (plan_cost x.1) = said ∙ ap (λ k. answer.GaveUp n k) cost in (
       s.0,
-      as_given_up p up.nodes x.0 given up.limit (is_cut p last (HasNodeFor p waiting) (at p last waiting s.0 s.1) x.0 least up.nodes took) said,
-      inr (inr (up.nodes, up.limit, took, (x.0, least, said))),
+      as_given_up p n x given limit (is_cut p last (HasNodeFor p waiting) (at p last waiting s.0 s.1) x first n took) states,
+      inr (inr (n, limit, took, (x, first, states))),
     )

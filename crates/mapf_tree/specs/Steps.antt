@@ -1,4 +1,4 @@
--- What a search does turn by turn: it takes the nodes of the tree in the order of their keys, and ends with the answer.
+-- What a search does step by step: it takes the nodes of the tree in the order of their keys, and ends with the answer.
 use Rattle.std.specs.List.{AllByRecursion}
 use Rattle.std.specs.Prelude.{◌≡◌, ◌≢◌, ◌<◌, ◌≤◌, length, [], ◌∷◌, ℕ, ◌⊎◌, ◌↔◌, List, Option, Some, None, Result, Ok, Err, IsErr, Contains}
 use Rattle.mapf_grid.specs.declared.fault.NoMemory.{NoMemory}
@@ -13,7 +13,7 @@ use Rattle.mapf_tree.specs.declared.search.turn.Turn.TheVariants as turn
 use Rattle.mapf_tree.specs.Problem.{Problem}
 use Rattle.mapf_tree.specs.Tree.{PlannedNode, IsMember, EachOnce, root_of, key, key_rank, IsFirstSolution, IsAnswer}
 use Rattle.mapf_tree.specs.Nodes.{Node, AllStand, HasNodeFor}
-use Rattle.mapf_tree.specs.OpenList.{IsRising}
+use Rattle.mapf_tree.specs.LowerBound.{IsLeastCost}
 use Rattle.mapf_tree.specs.Search.{Searched, IsReached, IsChild, IsWaiting, NoneSolves}
 
 -- no solution was reached, and just those wait that are to wait
@@ -21,9 +21,9 @@ pub record IsSearchAt (problem : Problem) (last : Option (List ℕ)) (Waits : Pl
   pub waits : (m : PlannedNode) → Waits m ↔ IsWaiting problem last m
   pub none_yet : NoneSolves problem last
 
--- after a turn that takes x those wait that waited, but for x, and the sides of x that are in the tree
-abbrev pub IsTurn : Problem → (PlannedNode → Type 0) → PlannedNode → (PlannedNode → Type 0) → Type 0
-IsTurn problem Waits x Next =
+-- once x is expanded those wait that waited, but for x, and the sides of x that are in the tree
+abbrev pub Expands : Problem → (PlannedNode → Type 0) → PlannedNode → (PlannedNode → Type 0) → Type 0
+Expands problem Waits x Next =
     (m : PlannedNode) → Next m ↔ ((Waits m × (m ≢ x)) ⊎ (IsMember problem m × IsChild problem x m))
 
 -- with no node taken, the root waits if it is in the tree
@@ -32,11 +32,11 @@ SearchStarts =
     (problem : Problem) (waiting : List PlannedNode) →
     ((m : PlannedNode) → Contains waiting m ↔ (IsMember problem m × (m.0 ≡ root_of problem))) → IsSearchAt problem None (Contains waiting)
 
--- a turn takes the next node of the tree in key order
-abbrev pub TurnTakesNext : Type 0
-TurnTakesNext =
+-- the least waiting node is the next one of the tree in key order
+abbrev pub TakesNext : Type 0
+TakesNext =
     (problem : Problem) (last : Option (List ℕ)) (waiting next : List PlannedNode) (x : PlannedNode) →
-    IsSearchAt problem last (Contains waiting) → IsLeast key (Contains waiting) x → ¬ HasNoConflict problem.rule x.1 → IsTurn problem (Contains waiting) x (Contains next) →
+    IsSearchAt problem last (Contains waiting) → IsLeast key (Contains waiting) x → ¬ HasNoConflict problem.rule x.1 → Expands problem (Contains waiting) x (Contains next) →
     IsSearchAt problem (Some (key x)) (Contains next)
     × ((m : PlannedNode) → IsMember problem m → IsReached (Some (key x)) m ↔ (IsReached last m ⊎ (m ≡ x)))
 
@@ -53,28 +53,22 @@ TakenAreBounded =
     (problem : Problem) → (size : ℕ) × ((taken : List PlannedNode) → EachOnce taken → AllByRecursion (IsMember problem) taken → length taken ≤ size)
 
 -- the least waiting node x is taken, and its sides in the tree wait
-pub record IsTurnOf (problem : Problem) (old new : List Node) (x : PlannedNode) : Type 0 where
+pub record ExpandsLeast (problem : Problem) (old new : List Node) (x : PlannedNode) : Type 0 where
   pub least : IsLeast key (HasNodeFor problem old) x
   pub stand : AllStand problem new
-  pub next : IsTurn problem (HasNodeFor problem old) x (HasNodeFor problem new)
+  pub next : Expands problem (HasNodeFor problem old) x (HasNodeFor problem new)
 
 -- nothing waits; or the plan of the taken node has no conflict; or it has one, and the sides wait
-abbrev pub IsTurned : Problem → List Node → List Node → Turn → Type 0
-IsTurned problem old new turn.Empty = (old ≡ []) × (new ≡ [])
-IsTurned problem old new (turn.Solved k plan) =
-    (x : PlannedNode) × IsTurnOf problem old new x × HasNoConflict problem.rule x.1 × (key_rank k ≡ key x) × (plan ≡ x.1) × (k.cost ≡ plan_cost plan)
-IsTurned problem old new (turn.Branched k) = (x : PlannedNode) × IsTurnOf problem old new x × (¬ HasNoConflict problem.rule x.1) × (key_rank k ≡ key x)
+abbrev pub TakesLeast : Problem → List Node → List Node → Turn → Type 0
+TakesLeast problem old new turn.Empty = (old ≡ []) × (new ≡ [])
+TakesLeast problem old new (turn.Solved k plan) =
+    (x : PlannedNode) × ExpandsLeast problem old new x × HasNoConflict problem.rule x.1 × (key_rank k ≡ key x) × (plan ≡ x.1) × (k.cost ≡ plan_cost plan)
+TakesLeast problem old new (turn.Branched k) = (x : PlannedNode) × ExpandsLeast problem old new x × (¬ HasNoConflict problem.rule x.1) × (key_rank k ≡ key x)
 
--- as many nodes are taken as may be, and a node waits: the first one's cost is stated
-pub record IsGivenUp (problem : Problem) (waiting : List Node) (taken : ℕ) (given : Answer) : Type 0 where
-  pub nodes : ℕ
-  pub limit : problem.nodes ≡ Some nodes
-  pub all : nodes ≤ taken
-  pub first : Node
-  pub rest : List Node
-  pub waits : waiting ≡ first ∷ rest
-  pub rising : IsRising waiting
-  pub states : given ≡ answer.GaveUp nodes (plan_cost first.plan)
+-- as many nodes are taken as may be, and a node waits: the least cost of those that wait is stated
+abbrev pub IsGivenUp : Problem → List Node → ℕ → Answer → Type 0
+IsGivenUp problem waiting taken given =
+    (n : ℕ) × (problem.nodes ≡ Some n) × (n ≤ taken) × ((least : ℕ) × IsLeastCost problem waiting least × (given ≡ answer.GaveUp n least))
 
 -- one node more may be taken, or none waits
 abbrev pub GoesUpTo : Problem → List Node → ℕ → Type 0
