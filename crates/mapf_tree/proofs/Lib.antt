@@ -26,7 +26,7 @@ pub mod LeastCosts
 pub mod SideNodes
 pub mod Queries
 pub mod SameSets
-pub mod Books
+pub mod PathCaches
 pub mod Rising
 pub mod Queues
 pub mod InOrder

@@ -1,13 +1,14 @@
 //! What is known of children of nodes that wait.
 
-ghost use Rattle.std.specs.Prelude.{◌≡◌, IfSome, IsTrue};
+ghost use Rattle.std.specs.Prelude.{◌≡◌, IsTrue};
 ghost use Rattle.mapf_tree.specs.Family.{IsBranching, IsChildOf};
+ghost use Rattle.mapf_tree.specs.Lookup.{IfKnown};
 ghost use Rattle.mapf_solve.specs.Rounds.{FitsSide};
 
 use crate::sessions::brands::OneProblem;
 use crate::sessions::desk::Slot;
 use crate::sessions::side_job::SideJob;
-use mapf_tree::{Key, Node, Side};
+use mapf_tree::{Key, Lookup, Node, Side};
 use std::marker::{Model, PhantomData};
 
 /// What is known of a child of a node that waits.
@@ -63,15 +64,15 @@ impl<'p, P: OneProblem> Worked<'p, P> {
     }
 
     /// The child, where the job names this node and this side.
-    pub(crate) fn child_of(self, node: &Node, side: Side) -> Option<Option<Node>>
+    pub(crate) fn child_of(self, node: &Node, side: Side) -> Lookup<Option<Node>>
         requires { IsBranching P.problem node.now }
-        ensures { IfSome result (IsChildOf P.problem node.now side) }
+        ensures { IfKnown result (IsChildOf P.problem node.now side) }
     {
         let Worked { job, child, of: _ } = self;
         if is_for(&job, node, side) {
-            Some(child)
+            Lookup::Known(child)
         } else {
-            None
+            Lookup::Unknown
         }
     }
 }

@@ -3,6 +3,7 @@
 ghost use Rattle.std.specs.Prelude.{◌≡◌, ◌<◌, ◌≤◌, All, IfErr, IfOk, IfSome, vec_len};
 ghost use Rattle.mapf_board.specs.declared.limits.TheConstants.{MOST_WORKERS};
 ghost use Rattle.mapf_tree.specs.Family.{IsBranching, IsChildOf};
+ghost use Rattle.mapf_tree.specs.Lookup.{IfKnown};
 ghost use Rattle.mapf_tree.specs.SideQuery.{IsQueryOf};
 ghost use Rattle.mapf_solve.specs.Sessions.{IsGivenOf};
 
@@ -12,7 +13,7 @@ use crate::sessions::known::{Entry, Known, Worked};
 use crate::sessions::side_job::{SideJob, SideWork};
 use mapf_board::{Left, Pair, Work};
 use mapf_grid::NoMemory;
-use mapf_tree::{Key, Node, OwnPaths, Problem, Side, SideQuery};
+use mapf_tree::{Key, Lookup, Node, OwnPaths, Problem, Side, SideQuery};
 use std::alloc::Global;
 use std::cmp::Ordering;
 
@@ -201,18 +202,22 @@ impl<'p, P: OneProblem> Lookahead<'p, P> {
 
     /// The child on one side of the node whose turn it is, left before right, if it was worked ahead. What is known of it is
     /// remembered no longer.
-    fn take(&mut self, node: &Node, side: Side) -> Option<Option<Node>>
+    fn take(&mut self, node: &Node, side: Side) -> Lookup<Option<Node>>
         requires { IsBranching P.problem node.now }
-        ensures { IfSome result (IsChildOf P.problem node.now side) }
+        ensures { IfKnown result (IsChildOf P.problem node.now side) }
     {
-        let last = self.entries.last()?;
+        let Some(last) = self.entries.last() else {
+            return Lookup::Unknown;
+        };
         if last.side != side || last.key != *node.key() {
-            return None;
+            return Lookup::Unknown;
         }
-        let Entry { known, .. } = self.entries.pop()?;
+        let Some(Entry { known, .. }) = self.entries.pop() else {
+            return Lookup::Unknown;
+        };
         match known {
             Known::Worked(worked) => worked.child_of(node, side),
-            Known::Posted(_) | Known::Unposted => None,
+            Known::Posted(_) | Known::Unposted => Lookup::Unknown,
         }
     }
 }

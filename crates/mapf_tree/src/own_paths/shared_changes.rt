@@ -1,10 +1,10 @@
-//! Changes that nodes share: those which turn the same set of constraints alike have one.
+//! Changes that nodes share: those that forbid the same set of constraints the same have one.
 
 ghost use Rattle.std.specs.Prelude.{◌≡◌, ℕ, List, slice_get, Some, IfSome, IsTrue};
 ghost use Rattle.mapf_tree.specs.SharedChanges.{AreShared, IsShared};
 
 use crate::node::change::Change;
-use crate::own_paths::known_sets::is_same;
+use crate::own_paths::constraint_sets::is_same;
 use mapf_grid::NoMemory;
 use mapf_low::Constraint;
 use std::sync::Arc;
@@ -40,7 +40,8 @@ pub(crate) fn shared_change<'a>(
 ) -> Option<&'a Arc<Change>>
     ensures agent { IfSome result (λ c. c.now.value.agent ≡ agent) }
     ensures constraint { IfSome result (λ c. c.now.value.constraint ≡ constraint.now) }
-    ensures path { (paths : List (List ℕ)) → AreShared paths changes.now → IfSome result (λ c. slice_get paths path ≡ Some c.now.value.path) }
+    ensures path { (paths : List (List ℕ)) → AreShared paths changes.now
+        → IfSome result (λ c. slice_get paths path ≡ Some c.now.value.path) }
 {
     match changes.get(extension)? {
         Some(shared) if shared.is(agent, constraint, path) => Some(&shared.change),
@@ -54,7 +55,8 @@ pub(crate) fn keep_shared(
     extension: usize,
     shared: SharedChange,
 )
-    ensures { (paths : List (List ℕ)) → AreShared paths changes.old.items → IsShared paths shared → AreShared paths changes.new.items }
+    ensures { (paths : List (List ℕ)) → AreShared paths changes.old.items → IsShared paths shared
+        → AreShared paths changes.new.items }
 {
     if reach_place(changes, extension).is_ok() && extension < changes.len() {
         changes[extension] = Some(shared);

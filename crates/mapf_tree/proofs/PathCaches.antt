@@ -1,0 +1,310 @@
+-- What a path cache remembers.
+use Rattle.std.proofs.Common.{◌≡◌, ◌⊎◌, ℕ, zero, suc, ◌+◌, ◌<◌, ◌≤◌, List, [], ◌∷◌, ◌++◌, length, get_or, set, replicate, Option, Some, None, IsSome, subst, subst₂, sym, refl, ap, ◌∙◌, inl, inr, ⊎_elim, arith, get_or-set_same, get_or-set_other}
+use Rattle.std.specs.Prelude.{slice_get, slice_index, IfSome}
+use Rattle.std.proofs.lemmas.List.{length-set, length_push, length-append, length-replicate, get_or-replicate, get_or_append_left, get_or_push}
+use Rattle.std.proofs.lemmas.List.Sums.{get_or-le-sum_by}
+use Rattle.std.proofs.lemmas.Option.{get_or_from_slice_get, slice_get_within, slice_get-get_or}
+use borrow.Author.Count.{below_more}
+use Rattle.mapf_grid.proofs.Lists.{set_cases}
+use Rattle.mapf_plan.specs.Path.{cost}
+use Rattle.mapf_plan.specs.Plan.{path_of, plan_cost}
+use Rattle.mapf_plan.specs.declared.conflict.Conflict.{Conflict}
+use Rattle.mapf_low.specs.declared.constraint.Constraint.{Constraint}
+use Rattle.mapf_low.proofs.OwnPaths.{own_path_costs, same_own}
+use Rattle.mapf_low.proofs.Sets.{own_set}
+use Rattle.mapf_tree.specs.declared.tree.side.Side.{Side}
+use Rattle.mapf_tree.specs.declared.own_paths.constraint_sets.Extension.{Extension}
+use Rattle.mapf_tree.specs.declared.own_paths.constraint_sets.CachedPath.{CachedPath}
+use Rattle.mapf_tree.specs.declared.own_paths.constraint_sets.CachedPath.TheVariants.{Path, NoneWithin}
+use Rattle.mapf_tree.specs.declared.own_paths.constraint_sets.ConstraintSet.{ConstraintSet}
+use Rattle.mapf_tree.specs.Problem.{Problem}
+use Rattle.mapf_tree.specs.Nodes.{Changed, Node, IsSameSet, IsConflictOf}
+use Rattle.mapf_tree.specs.Family.{IsBranching, IsChildOf, IsOwnWithin, Leaves}
+use Rattle.mapf_tree.specs.SideQuery.{SideQuery, IsQueryOf, IsFoundBy}
+use Rattle.mapf_tree.specs.Tree.{IsAllowedFor, IsOwnPathOf, agent_on, constraint_on, constraints_of}
+use Rattle.mapf_tree.specs.PathCache.{PathCache, HasSet, IsExtension, AreExtensions, IsExtended, AreKnown, IsCachedPath, IsOwnIn, IsFoundAt, AreFirst, AreFirstPaths, AreSetsOf}
+use Rattle.mapf_tree.proofs.ConstraintSets.{with_same, IsWith, IsWith-cons}
+use Rattle.mapf_tree.proofs.SideNodes.{own_by_limit, within_bound, agent_inside}
+use Rattle.mapf_tree.proofs.Queries.{is_child, no_child}
+
+-- two values that are there are one
+one_value : {A : Type 0} (x y : A) → ◌≡◌ {A = Option A} (Some x) (Some y) → x ≡ y
+one_value x y e = cc
+
+-- what follows of a value that may be there
+pub if_some : {A : Type 0} (o : Option A) (P Q : A → Type 0) → ((x : A) → P x → Q x) → IfSome o P → IfSome o Q
+if_some None P Q f h = tt
+if_some (Some x) P Q f h = f x h
+
+-- an element keeps its place where more are added
+slice_get_left : {X : Type 0} (xs ys : List X) (k : ℕ) (x : X) → slice_get xs k ≡ Some x → slice_get (xs ++ ys) k ≡ Some x
+slice_get_left xs ys k x e =
+    let inside : k < length xs = slice_get_within xs k x e in
+    slice_get-get_or (xs ++ ys) k x (omega (arith, inside, length-append xs ys)) ∙ ap Some (get_or_append_left xs ys x k inside ∙ get_or_from_slice_get xs k x x e)
+
+-- and the next place is that of the one that is added
+slice_get_push : {X : Type 0} (xs : List X) (y : X) → slice_get (xs ++ y ∷ []) (length xs) ≡ Some y
+slice_get_push xs y =
+    slice_get-get_or (xs ++ y ∷ []) (length xs) y (omega (arith, length_push xs y)) ∙ ap Some (get_or_push xs y y (length xs) refl)
+
+-- an element of such a list is an old one or the one that is added
+of_push : {X : Type 0} (xs : List X) (y : X) (k : ℕ) (x : X) → slice_get (xs ++ y ∷ []) k ≡ Some x → (slice_get xs k ≡ Some x) ⊎ (x ≡ y)
+of_push [] y zero x e = inr (one_value x y (sym e))
+of_push [] y (suc k) x e = absurd (let m : ◌≡◌ {A = ℕ} 0 1 = cc in omega (arith, m))
+of_push (z ∷ xs) y zero x e = inl e
+of_push (z ∷ xs) y (suc k) x e = of_push xs y k x e
+
+-- a number is that of one set
+pub same_known : (sets : List ConstraintSet) (number : ℕ) (s t : ConstraintSet) → slice_get sets number ≡ Some s → slice_get sets number ≡ Some t → s ≡ t
+same_known sets number s t e f = one_value s t (sym e ∙ f)
+
+-- so the agent and the constraints of a number are those of its set
+pub same_set : (sets : List ConstraintSet) (number agent : ℕ) (cs : List Constraint) (s : ConstraintSet) → slice_get sets number ≡ Some s → HasSet sets number agent cs → (s.agent ≡ agent) × (s.constraints ≡ cs)
+same_set sets number agent cs s at has =
+    let one = same_known sets number s has.0 at has.1 in
+    (ap (λ (t : ConstraintSet). t.agent) one ∙ has.2, ap (λ (t : ConstraintSet). t.constraints) one ∙ has.3)
+
+-- a number is that of one agent's constraints
+same_number : (sets : List ConstraintSet) (number agent other : ℕ) (cs ds : List Constraint) → HasSet sets number agent cs → HasSet sets number other ds → (agent ≡ other) × (cs ≡ ds)
+same_number sets number agent other cs ds one has =
+    let same = same_set sets number other ds one.0 one.1 has in
+    (sym one.2 ∙ same.0, sym one.3 ∙ same.1)
+
+-- an extension tells the set with its constraint more, whichever agent has the first one
+pub extension_tells : (sets : List ConstraintSet) (e : Extension) (before : ℕ) (constraint : Constraint) → IsExtension sets e → e.before ≡ before → e.constraint ≡ constraint → IsExtended sets before constraint e.after
+extension_tells sets e before constraint is same forbids agent cs has =
+    let one = same_number sets before is.0 agent is.1 cs (subst (λ n. HasSet sets n is.0 is.1) same is.3) has in
+    (is.2, subst (λ a. HasSet sets e.after a is.2) one.0 is.4, subst₂ (λ k ds. IsWith k ds is.2) forbids one.1 is.5)
+
+-- a set keeps its number where one more is added
+pub set_kept : (sets more : List ConstraintSet) (added : ConstraintSet) (number agent : ℕ) (cs : List Constraint) → more ≡ sets ++ added ∷ [] → HasSet sets number agent cs → HasSet more number agent cs
+set_kept sets more added number agent cs is has = (has.0, subst (λ l. slice_get l number ≡ Some has.0) (sym is) (slice_get_left sets (added ∷ []) number has.0 has.1), has.2, has.3)
+
+-- and the added one has the next number
+pub set_added : (sets more : List ConstraintSet) (added : ConstraintSet) (number : ℕ) → more ≡ sets ++ added ∷ [] → number ≡ length sets → HasSet more number added.agent added.constraints
+set_added sets more added number is at = (added, subst₂ (λ l n. slice_get l n ≡ Some added) (sym is) (sym at) (slice_get_push sets added), refl, refl)
+
+-- what is remembered of extensions stays so with one more
+pub extensions_more : (sets : List ConstraintSet) (old new : List Extension) (e : Extension) → new ≡ old ++ e ∷ [] → AreExtensions sets old → IsExtension sets e → AreExtensions sets new
+extensions_more sets old new e is are one number x at =
+    ⊎_elim (λ h. are number x h) (λ h. subst (IsExtension sets) (sym h) one) (of_push old e number x (subst (λ xs. slice_get xs number ≡ Some x) is at))
+
+-- and where a set is added
+pub extensions_kept : (sets more : List ConstraintSet) (added : ConstraintSet) (all : List Extension) → more ≡ sets ++ added ∷ [] → AreExtensions sets all → AreExtensions more all
+extensions_kept sets more added all is are number e at =
+    let old = are number e at in
+    (old.0, old.1, old.2, set_kept sets more added e.before old.0 old.1 is old.3, set_kept sets more added e.after old.0 old.2 is old.4, old.5)
+
+-- each agent's set after one of them has one constraint more
+pub sets_turned_on : (sets : List ConstraintSet) (numbers : List ℕ) (cs : List (List Constraint)) (agent more : ℕ) (constraint : Constraint) → agent < length numbers → AreSetsOf sets numbers cs →
+    IsExtended sets (slice_index numbers agent) constraint more → AreSetsOf sets (set numbers agent more) (set cs agent (constraint ∷ get_or cs agent []))
+sets_turned_on sets numbers cs agent more constraint inside are has = record {
+  each = length-set numbers agent more ∙ are.each ∙ sym (length-set cs agent _);
+  same = λ j l. same j (subst (λ n. j < n) (length-set cs agent _) l);
+}
+  where
+    Own : ℕ → ℕ → List Constraint → Type 0
+    Own j number xs = (ds : List Constraint) × HasSet sets number j ds × IsSameSet ds xs
+
+    here : Own agent more (constraint ∷ get_or cs agent [])
+    here =
+        let old = are.same agent (subst (λ n. agent < n) are.each inside) in
+        let new = has agent old.0 old.1 in
+        (new.0, new.1, IsWith-cons constraint (get_or cs agent []) old.0 new.0 old.2 new.2)
+
+    same : (j : ℕ) → j < length cs → Own j (slice_index (set numbers agent more) j) (get_or (set cs agent (constraint ∷ get_or cs agent [])) j [])
+    same j l =
+        set_cases (λ xs. Own j (slice_index (set numbers agent more) j) xs) cs agent j (constraint ∷ get_or cs agent []) [] l
+        (λ e. subst (λ k. Own k (slice_index (set numbers agent more) k) (constraint ∷ get_or cs agent [])) e
+        (subst (λ n. Own agent n (constraint ∷ get_or cs agent [])) (sym (get_or-set_same numbers agent more 0 inside)) here))
+        (λ n. subst (λ k. Own j k (get_or cs j [])) (sym (get_or-set_other numbers agent j more 0 (λ e. n (sym e)))) (are.same j l))
+
+-- one number more of a list each of whose numbers has what its place asks for
+pub each_more : (P : ℕ → ℕ → Type 0) (xs more : List ℕ) (y n : ℕ) → more ≡ xs ++ y ∷ [] → (length xs ≡ n) × ((k : ℕ) → k < n → P k (slice_index xs k)) → P n y →
+    (length more ≡ n + 1) × ((k : ℕ) → k < n + 1 → P k (slice_index more k))
+each_more P xs more y n is all one =
+    (ap length is ∙ length_push xs y ∙ ap (λ k. k + 1) all.0, below_more (λ k. P k (slice_index more k)) n earlier here)
+  where
+    earlier : (k : ℕ) → k < n → P k (slice_index more k)
+    earlier k l = subst (P k) (sym (ap (λ ns. get_or ns k 0) is ∙ get_or_append_left xs (y ∷ []) 0 k (omega (arith, l, all.0)))) (all.1 k l)
+
+    here : P n (slice_index more n)
+    here = subst (P n) (sym (ap (λ ns. get_or ns n 0) is ∙ get_or_push xs y 0 n all.0)) one
+
+-- at first each agent has the empty set
+pub sets_begun : (sets : List ConstraintSet) (numbers : List ℕ) (agents : ℕ) → (length numbers ≡ agents) × ((k : ℕ) → k < agents → HasSet sets (slice_index numbers k) k []) →
+    AreSetsOf sets numbers (replicate agents [])
+sets_begun sets numbers agents are = record {
+  each = are.0 ∙ sym (length-replicate agents []);
+  same = λ agent l.
+      let inside : agent < agents = subst (λ n. agent < n) (length-replicate agents []) l in
+      ([], are.1 agent inside, subst (IsSameSet []) (sym (get_or-replicate agents agent [] [] inside)) (λ x. ((λ h. h), (λ h. h))));
+}
+
+-- the numbers of each agent's set stay so where a set is added
+pub sets_kept : (old new : List ConstraintSet) (numbers : List ℕ) (cs : List (List Constraint)) → ((n a : ℕ) (ds : List Constraint) → HasSet old n a ds → HasSet new n a ds) → AreSetsOf old numbers cs → AreSetsOf new numbers cs
+sets_kept old new numbers cs keeps are = record {
+  each = are.each;
+  same = λ agent l. let set = are.same agent l in (set.0, keeps (slice_index numbers agent) agent set.0 set.1, set.2);
+}
+
+-- and so do those of the empty sets
+pub firsts_kept : (problem : Problem) (old new : List ConstraintSet) (numbers : List ℕ) → ((n a : ℕ) (ds : List Constraint) → HasSet old n a ds → HasSet new n a ds) → AreFirst problem old numbers → AreFirst problem new numbers
+firsts_kept problem old new numbers keeps are = ⊎_elim inl (λ h. inr (sets_kept old new numbers _ keeps h)) are
+
+-- what is remembered of sets stays so where each path keeps its number
+pub known_kept : (problem : Problem) (old new : List (List ℕ)) (sets : List ConstraintSet) → ((n : ℕ) (p : List ℕ) → slice_get old n ≡ Some p → slice_get new n ≡ Some p) → AreKnown problem old sets → AreKnown problem new sets
+known_kept problem old new sets keeps are number s at = kept s.own (are number s at)
+  where
+    kept : (own : CachedPath) → IsCachedPath problem old s.agent s.constraints own → IsCachedPath problem new s.agent s.constraints own
+    kept (Path n) known = (known.0, keeps n known.0 known.1, known.2)
+    kept (NoneWithin limit) none = none
+
+-- and with one set more
+pub known_more : (problem : Problem) (paths : List (List ℕ)) (old new : List ConstraintSet) (s : ConstraintSet) → new ≡ old ++ s ∷ [] → AreKnown problem paths old → IsCachedPath problem paths s.agent s.constraints s.own →
+    AreKnown problem paths new
+known_more problem paths old new s is are one number x at =
+    ⊎_elim (λ h. are number x h) (λ h. subst (λ (t : ConstraintSet). IsCachedPath problem paths t.agent t.constraints t.own) (sym h) one) (of_push old s number x (subst (λ xs. slice_get xs number ≡ Some x) is at))
+
+-- the path of a set's number is the own one of whichever agent has the set
+own_path_told : (cache : PathCache) (set number agent : ℕ) (cs : List Constraint) (s : ConstraintSet) → AreKnown cache.problem cache.paths cache.sets → slice_get cache.sets set ≡ Some s → s.own ≡ Path number →
+    HasSet cache.sets set agent cs → (path : List ℕ) × (slice_get cache.paths number ≡ Some path) × IsOwnPathOf cache.problem agent cs path
+own_path_told cache set number agent cs s is at own has =
+    let known = subst (IsCachedPath cache.problem cache.paths s.agent s.constraints) own (is set s at) in
+    let same = same_set cache.sets set agent cs s at has in
+    (known.0, known.1, subst₂ (λ i xs. IsOwnPathOf cache.problem i xs known.0) same.0 same.1 known.2)
+
+-- how many agents a node of the tree has
+pub agents_at_node : (problem : Problem) (node : Node) → IsBranching problem node → length node.plan ≡ length problem.inst.starts
+agents_at_node problem node branching = ap length branching.stands.plan ∙ branching.stands.member.plan.agents
+
+-- the own path under an agent's set is its path at the node, as an agent has one own path under a set
+pub path_at_node : (cache : PathCache) (node : Node) (sets : List ℕ) (agent number : ℕ) (s : ConstraintSet) → IsBranching cache.problem node → AreSetsOf cache.sets sets node.constraints → agent < length node.plan →
+    AreKnown cache.problem cache.paths cache.sets → slice_get cache.sets (slice_index sets agent) ≡ Some s → s.own ≡ Path number → slice_get cache.paths number ≡ Some (path_of node.plan agent)
+path_at_node cache node sets agent number s branching are l is at own =
+    let inside : agent < length cache.problem.inst.starts = omega (arith, l, agents_at_node cache.problem node branching) in
+    let set = are.same agent (omega (arith, inside, branching.stands.agents)) in
+    let known = own_path_told cache (slice_index sets agent) number agent set.0 s is at own set.1 in
+    let all : IsSameSet set.0 (constraints_of branching.of.0 agent) =
+    λ x. let one = set.2 x in let two = branching.stands.sets agent inside x in ((λ h. two.0 (one.0 h)), (λ h. one.1 (two.1 h))) in
+    let one : known.0 ≡ path_of branching.of.1 agent = same_own _ _ _ _ _ _ _ (own_set _ _ _ _ set.0 (constraints_of branching.of.0 agent) known.0 all known.2) (branching.stands.member.plan.own agent inside) in
+    known.1 ∙ ap Some (one ∙ ap (λ plan. path_of plan agent) (sym branching.stands.plan))
+
+-- one agent more, whose path has this number
+pub first_more : (paths : List (List ℕ)) (old new : List ℕ) (plan : List (List ℕ)) (n number : ℕ) → ((k : ℕ) → k < n → slice_index new k ≡ slice_index old k) → slice_index new n ≡ number →
+    AreFirstPaths paths old plan n → slice_get paths number ≡ Some (path_of plan n) → AreFirstPaths paths new plan (n + 1)
+first_more paths old new plan n number kept here are one =
+    below_more (λ k. slice_get paths (slice_index new k) ≡ Some (path_of plan k)) n (λ k l. subst (λ m. slice_get paths m ≡ Some (path_of plan k)) (sym (kept k l)) (are k l))
+    (subst (λ m. slice_get paths m ≡ Some (path_of plan n)) (sym here) one)
+
+-- the agent of a query of a node's side is one of the agents
+pub query_inside : (node : Node) (q : SideQuery) → IsBranching q.problem node → IsQueryOf node q → q.agent < length node.plan
+query_inside node q branching is = told node.conflict refl branching.conflict
+  where
+    told : (x : Option Conflict) → node.conflict ≡ x → IsSome x → q.agent < length node.plan
+    told None e some = absurd (let m : ◌≡◌ {A = ℕ} 0 1 = cc in omega (arith, m))
+    told (Some c) e some = omega (arith, is.agent c e, agent_inside q.problem node branching.of c q.side branching.stands e, agents_at_node q.problem node branching)
+
+-- where no agent has a constraint, an agent's path is its own one under the empty set
+pub root_own : (problem : Problem) (node : Node) (agent : ℕ) → IsBranching problem node → node.constraints ≡ replicate (length node.plan) [] → agent < length node.plan → IsOwnPathOf problem agent [] (path_of node.plan agent)
+root_own problem node agent branching none inside =
+    let below : agent < length problem.inst.starts = omega (arith, inside, agents_at_node problem node branching) in
+    let empty : get_or node.constraints agent [] ≡ [] = ap (λ l. get_or l agent []) none ∙ get_or-replicate (length node.plan) agent [] [] inside in
+    let same : IsSameSet (constraints_of branching.of.0 agent) [] =
+    λ x. let one = subst (λ l. IsSameSet l (constraints_of branching.of.0 agent)) empty (branching.stands.sets agent below) x in (one.1, one.0) in
+    subst (λ plan. IsOwnPathOf problem agent [] (path_of plan agent)) (sym branching.stands.plan)
+    (own_set _ _ _ _ (constraints_of branching.of.0 agent) [] (path_of branching.of.1 agent) same (branching.stands.member.plan.own agent below))
+
+-- once the empty sets have numbers, each agent's set is one of them
+pub sets_at_first : (problem : Problem) (sets : List ConstraintSet) (numbers : List ℕ) → AreFirst problem sets numbers → 0 < length numbers → AreSetsOf sets numbers (replicate (length problem.inst.starts) [])
+sets_at_first problem sets numbers are some = ⊎_elim (λ e. absurd (omega (arith, some, ap length e))) (λ h. h) are
+
+-- what the others leave of the bound is at most the bound
+pub limit_within : (problem : Problem) (node : Node) (agent limit : ℕ) → agent < length node.plan → Leaves problem node.plan agent limit → limit ≤ problem.bound
+limit_within problem node agent limit inside leaves = omega (arith, leaves, get_or-le-sum_by cost node.plan agent [] inside)
+
+-- a path that is dearer than a limit tells that there is none within it
+none_dearer : (problem : Problem) (limit agent : ℕ) (cs : List Constraint) (path : List ℕ) → limit ≤ problem.bound → limit < cost path → IsOwnPathOf problem agent cs path → IsOwnWithin problem limit agent cs None
+none_dearer problem limit agent cs path small dear own q allowed =
+    let more : IsAllowedFor problem agent cs q = record { path = allowed.path; within = omega (arith, allowed.within, small); obeys = allowed.obeys } in
+    absurd (omega (arith, own_path_costs _ _ _ _ cs path q own more, allowed.within, dear))
+
+-- where there is no path within a limit there is none within a lower one
+none_lower : (problem : Problem) (limit least agent : ℕ) (cs : List Constraint) → limit ≤ least → IsOwnWithin problem least agent cs None → IsOwnWithin problem limit agent cs None
+none_lower problem limit least agent cs small none q allowed = none q (record { path = allowed.path; within = omega (arith, allowed.within, small); obeys = allowed.obeys })
+
+-- the own path of a known set serves a lower limit that it keeps, and above it there is none
+pub own_in_path : (cache : PathCache) (set number limit : ℕ) (path : List ℕ) (s : ConstraintSet) → AreKnown cache.problem cache.paths cache.sets → slice_get cache.sets set ≡ Some s → s.own ≡ Path number → slice_get cache.paths number ≡ Some path →
+    limit ≤ cache.problem.bound → cost path ≤ limit → IsOwnIn cache set limit (Some number)
+own_in_path cache set number limit path s is at own there small within agent cs has =
+    let known = own_path_told cache set number agent cs s is at own has in
+    let one : known.0 ≡ path = one_value known.0 path (sym known.1 ∙ there) in (
+      slice_get_within cache.paths number path there,
+      subst (IsOwnWithin cache.problem limit agent cs) (ap Some (one ∙ sym (get_or_from_slice_get cache.paths number path [] there)))
+          (own_by_limit _ cs limit cache.problem.bound _ _ known.0 small (subst (λ p. cost p ≤ limit) (sym one) within) known.2),
+    )
+
+pub own_in_dearer : (cache : PathCache) (set number limit : ℕ) (path : List ℕ) (s : ConstraintSet) → AreKnown cache.problem cache.paths cache.sets → slice_get cache.sets set ≡ Some s → s.own ≡ Path number → slice_get cache.paths number ≡ Some path →
+    limit ≤ cache.problem.bound → limit < cost path → IsOwnIn cache set limit None
+own_in_dearer cache set number limit path s is at own there small dear agent cs has =
+    let known = own_path_told cache set number agent cs s is at own has in
+    let one : known.0 ≡ path = one_value known.0 path (sym known.1 ∙ there) in
+    (tt, λ q allowed. none_dearer cache.problem limit agent cs known.0 small (subst (λ p. limit < cost p) (sym one) dear) known.2 q allowed)
+
+-- where there was none within a limit there is none within a lower one
+pub own_in_none : (cache : PathCache) (set limit least : ℕ) (s : ConstraintSet) → AreKnown cache.problem cache.paths cache.sets → slice_get cache.sets set ≡ Some s → s.own ≡ NoneWithin least → limit ≤ least → IsOwnIn cache set limit None
+own_in_none cache set limit least s is at own small agent cs has =
+    let known = subst (IsCachedPath cache.problem cache.paths s.agent s.constraints) own (is set s at) in
+    let same = same_set cache.sets set agent cs s at has in
+    (tt, none_lower cache.problem limit least agent cs small (subst₂ (λ i xs. IsOwnWithin cache.problem least i xs None) same.0 same.1 known))
+
+-- what is known of the agent's set at a node and its constraint is what the side's query asks for
+pub found_at : (cache : PathCache) (node : Node) (side : Side) (sets : List ℕ) (c : Conflict) (agent limit extended : ℕ) (constraint : Constraint) (found : Option ℕ) → IsBranching cache.problem node → AreSetsOf cache.sets sets node.constraints →
+    node.conflict ≡ Some c → agent ≡ agent_on c side → constraint ≡ constraint_on c side → agent < length node.constraints → IsExtended cache.sets (slice_index sets agent) constraint extended →
+    Leaves cache.problem node.plan agent limit → IsOwnIn cache extended limit found → IsFoundAt cache node side found
+found_at cache node side sets c agent limit extended constraint found branching are is on forbids inside has leaves own =
+    let set = are.same agent inside in
+    let more = has agent set.0 set.1 in
+    let path = own agent more.0 more.1 in (
+      record { problem = cache.problem; side = side; agent = agent; constraint = constraint; constraints = more.0; limit = limit },
+      refl,
+      refl,
+      record {
+        agent = λ d e. on ∙ ap (λ x. agent_on x side) (one_value c d (sym is ∙ e));
+        constraint = λ d e. forbids ∙ ap (λ x. constraint_on x side) (one_value c d (sym is ∙ e));
+        constraints = with_same constraint set.0 (get_or node.constraints agent []) more.0 set.2 more.2;
+        leaves = leaves;
+      },
+      path.0,
+      path.1,
+    )
+
+-- where the query of a side has no own path there is no child
+pub none_at : (cache : PathCache) (node : Node) (side : Side) → IsFoundAt cache node side None → IsChildOf cache.problem node side None
+none_at cache node side found = subst₂ (λ p s. IsChildOf p node s None) found.1 found.2 (no_child node found.0 found.3 found.5)
+
+-- with one the child is within the bound
+pub small_at : (cache : PathCache) (node : Node) (side : Side) (c : Conflict) (agent number : ℕ) (path : List ℕ) → IsBranching cache.problem node → IsFoundAt cache node side (Some number) → slice_get cache.paths number ≡ Some path →
+    node.conflict ≡ Some c → agent ≡ agent_on c side → (agent < length node.plan) × (plan_cost (set node.plan agent path) ≤ cache.problem.bound)
+small_at cache node side c agent number path branching found at is on =
+    let q = found.0 in
+    let same : agent ≡ q.agent = on ∙ ap (λ s. agent_on c s) (sym found.2) ∙ sym (found.3.agent c is) in
+    let inside : q.agent < length node.plan = query_inside node q (subst (λ p. IsBranching p node) (sym found.1) branching) found.3 in
+    let own : IsFoundBy q (Some path) = subst (λ p. IsFoundBy q (Some p)) (get_or_from_slice_get cache.paths number path [] at) found.5 in (
+      subst (λ a. a < length node.plan) (sym same) inside,
+      subst₂ (λ a n. plan_cost (set node.plan a path) ≤ n) (sym same) (ap (λ (p : Problem). p.bound) found.1) (within_bound q.problem node.plan q.agent q.limit q.constraints path inside found.3.leaves own),
+    )
+
+-- and the node that has it is the child
+pub child_at : (cache : PathCache) (node new : Node) (side : Side) (c : Conflict) (number : ℕ) (change : Changed) → IsFoundAt cache node side (Some number) → slice_get cache.paths number ≡ Some change.path →
+    node.conflict ≡ Some c → change.agent ≡ agent_on c side → change.constraint ≡ constraint_on c side → new.name ≡ node.name ++ side ∷ [] →
+    new.changes ≡ node.changes ++ change ∷ [] → new.constraints ≡ set node.constraints change.agent (change.constraint ∷ get_or node.constraints change.agent []) →
+    new.plan ≡ set node.plan change.agent change.path → new.rule ≡ node.rule → IsConflictOf node.rule (set node.plan change.agent change.path) new.conflict → IsChildOf cache.problem node side (Some new)
+child_at cache node new side c number change found at is on forbids name changes constraints plan rule conflict =
+    let q = found.0 in
+    let own : IsFoundBy q (Some change.path) = subst (λ p. IsFoundBy q (Some p)) (get_or_from_slice_get cache.paths number change.path [] at) found.5 in
+    subst₂ (λ p s. IsChildOf p node s (Some new)) found.1 found.2
+    (is_child node new q change found.3 own
+    (on ∙ ap (λ s. agent_on c s) (sym found.2) ∙ sym (found.3.agent c is))
+    (forbids ∙ ap (λ s. constraint_on c s) (sym found.2) ∙ sym (found.3.constraint c is))
+    (subst (λ s. new.name ≡ node.name ++ s ∷ []) (sym found.2) name) changes constraints plan rule conflict)

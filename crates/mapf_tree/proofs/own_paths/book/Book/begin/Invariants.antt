@@ -1,8 +1,0 @@
-use Rattle.std.proofs.Common.{◌≡◌, [], ℕ, ◌<◌, length}
-use Rattle.std.specs.Prelude.{slice_index}
-use Rattle.mapf_tree.specs.Book.{HasSet}
-use Rattle.mapf_tree.proofs.own_paths.book.Book.begin.Given as goal
-
-abbrev pub invariant-loop-agent : goal.invariant-loop-agent
-invariant-loop-agent l =
-    (l.self.problem ≡ l.fn.self.problem) × (length l.firsts.items ≡ l.agent) × ((k : ℕ) → k < l.agent → HasSet l.self.sets (slice_index l.firsts.items k) k [])

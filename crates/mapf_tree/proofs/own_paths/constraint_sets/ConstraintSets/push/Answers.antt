@@ -1,0 +1,5 @@
+use Rattle.mapf_tree.proofs.PathCaches.{extensions_kept}
+use Rattle.mapf_tree.proofs.own_paths.constraint_sets.ConstraintSets.push.Goals as goal
+
+pub invariant_of-self-2 : goal.invariant_of-self-2
+invariant_of-self-2 c = extensions_kept _ _ c.args.set _ c.in_ok-push.ensures.items c.self.invariant

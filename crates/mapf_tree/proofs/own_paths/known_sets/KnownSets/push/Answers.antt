@@ -1,5 +1,0 @@
-use Rattle.mapf_tree.proofs.Books.{extensions_kept}
-use Rattle.mapf_tree.proofs.own_paths.known_sets.KnownSets.push.Goals as goal
-
-pub invariant_of-self-2 : goal.invariant_of-self-2
-invariant_of-self-2 c = extensions_kept _ _ c.args.set _ c.in_ok-push.ensures.items c.self.invariant

@@ -1,0 +1,33 @@
+use Rattle.std.proofs.Common.{◌≡◌, ℕ, List, Option, Some, option_map, subst, sym, ◌∙◌}
+use Rattle.std.specs.Prelude.{IfSome, slice_get}
+use Rattle.std.proofs.lemmas.List.Elements.{All-weaker}
+use Rattle.mapf_plan.specs.KnownPaths.{KnownPaths}
+use Rattle.mapf_plan.proofs.PlanNumbers.{known_stays}
+use Rattle.mapf_tree.specs.Problem.{Problem}
+use Rattle.mapf_tree.specs.declared.own_paths.path_cache.node_numbers.NodeNumbers.{NodeNumbers}
+use Rattle.mapf_tree.specs.declared.own_paths.constraint_sets.ConstraintSet.{ConstraintSet}
+use Rattle.mapf_tree.specs.declared.own_paths.shared_changes.SharedChange.{SharedChange}
+use Rattle.mapf_tree.specs.SharedChanges.{IsShared}
+use Rattle.mapf_tree.specs.PathCache.{IsRemembered}
+use Rattle.mapf_tree.proofs.PathCaches.{known_kept, if_some}
+use Rattle.mapf_tree.proofs.own_paths.path_cache.PathCache.add.Goals as goal
+
+-- all that is remembered stays so where each path keeps its number
+all_kept : (problem : Problem) (old new : KnownPaths) (sets : List ConstraintSet) (firsts : List ℕ) (latest : Option NodeNumbers) (changes : List (Option SharedChange)) → new.rule ≡ old.rule →
+    ((n : ℕ) (p : List ℕ) → slice_get old.paths n ≡ Some p → slice_get new.paths n ≡ Some p) → IsRemembered problem firsts latest changes sets old → IsRemembered problem firsts latest changes sets new
+all_kept problem old new sets firsts latest changes same keeps is = (
+  known_kept problem old.paths new.paths sets keeps is.0,
+  is.1,
+  same ∙ is.2,
+  if_some latest _ _ (λ at known. known_stays old new at.plan.numbers.items at.plan.conflicts.items same keeps known) is.3,
+  All-weaker (λ place. IfSome place (IsShared old.paths)) (λ place. IfSome place (IsShared new.paths))
+      (λ place. if_some place (IsShared old.paths) (IsShared new.paths) (λ one is. keeps one.path one.change.value.path is)) changes is.4,
+)
+
+pub invariant_of-self-in_err-number-in-Some : goal.invariant_of-self-in_err-number-in-Some
+invariant_of-self-in_err-number-in-Some c =
+    all_kept c.self.inside.problem.now c.self.inside.paths c.number.new.self c.self.inside.sets c.self.inside.firsts.items c.self.inside.latest c.self.inside.changes.items c.number.ensures.rule c.number.ensures.keeps c.self.invariant
+
+pub invariant_of-self-in-Some : goal.invariant_of-self-in-Some
+invariant_of-self-in-Some c =
+    all_kept c.self.inside.problem.now c.self.inside.paths c.number.new.self c.self.inside.sets c.self.inside.firsts.items c.self.inside.latest c.self.inside.changes.items c.number.ensures.rule c.number.ensures.keeps c.self.invariant

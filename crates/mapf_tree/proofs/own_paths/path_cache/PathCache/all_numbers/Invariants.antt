@@ -1,0 +1,6 @@
+use Rattle.std.proofs.Common.{◌≡◌, length}
+use Rattle.mapf_tree.specs.PathCache.{AreFirstPaths}
+use Rattle.mapf_tree.proofs.own_paths.path_cache.PathCache.all_numbers.Given as goal
+
+abbrev pub invariant-loop-agent : goal.invariant-loop-agent
+invariant-loop-agent l = (length l.numbers.items ≡ l.agent) × AreFirstPaths l.fn.self.paths l.numbers.items l.node.plan l.agent

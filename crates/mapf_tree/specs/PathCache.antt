@@ -1,0 +1,106 @@
+-- What a path cache remembers: the sets of constraints that agents have met, by number, and paths, by number.
+use Rattle.std.specs.Prelude.{◌≡◌, ◌⊎◌, ◌↔◌, ℕ, ◌<◌, List, [], length, replicate, slice_get, slice_index, slice_index_or, Option, Some, None, option_map, IfSome, Contains}
+use Rattle.mapf_plan.specs.Plan.{path_of}
+use Rattle.mapf_plan.specs.declared.cache.known_plan.KnownPlan.{KnownPlan}
+use Rattle.mapf_plan.specs.KnownPaths.{KnownPaths, IsKnownPlan, plan_of}
+use Rattle.mapf_low.specs.declared.constraint.Constraint.{Constraint}
+use Rattle.mapf_tree.specs.declared.tree.side.Side.{Side}
+use Rattle.mapf_tree.specs.declared.own_paths.path_cache.node_numbers.NodeNumbers.{NodeNumbers}
+use Rattle.mapf_tree.specs.declared.own_paths.constraint_sets.Extension.{Extension}
+use Rattle.mapf_tree.specs.declared.own_paths.constraint_sets.CachedPath.{CachedPath}
+use Rattle.mapf_tree.specs.declared.own_paths.constraint_sets.CachedPath.TheVariants.{Path, NoneWithin}
+use Rattle.mapf_tree.specs.declared.own_paths.constraint_sets.ConstraintSet.{ConstraintSet}
+use Rattle.mapf_tree.specs.declared.own_paths.shared_changes.SharedChange.{SharedChange}
+use Rattle.mapf_tree.specs.SharedChanges.{AreShared}
+use Rattle.mapf_tree.specs.Problem.{Problem}
+use Rattle.mapf_tree.specs.Tree.{IsOwnPathOf}
+use Rattle.mapf_tree.specs.Nodes.{Node, IsSameSet}
+use Rattle.mapf_tree.specs.Family.{IsBranching, IsOwnWithin}
+use Rattle.mapf_tree.specs.SideQuery.{SideQuery, IsQueryOf, IsFoundBy}
+
+-- the set of this number is the agent's, and has these constraints
+abbrev pub HasSet : List ConstraintSet → ℕ → ℕ → List Constraint → Type 0
+HasSet sets number agent cs = (s : ConstraintSet) × (slice_get sets number ≡ Some s) × (s.agent ≡ agent) × (s.constraints ≡ cs)
+
+-- one constraint more than a set has
+abbrev pub HasOneMore : Constraint → List Constraint → List Constraint → Type 0
+HasOneMore constraint cs all = (x : Constraint) → Contains all x ↔ ((x ≡ constraint) ⊎ Contains cs x)
+
+-- an extension tells of two sets of one agent: the second is the first with one constraint more
+abbrev pub IsExtension : List ConstraintSet → Extension → Type 0
+IsExtension sets e =
+    (agent : ℕ) × (cs : List Constraint) × (all : List Constraint) × HasSet sets e.before agent cs × HasSet sets e.after agent all × HasOneMore e.constraint cs all
+
+abbrev pub AreExtensions : List ConstraintSet → List Extension → Type 0
+AreExtensions sets extensions = (number : ℕ) (e : Extension) → slice_get extensions number ≡ Some e → IsExtension sets e
+
+-- whichever agent has the set of the first number, that of the second is its set with this constraint more
+abbrev pub IsExtended : List ConstraintSet → ℕ → Constraint → ℕ → Type 0
+IsExtended sets before constraint after =
+    (agent : ℕ) (cs : List Constraint) → HasSet sets before agent cs → (all : List Constraint) × HasSet sets after agent all × HasOneMore constraint cs all
+
+-- sets and paths by number
+pub record PathCache : Type 0 where
+  pub problem : Problem
+  pub sets : List ConstraintSet
+  pub paths : List (List ℕ)
+
+-- the path of that number is the agent's own under these constraints; or there is none that costs so little
+abbrev pub IsCachedPath : Problem → List (List ℕ) → ℕ → List Constraint → CachedPath → Type 0
+IsCachedPath problem paths agent cs (Path number) = (path : List ℕ) × (slice_get paths number ≡ Some path) × IsOwnPathOf problem agent cs path
+IsCachedPath problem paths agent cs (NoneWithin limit) = IsOwnWithin problem limit agent cs None
+
+-- what is remembered of each set is so
+abbrev pub AreKnown : Problem → List (List ℕ) → List ConstraintSet → Type 0
+AreKnown problem paths sets = (number : ℕ) (s : ConstraintSet) → slice_get sets number ≡ Some s → IsCachedPath problem paths s.agent s.constraints s.own
+
+-- each agent's set has this number
+pub record AreSetsOf (sets : List ConstraintSet) (numbers : List ℕ) (constraints : List (List Constraint)) : Type 0 where
+  pub each : length numbers ≡ length constraints
+  pub same : (agent : ℕ) → agent < length constraints →
+      (cs : List Constraint) × HasSet sets (slice_index numbers agent) agent cs × IsSameSet cs (slice_index_or constraints agent [])
+
+-- these are the numbers of the agents' empty sets, if there are any
+abbrev pub AreFirst : Problem → List ConstraintSet → List ℕ → Type 0
+AreFirst problem sets numbers = (numbers ≡ []) ⊎ AreSetsOf sets numbers (replicate (length problem.inst.starts) [])
+
+-- a plan by the numbers of its paths in a cache, with pair conflicts of its conflicts
+abbrev pub IsPlanOf : PathCache → KnownPlan → Type 0
+IsPlanOf cache plan = IsKnownPlan (record { rule = cache.problem.rule; paths = cache.paths }) plan.numbers.items plan.conflicts.items
+
+-- the paths of the first agents have these numbers
+abbrev pub AreFirstPaths : List (List ℕ) → List ℕ → List (List ℕ) → ℕ → Type 0
+AreFirstPaths paths numbers plan n = (k : ℕ) → k < n → slice_get paths (slice_index numbers k) ≡ Some (path_of plan k)
+
+-- a plan of as many agents as a node has, the first of which have their paths at the node
+abbrev pub IsPlanUpTo : PathCache → Node → ℕ → KnownPlan → Type 0
+IsPlanUpTo cache node n plan = IsPlanOf cache plan × (length plan.numbers.items ≡ length node.plan) × AreFirstPaths cache.paths plan.numbers.items node.plan n
+
+-- the numbers are those of each agent's set at a node and of its plan
+pub record IsAt (cache : PathCache) (node : Node) (at : NodeNumbers) : Type 0 where
+  pub sets : AreSetsOf cache.sets at.sets.items node.constraints
+  pub plan : IsPlanOf cache at.plan
+  pub same : plan_of cache.paths at.plan.numbers.items ≡ node.plan
+
+-- the number of the own path under a set, at a cost of at most the limit; or that there is none
+abbrev pub IsOwnIn : PathCache → ℕ → ℕ → Option ℕ → Type 0
+IsOwnIn cache set limit found =
+    (agent : ℕ) (cs : List Constraint) → HasSet cache.sets set agent cs →
+    IfSome found (λ n. n < length cache.paths) × IsOwnWithin cache.problem limit agent cs (option_map (λ n. path_of cache.paths n) found)
+
+-- the query is that of a side of a node of the tree
+abbrev pub IsQueryIn : Problem → Node → SideQuery → Type 0
+IsQueryIn problem node q = IsBranching problem node × (q.problem ≡ problem) × IsQueryOf node q
+
+-- the number of the own path that the query of a node's side asks for; or that there is none
+abbrev pub IsFoundAt : PathCache → Node → Side → Option ℕ → Type 0
+IsFoundAt cache node side found =
+    (q : SideQuery) × (q.problem ≡ cache.problem) × (q.side ≡ side) × IsQueryOf node q × IfSome found (λ n. n < length cache.paths) ×
+    IsFoundBy q (option_map (λ n. path_of cache.paths n) found)
+
+-- all that a cache remembers holds, and its paths are compared by the problem's rule
+abbrev pub IsRemembered : Problem → List ℕ → Option NodeNumbers → List (Option SharedChange) → List ConstraintSet → KnownPaths → Type 0
+IsRemembered problem firsts latest changes sets paths =
+    AreKnown problem paths.paths sets × AreFirst problem sets firsts × (paths.rule ≡ problem.rule)
+    × IfSome latest (λ at. IsKnownPlan paths at.plan.numbers.items at.plan.conflicts.items)
+    × AreShared paths.paths changes

@@ -1,0 +1,156 @@
+//! What is remembered of own paths: sets of constraints that agents met, and what was found under them.
+
+ghost use Rattle.std.specs.Prelude.{◌≡◌, ◌<◌, ◌≤◌, ℕ, List, [], length, replicate, option_map, IfOk};
+ghost use Rattle.std.specs.Arc.{arc_value};
+ghost use Rattle.mapf_low.specs.declared.constraint.Constraint.{Constraint};
+ghost use Rattle.mapf_tree.specs.Family.{IsBranching, IsOwnWithin};
+ghost use Rattle.mapf_tree.specs.SideQuery.{IsFoundBy};
+ghost use Rattle.mapf_tree.specs.PathCache.{HasSet, AreSetsOf, IsCachedPath, IsQueryIn};
+
+use crate::own_paths::constraint_sets::{CachedPath, ConstraintSet, Extension};
+use crate::own_paths::path_cache::PathCache;
+use crate::{Node, SideQuery};
+use mapf_grid::NoMemory;
+use mapf_low::Constraints;
+use mapf_plan::Path;
+use std::sync::Arc;
+
+impl<'p> PathCache<'p> {
+    /// Each agent's empty set gets a number, once the root is met.
+    pub(crate) fn number_first_sets(&mut self, node: &Node) -> Result<(), NoMemory>
+        requires { IsBranching self.old.problem node.now }
+        ensures { self.new.problem ≡ self.old.problem }
+    {
+        if !self.firsts.is_empty() || !node.is_root() {
+            return Ok(());
+        }
+        let mut firsts = Vec::with_capacity(self.alloc, node.agents())?;
+        for agent in 0..node.agents() {
+            let set = self.first_set(node, agent)?;
+            firsts.push(set)?;
+        }
+        self.firsts = firsts;
+        Ok(())
+    }
+
+    /// Remembers an agent's path at the root, under the empty set. Answers the set's number.
+    fn first_set(&mut self, root: &Node, agent: usize) -> Result<usize, NoMemory>
+        requires root { IsBranching self.old.problem root.now }
+        requires none { root.now.constraints ≡ replicate (length root.now.plan) [] }
+        requires agent { agent < length root.now.plan }
+        ensures problem { self.new.problem ≡ self.old.problem }
+        ensures kept { (n a : ℕ) (cs : List Constraint) → HasSet self.old.sets n a cs → HasSet self.new.sets n a cs }
+        ensures set { IfOk result (λ set. HasSet self.new.sets set agent []) }
+    {
+        let path = Arc::new(self.alloc, root.path(agent).copy(self.alloc)?)?;
+        let bound = self.problem.bound();
+        self.add(agent, Constraints::new(self.alloc), bound, Some(&path))
+    }
+
+    /// Remembers what the query of a side of a node was answered, unless memory runs out. Answers the number that the extension
+    /// of its agent's set has, if it has one.
+    pub(crate) fn learn(
+        &mut self,
+        node: &Node,
+        query: &SideQuery<'p>,
+        path: Option<&Arc<Path>>,
+    ) -> usize
+        requires query { IsQueryIn self.old.problem node.now query.now }
+        requires path { IsFoundBy query.now (option_map (λ p. arc_value p.now) path) }
+        ensures { self.new.problem ≡ self.old.problem }
+    {
+        let Ok(set) = self.keep_set(node, query, path) else {
+            return 0;
+        };
+        match self.sets_at(node, Vec::new(self.alloc)) {
+            Ok(Some(sets)) => self.extend(node, &sets, query, set),
+            _ => 0,
+        }
+    }
+
+    /// The number of a query's set. It is remembered now where it isn't known, or not what its own path is within the limit: a
+    /// set under which there is a path has one number, so that each change of a node leads to the set that it led to before.
+    fn keep_set(
+        &mut self,
+        node: &Node,
+        query: &SideQuery<'p>,
+        path: Option<&Arc<Path>>,
+    ) -> Result<usize, NoMemory>
+        requires query { IsQueryIn self.old.problem node.now query.now }
+        requires path { IsFoundBy query.now (option_map (λ p. arc_value p.now) path) }
+        ensures problem { self.new.problem ≡ self.old.problem }
+        ensures set { IfOk result (λ set. HasSet self.new.sets set query.now.agent query.now.constraints) }
+    {
+        if let Some(set) = self.sets.find(query.agent(), query.constraints()) {
+            if self.find_own_path(set, query.limit()).is_known() {
+                return Ok(set);
+            }
+        }
+        let constraints = query.copy_constraints()?;
+        self.add(query.agent(), constraints, query.limit(), path)
+    }
+
+    /// Remembers an agent's set, and its own path at a cost of at most the limit. Answers the set's number.
+    fn add(
+        &mut self,
+        agent: usize,
+        constraints: Constraints,
+        limit: u32,
+        path: Option<&Arc<Path>>,
+    ) -> Result<usize, NoMemory>
+        requires limit { limit ≤ self.old.problem.bound }
+        requires path { IsOwnWithin self.old.problem limit agent constraints (option_map (λ p. arc_value p.now) path) }
+        ensures problem { self.new.problem ≡ self.old.problem }
+        ensures kept { (n a : ℕ) (cs : List Constraint) → HasSet self.old.sets n a cs → HasSet self.new.sets n a cs }
+        ensures set { IfOk result (λ set. HasSet self.new.sets set agent constraints) }
+    {
+        match path {
+            Some(path) => {
+                let number = self.paths.number(Arc::try_clone(path)?)?;
+                self.push(agent, constraints, CachedPath::Path(number))
+            }
+            None => self.push(agent, constraints, CachedPath::NoneWithin(limit)),
+        }
+    }
+
+    /// Remembers an agent's set, and what its own path is. Answers the set's number.
+    fn push(
+        &mut self,
+        agent: usize,
+        constraints: Constraints,
+        own: CachedPath,
+    ) -> Result<usize, NoMemory>
+        requires { IsCachedPath self.old.problem self.old.paths agent constraints own }
+        ensures problem { self.new.problem ≡ self.old.problem }
+        ensures kept { (n a : ℕ) (cs : List Constraint) → HasSet self.old.sets n a cs → HasSet self.new.sets n a cs }
+        ensures set { IfOk result (λ set. HasSet self.new.sets set agent constraints) }
+    {
+        let set = self.sets.push(ConstraintSet {
+            agent,
+            constraints,
+            own,
+        })?;
+        Ok(set)
+    }
+
+    /// Remembers that the agent's set at a node and one constraint more are the set of this number. Answers the extension's
+    /// number.
+    pub(crate) fn extend(
+        &mut self,
+        node: &Node,
+        sets: &[usize],
+        query: &SideQuery<'_>,
+        set: usize,
+    ) -> usize
+        requires query { IsQueryIn self.old.problem node.now query.now }
+        requires sets { AreSetsOf self.old.sets sets.now node.now.constraints }
+        requires set { HasSet self.old.sets set query.now.agent query.now.constraints }
+        ensures { self.new ≡ self.old }
+    {
+        self.sets.extend(Extension {
+            before: sets[query.agent()],
+            constraint: query.constraint(),
+            after: set,
+        })
+    }
+}

@@ -1,0 +1,221 @@
+//! Each agent's set of constraints and its path at a node, by number.
+
+ghost use Rattle.std.specs.Prelude.{◌≡◌, ◌+◌, ◌<◌, List, ◌∷◌, [], length, map, slice_get, Some, IfSome, IfOk, IsTrue};
+ghost use Rattle.std.specs.List.{flat_map};
+ghost use Rattle.std.specs.Arc.{arc_value};
+ghost use Rattle.mapf_plan.specs.Plan.{path_of};
+ghost use Rattle.mapf_low.specs.declared.constraint.Constraint.{Constraint};
+ghost use Rattle.mapf_tree.specs.Nodes.{changed_sets};
+ghost use Rattle.mapf_tree.specs.Family.{IsBranching};
+ghost use Rattle.mapf_tree.specs.PathCache.{AreSetsOf, IsPlanOf, IsPlanUpTo, IsAt};
+
+use crate::Node;
+use crate::node::change::Change;
+use crate::node::four_changes::FourChanges;
+use crate::own_paths::constraint_sets::{CachedPath, ConstraintSets};
+use crate::own_paths::path_cache::PathCache;
+use mapf_grid::NoMemory;
+use mapf_plan::KnownPlan;
+use std::mem::replace;
+use std::sync::Arc;
+
+/// Pairs of so many agents are kept by node from the start.
+const MOST_PAIRED: usize = 64;
+
+/// Of more agents than these nothing is kept by node, as there are too many pairs of them.
+const MOST_PAIRED_LATER: usize = 256;
+
+/// Of more than are paired from the start so many nodes for each agent are looked at before: in a short search all their pairs
+/// cost more than they save.
+const NODES_BEFORE: usize = 12;
+
+/// What agents have at a node, by numbers.
+#[derive(Drop)]
+pub(crate) struct NodeNumbers {
+    /// Each agent's set of constraints.
+    pub(crate) sets: Vec<usize>,
+    /// The node's plan.
+    pub(crate) plan: KnownPlan,
+}
+
+impl<'p> PathCache<'p> {
+    /// The numbers at a node, from those at the one that was looked at last. None where a set or a path isn't known, of more than
+    /// 64 agents for the first 12 nodes for each of them, and of more than 256 agents.
+    pub(crate) fn numbers_at(&mut self, node: &Node) -> Result<Option<NodeNumbers>, NoMemory>
+        requires { IsBranching self.old.problem node.now }
+        ensures problem { self.new.problem ≡ self.old.problem }
+        ensures numbers { IfOk result (λ found. IfSome found (IsAt self.new node.now)) }
+    {
+        if node.agents() > MOST_PAIRED_LATER {
+            return Ok(None);
+        }
+        self.number_first_sets(node)?;
+        self.looked = self.looked.saturating_add(1);
+        if !are_paired(node.agents(), self.looked) {
+            return Ok(None);
+        }
+        if let Some(latest) = replace(&mut self.latest, None) {
+            if latest.plan.numbers.len() == node.agents() {
+                return self.numbers_from(node, latest);
+            }
+        }
+        self.all_numbers(node)
+    }
+
+    /// The numbers at a node, from those at another one with as many agents.
+    fn numbers_from(
+        &mut self,
+        node: &Node,
+        other: NodeNumbers,
+    ) -> Result<Option<NodeNumbers>, NoMemory>
+        requires node { IsBranching self.old.problem node.now }
+        requires other { IsPlanOf self.old other.plan }
+        requires agents { length other.plan.numbers.items ≡ length node.now.plan }
+        ensures same { self.new ≡ self.old }
+        ensures numbers { IfOk result (λ found. IfSome found (IsAt self.old node.now)) }
+    {
+        let NodeNumbers {
+            sets: spare,
+            mut plan,
+        } = other;
+        let Some(sets) = self.sets_at(node, spare)? else {
+            return Ok(None);
+        };
+        for agent in 0..node.agents() {
+            if !self.give_path(node, &sets, agent, &mut plan)? {
+                return Ok(None);
+            }
+        }
+        Ok(Some(NodeNumbers { sets, plan }))
+    }
+
+    /// Gives an agent of a plan the path that it has at a node. False where that isn't known.
+    #[inline(always)]
+    fn give_path(
+        &mut self,
+        node: &Node,
+        sets: &[usize],
+        agent: usize,
+        plan: &mut KnownPlan,
+    ) -> Result<bool, NoMemory>
+        requires node { IsBranching self.old.problem node.now }
+        requires sets { AreSetsOf self.old.sets sets.now node.now.constraints }
+        requires agent { agent < length node.now.plan }
+        requires plan { IsPlanUpTo self.old node.now agent plan.old }
+        ensures same { self.new ≡ self.old }
+        ensures plan { IfOk result (λ known. IsTrue known → IsPlanUpTo self.old node.now (agent + 1) plan.new) }
+    {
+        let Some(number) = self.path_at(node, sets, agent) else {
+            return Ok(false);
+        };
+        if plan.numbers[agent] == number {
+            return Ok(true);
+        }
+        self.paths.turn(plan, agent, number)?;
+        Ok(true)
+    }
+
+    /// The numbers at a node, where all its pairs of agents are looked up.
+    fn all_numbers(&mut self, node: &Node) -> Result<Option<NodeNumbers>, NoMemory>
+        requires { IsBranching self.old.problem node.now }
+        ensures same { self.new ≡ self.old }
+        ensures numbers { IfOk result (λ found. IfSome found (IsAt self.old node.now)) }
+    {
+        let Some(sets) = self.sets_at(node, Vec::new(self.alloc))? else {
+            return Ok(None);
+        };
+        let mut numbers = Vec::with_capacity(self.alloc, node.agents())?;
+        for agent in 0..node.agents() {
+            let Some(number) = self.path_at(node, &sets, agent) else {
+                return Ok(None);
+            };
+            numbers.push(number)?;
+        }
+        let plan = self.paths.plan(&numbers)?;
+        Ok(Some(NodeNumbers { sets, plan }))
+    }
+
+    /// The number of an agent's path at a node, whose sets are given: the own path under its set. None where that isn't known.
+    #[inline(always)]
+    fn path_at(&self, node: &Node, sets: &[usize], agent: usize) -> Option<usize>
+        requires node { IsBranching self.now.problem node.now }
+        requires sets { AreSetsOf self.now.sets sets.now node.now.constraints }
+        requires agent { agent < length node.now.plan }
+        ensures { IfSome result (λ n. slice_get self.now.paths n ≡ Some (path_of node.now.plan agent)) }
+    {
+        match self.sets.get(sets[agent])?.own {
+            CachedPath::Path(number) => Some(number),
+            CachedPath::NoneWithin(_) => None,
+        }
+    }
+
+    /// The number of each agent's set at a node, in the place of what a list had. None where one isn't known.
+    pub(crate) fn sets_at(
+        &self,
+        node: &Node,
+        spare: Vec<usize>,
+    ) -> Result<Option<Vec<usize>>, NoMemory>
+        requires { IsBranching self.now.problem node.now }
+        ensures { IfOk result (λ found. IfSome found (λ sets. AreSetsOf self.now.sets sets.items node.now.constraints)) }
+    {
+        if self.firsts.is_empty() {
+            return Ok(None);
+        }
+        let mut sets = spare;
+        sets.clear();
+        sets.extend_from_slice(&self.firsts)?;
+        let (older, own) = node.changes();
+        if !turn_fours(&self.sets, &mut sets, older.fours()) {
+            return Ok(None);
+        }
+        if !turn_all(&self.sets, &mut sets, own.as_slice()) {
+            return Ok(None);
+        }
+        Ok(Some(sets))
+    }
+}
+
+/// Whether pairs of so many agents, which are at most 256, are kept once so many nodes were looked at.
+fn are_paired(agents: usize, looked: usize) -> bool {
+    agents <= MOST_PAIRED || looked / NODES_BEFORE >= agents
+}
+
+/// Each agent's set after some fours of changes more; false where one isn't known.
+fn turn_fours(known: &ConstraintSets, sets: &mut Vec<usize>, fours: &[Arc<FourChanges>]) -> bool
+    ensures { IsTrue result → (cs : List (List Constraint)) → AreSetsOf known.now sets.old.items cs → AreSetsOf known.now sets.new.items (changed_sets cs (flat_map arc_value fours.now)) }
+{
+    for four in fours {
+        if !turn_all(known, sets, four.as_slice()) {
+            return false;
+        }
+    }
+    true
+}
+
+/// Each agent's set after some changes more; false where one isn't known.
+fn turn_all(known: &ConstraintSets, sets: &mut Vec<usize>, changes: &[Arc<Change>]) -> bool
+    ensures { IsTrue result → (cs : List (List Constraint)) → AreSetsOf known.now sets.old.items cs → AreSetsOf known.now sets.new.items (changed_sets cs (map arc_value changes.now)) }
+{
+    for change in changes {
+        if !turn(known, sets, change) {
+            return false;
+        }
+    }
+    true
+}
+
+/// Each agent's set after one change more; false where it isn't known.
+fn turn(known: &ConstraintSets, sets: &mut Vec<usize>, change: &Change) -> bool
+    ensures { IsTrue result → (cs : List (List Constraint)) → AreSetsOf known.now sets.old.items cs → AreSetsOf known.now sets.new.items (changed_sets cs (change.now ∷ [])) }
+{
+    if change.agent >= sets.len() {
+        return false;
+    }
+    match known.extended(change.extension, sets[change.agent], &change.constraint) {
+        Some(set) => {
+            sets[change.agent] = set;
+            true
+        }
+        None => false,
+    }
+}
