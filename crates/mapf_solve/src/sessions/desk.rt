@@ -12,7 +12,7 @@ use mapf_board::{Found, Left, Live, MOST_SLOTS, Owner, Pair};
 use std::marker::PhantomData;
 
 /// One of the slots of a board.
-#[derive(Clone, Copy, Debug)]
+#[derive(Clone, Copy)]
 pub(crate) struct Slot {
     number: usize,
     ghost of_board: { number < MOST_SLOTS },
@@ -38,8 +38,6 @@ pub(crate) struct Desk<'p, 's, P: OneProblem, B: OneBoard> {
     owner: Owner<SideWork<'p>>,
     /// Which slots have a job.
     used: [bool; MOST_SLOTS],
-    /// How many slots have a job, so that no slot is looked at where none has.
-    jobs: usize,
     of: PhantomData<(P, B)>,
     ghost board: { board_of live.now ≡ B.board },
     ghost slots: { size_of live.now ≡ MOST_SLOTS },
@@ -62,7 +60,6 @@ impl<'p, 's, P: OneProblem, B: OneBoard> Desk<'p, 's, P, B> {
             live,
             owner,
             used: [false; MOST_SLOTS],
-            jobs: 0,
             of: PhantomData,
         }
     }
@@ -83,7 +80,7 @@ impl<'p, 's, P: OneProblem, B: OneBoard> Desk<'p, 's, P, B> {
 
     /// Whether any slot has a job.
     pub(crate) fn has_jobs(&self) -> bool {
-        self.jobs > 0
+        self.used.contains(&true)
     }
 
     /// The first slot that has no job.
@@ -102,7 +99,6 @@ impl<'p, 's, P: OneProblem, B: OneBoard> Desk<'p, 's, P, B> {
     {
         if self.live.post(&mut self.owner, slot.number, job).is_ok() {
             self.used[slot.number] = true;
-            self.jobs = self.jobs.saturating_add(1);
         }
     }
 
@@ -112,7 +108,6 @@ impl<'p, 's, P: OneProblem, B: OneBoard> Desk<'p, 's, P, B> {
     {
         let left = self.live.collect(&mut self.owner, slot.number)?;
         self.used[slot.number] = false;
-        self.jobs = self.jobs.saturating_sub(1);
         Ok(left)
     }
 
@@ -122,7 +117,6 @@ impl<'p, 's, P: OneProblem, B: OneBoard> Desk<'p, 's, P, B> {
     {
         let job = self.live.withdraw(&mut self.owner, slot.number).ok()?;
         self.used[slot.number] = false;
-        self.jobs = self.jobs.saturating_sub(1);
         Some(job)
     }
 
