@@ -8,8 +8,8 @@ ghost use Rattle.mapf_tree.specs.SideQuery.{IsQueryOf};
 ghost use Rattle.mapf_solve.specs.Sessions.{IsGivenOf};
 
 use crate::sessions::brands::OneProblem;
+use crate::sessions::child_stage::{ChildOfJob, ChildStage, Entry};
 use crate::sessions::desk::{Given, Slot};
-use crate::sessions::known::{Entry, Known, Worked};
 use crate::sessions::side_job::{SideJob, SideWork};
 use mapf_board::{Left, Pair, Work};
 use mapf_grid::NoMemory;
@@ -72,7 +72,7 @@ impl<'p, P: OneProblem> Lookahead<'p, P> {
         let query = self.unknown_query(node, side)?;
         let from_start = self.own_paths.from_start(&query);
         let copy = node.copy(self.alloc).ok()?;
-        self.add(node, side, Known::Posted(slot));
+        self.add(node, side, ChildStage::Posted(slot));
         let number = self.next;
         self.next = number.saturating_add(1);
         Some(SideJob::of(copy, query, from_start, number))
@@ -90,18 +90,18 @@ impl<'p, P: OneProblem> Lookahead<'p, P> {
         match self.own_paths.unknown_query(node, side) {
             Ok(Some(query)) => Some(query),
             Ok(None) => {
-                self.add(node, side, Known::Unposted);
+                self.add(node, side, ChildStage::Unposted);
                 None
             }
             Err(_) => None,
         }
     }
 
-    /// This is known of a child of a node, unless memory runs out.
-    fn add(&mut self, node: &Node, side: Side, known: Known<'p, P>) {
+    /// The work on a child of a node has come so far; that is forgotten where memory runs out.
+    fn add(&mut self, node: &Node, side: Side, stage: ChildStage<'p, P>) {
         if let Err(place) = self.place_of(node, side) {
             if let Some(key) = copy_of(self.alloc, node.key()) {
-                let _added = self.entries.insert(place, Entry { key, side, known });
+                let _added = self.entries.insert(place, Entry { key, side, stage });
             }
         }
     }
@@ -126,9 +126,9 @@ impl<'p, P: OneProblem> Lookahead<'p, P> {
     /// The slot of the job for a child of a node, if it was posted.
     pub(crate) fn slot_of(&self, node: &Node, side: Side) -> Option<Slot> {
         let place = self.place_of(node, side).ok()?;
-        match &self.entries[place].known {
-            Known::Posted(slot) => Some(*slot),
-            Known::Worked(_) | Known::Unposted => None,
+        match &self.entries[place].stage {
+            ChildStage::Posted(slot) => Some(*slot),
+            ChildStage::WorkedOut(_) | ChildStage::Unposted => None,
         }
     }
 
@@ -171,14 +171,14 @@ impl<'p, P: OneProblem> Lookahead<'p, P> {
         let (job, child) = pair.parts();
         let child = self.own_paths.learn(job.node(), job.query(), child);
         if let Ok(place) = self.place_of(job.node(), job.side()) {
-            self.entries[place].known = Known::Worked(Worked::of(job, child));
+            self.entries[place].stage = ChildStage::WorkedOut(ChildOfJob::of(job, child));
         }
     }
 
     /// There was no memory for this job.
     fn give_up(&mut self, job: &SideJob<'p>) {
         if let Ok(place) = self.place_of(job.node(), job.side()) {
-            self.entries[place].known = Known::Unposted;
+            self.entries[place].stage = ChildStage::Unposted;
         }
     }
 
@@ -212,12 +212,12 @@ impl<'p, P: OneProblem> Lookahead<'p, P> {
         if last.side != side || last.key != *node.key() {
             return Lookup::Unknown;
         }
-        let Some(Entry { known, .. }) = self.entries.pop() else {
+        let Some(Entry { stage, .. }) = self.entries.pop() else {
             return Lookup::Unknown;
         };
-        match known {
-            Known::Worked(worked) => worked.child_of(node, side),
-            Known::Posted(_) | Known::Unposted => Lookup::Unknown,
+        match stage {
+            ChildStage::WorkedOut(worked) => worked.child_of(node, side),
+            ChildStage::Posted(_) | ChildStage::Unposted => Lookup::Unknown,
         }
     }
 }

@@ -1,4 +1,4 @@
-//! What is known of children of nodes that wait.
+//! How far the work on children of nodes that wait has come.
 
 ghost use Rattle.std.specs.Prelude.{◌≡◌, IsTrue};
 ghost use Rattle.mapf_tree.specs.Family.{IsBranching, IsChildOf};
@@ -11,34 +11,44 @@ use crate::sessions::side_job::SideJob;
 use mapf_tree::{Key, Lookup, Node, Side};
 use std::marker::{Model, PhantomData};
 
-/// What is known of a child of a node that waits.
+/// How far the work on a child of a node that waits has come.
 #[derive(Drop)]
-pub(crate) enum Known<'p, P: OneProblem> {
+pub(crate) enum ChildStage<'p, P: OneProblem> {
     /// Its job is in this slot.
     Posted(Slot),
     /// It was worked out ahead.
-    Worked(Worked<'p, P>),
+    WorkedOut(ChildOfJob<'p, P>),
     /// A worker gave its job back for want of memory, or its path is known: no job is posted for it.
     Unposted,
 }
 
-/// What is known of the child on this side of the node of this key.
+/// How far the work on the child on this side of the node of this key has come.
 #[derive(Drop)]
 pub(crate) struct Entry<'p, P: OneProblem> {
     pub(crate) key: Key,
     pub(crate) side: Side,
-    pub(crate) known: Known<'p, P>,
+    pub(crate) stage: ChildStage<'p, P>,
 }
 
 /// A child, and the job that it fits: one for a side of a node of the problem's tree.
-#[derive(Drop)]
-pub(crate) struct Worked<'p, P: OneProblem> {
+pub(crate) struct ChildOfJob<'p, P: OneProblem> {
     job: SideJob<'p>,
     child: Option<Node>,
     of: PhantomData<P>,
 }
 
-impl<'p, P: OneProblem> Model for Worked<'p, P> {
+// By hand, so that a proof about what holds one sees a call where it is dropped, and not its fields.
+impl<'p, P: OneProblem> Drop for ChildOfJob<'p, P> {
+    fn drop(self) {
+        let ChildOfJob {
+            job: _,
+            child: _,
+            of: _,
+        } = self;
+    }
+}
+
+impl<'p, P: OneProblem> Model for ChildOfJob<'p, P> {
     ghost use Rattle.std.specs.Prelude.{◌≡◌, Option};
     ghost use Rattle.mapf_tree.specs.Nodes.{Node};
     ghost use Rattle.mapf_solve.specs.Rounds.{FitsSide, WantedChild};
@@ -50,13 +60,13 @@ impl<'p, P: OneProblem> Model for Worked<'p, P> {
     ghost invariant = { λ w. (w.job.query.problem ≡ P.problem) × FitsSide w.job w.child };
 }
 
-impl<'p, P: OneProblem> Worked<'p, P> {
+impl<'p, P: OneProblem> ChildOfJob<'p, P> {
     /// The child that fits this job.
-    pub(crate) fn of(job: SideJob<'p>, child: Option<Node>) -> Worked<'p, P>
+    pub(crate) fn of(job: SideJob<'p>, child: Option<Node>) -> ChildOfJob<'p, P>
         requires problem { job.query.problem ≡ P.problem }
         requires child { FitsSide job child }
     {
-        Worked {
+        ChildOfJob {
             job,
             child,
             of: PhantomData,
@@ -68,7 +78,7 @@ impl<'p, P: OneProblem> Worked<'p, P> {
         requires { IsBranching P.problem node.now }
         ensures { IfKnown result (IsChildOf P.problem node.now side) }
     {
-        let Worked { job, child, of: _ } = self;
+        let ChildOfJob { job, child, of: _ } = self;
         if is_for(&job, node, side) {
             Lookup::Known(child)
         } else {

@@ -1,7 +1,7 @@
 use Rattle.std.proofs.Common.{sym, ap, ◌∙◌}
 use Rattle.mapf_tree.specs.Nodes.{Node}
 use Rattle.mapf_solve.proofs.WorkedAhead.{one_name}
-use Rattle.mapf_solve.proofs.sessions.known.is_for.Goals as goal
+use Rattle.mapf_solve.proofs.sessions.child_stage.is_for.Goals as goal
 
 pub returns-then-eq-clause-name : goal.returns-then-eq-clause-name
 returns-then-eq-clause-name c told =

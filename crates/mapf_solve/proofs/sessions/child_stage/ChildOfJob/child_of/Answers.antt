@@ -1,7 +1,7 @@
 use Rattle.std.proofs.Common.{subst}
 use Rattle.mapf_tree.specs.Family.{IsChildOf}
 use Rattle.mapf_solve.proofs.WorkedAhead.{child_of_same_name}
-use Rattle.mapf_solve.proofs.sessions.known.Worked.child_of.Goals as goal
+use Rattle.mapf_solve.proofs.sessions.child_stage.ChildOfJob.child_of.Goals as goal
 
 pub returns-then-is_for : goal.returns-then-is_for
 returns-then-is_for g c =
