@@ -11,7 +11,7 @@ use std::alloc::Global;
 use std::marker::{Model, PhantomData};
 
 /// The distances to a goal are wanted.
-#[derive(Clone, Drop)]
+#[derive(Drop)]
 pub(crate) struct GoalJob<'m> {
     map: &'m Map,
     goal: Cell,
@@ -82,6 +82,6 @@ impl<'m> Order<GoalWork<'m>> for GoalJob<'m> {
     ghost ordered = { λ j. j };
 
     fn job(&self, _alloc: Global) -> Result<GoalJob<'m>, NoMemory> {
-        Ok(self.clone()?)
+        Ok(GoalJob::of(self.map, self.goal, self.number))
     }
 }

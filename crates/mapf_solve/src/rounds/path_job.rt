@@ -10,7 +10,7 @@ use std::alloc::Global;
 use std::marker::{Model, PhantomData};
 
 /// An agent's own path without constraints is wanted.
-#[derive(Clone, Drop)]
+#[derive(Drop)]
 pub(crate) struct PathJob<'p> {
     problem: &'p Problem,
     agent: usize,
@@ -85,6 +85,6 @@ impl<'p> Order<PathWork<'p>> for PathJob<'p> {
     ghost ordered = { λ j. j };
 
     fn job(&self, _alloc: Global) -> Result<PathJob<'p>, NoMemory> {
-        Ok(self.clone()?)
+        Ok(PathJob::of(self.problem, self.agent, self.number))
     }
 }
