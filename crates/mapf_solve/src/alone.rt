@@ -23,11 +23,13 @@ pub fn answer_alone(alloc: Global, map: &[u8], scen: &[u8], ask: Ask) -> Result<
 
     // With a limit of n nodes the bytes are the same, unless the tree has a node at place n that is in the cut or is the first
     // solution: exactly then they are `gave up`, with a cost that each plan without conflict has at least.
-    ensures limit { IfOk result (λ bytes. (n : ℕ) → ask.nodes ≡ Some n → KeepsLimit map.now scen.now ask n bytes.items) }
+    ensures limit { IfOk result (λ bytes. (n : ℕ) → ask.nodes ≡ Some n
+        → KeepsLimit map.now scen.now ask n bytes.items) }
 
     // The same bytes, or the same fault, as with any number of workers.
     ensures same { IfOk result (λ bytes. IsOnlyOut map.now scen.now ask (Ok bytes.items)) }
-    ensures same_fault { IfErr result (λ fault. fault ≢ Refusal.NoMemory → IsWorkers ask → IsOnlyOut map.now scen.now ask (Err fault)) }
+    ensures same_fault { IfErr result
+        (λ fault. fault ≢ Refusal.NoMemory → IsWorkers ask → IsOnlyOut map.now scen.now ask (Err fault)) }
 {
     text_or_fault_alone(alloc, map, scen, ask)
 }

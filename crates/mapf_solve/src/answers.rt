@@ -44,11 +44,13 @@ pub fn answer<R: Threads + Sync, G: Gate>(
 
     // With a limit of n nodes the bytes are the same, unless the tree has a node at place n that is in the cut or is the first
     // solution: exactly then they are `gave up`, with a cost that each plan without conflict has at least.
-    ensures limit { IfOk result (λ bytes. (n : ℕ) → ask.nodes ≡ Some n → KeepsLimit map.now scen.now ask n bytes.items) }
+    ensures limit { IfOk result (λ bytes. (n : ℕ) → ask.nodes ≡ Some n
+        → KeepsLimit map.now scen.now ask n bytes.items) }
 
     // The same bytes, or the same fault, with any number of workers.
     ensures same { IfOk result (λ bytes. IsOnlyOut map.now scen.now ask (Ok bytes.items)) }
-    ensures same_fault { IfErr result (λ fault. fault ≢ Refusal.NoMemory → IsWorkers ask → IsOnlyOut map.now scen.now ask (Err fault)) }
+    ensures same_fault { IfErr result
+        (λ fault. fault ≢ Refusal.NoMemory → IsWorkers ask → IsOnlyOut map.now scen.now ask (Err fault)) }
 {
     let setting = Setting {
         rt,
@@ -72,9 +74,11 @@ pub fn answer_watched<R: Threads + Sync, G: Gate, W: Watch>(
     ensures text { IfOk result (λ bytes. IsOut map.now scen.now ask (Ok bytes.items)) }
     ensures fault { IfErr result (λ fault. fault ≢ Refusal.NoMemory → IsOut map.now scen.now ask (Err fault)) }
     ensures best { IfOk result (λ bytes. ask.nodes ≡ None → IsBest map.now scen.now ask bytes.items) }
-    ensures limit { IfOk result (λ bytes. (n : ℕ) → ask.nodes ≡ Some n → KeepsLimit map.now scen.now ask n bytes.items) }
+    ensures limit { IfOk result (λ bytes. (n : ℕ) → ask.nodes ≡ Some n
+        → KeepsLimit map.now scen.now ask n bytes.items) }
     ensures same { IfOk result (λ bytes. IsOnlyOut map.now scen.now ask (Ok bytes.items)) }
-    ensures same_fault { IfErr result (λ fault. fault ≢ Refusal.NoMemory → IsWorkers ask → IsOnlyOut map.now scen.now ask (Err fault)) }
+    ensures same_fault { IfErr result
+        (λ fault. fault ≢ Refusal.NoMemory → IsWorkers ask → IsOnlyOut map.now scen.now ask (Err fault)) }
 {
     let setting = Setting {
         rt,

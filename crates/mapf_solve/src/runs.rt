@@ -30,25 +30,30 @@ pub fn run<R: Threads + Sync, M: Source, S: Source, O: Sink>(
 
     // A device's failure is answered exactly where its count rose, and that is by 1.
     ensures map { Counts (is_read_failure FileName.Map (end_of result)) (M.failures map.old) (M.failures map.new) }
-    ensures scen { Counts (is_read_failure FileName.Scenario (end_of result)) (S.failures scen.old) (S.failures scen.new) }
+    ensures scen { Counts (is_read_failure FileName.Scenario (end_of result))
+        (S.failures scen.old) (S.failures scen.new) }
     ensures out { Counts (is_write_failure (end_of result)) (O.failures out.old) (O.failures out.new) }
 
     // A file is too long where it is the first of more than 67,108,864 bytes; else no file that was read is longer.
     ensures within { AreWithin (files (M.remaining map.old) (S.remaining scen.old)) (end_of result) }
 
     // What was written is the text of what the readers gave.
-    ensures text { LeavesText (M.remaining map.old) (S.remaining scen.old) ask (O.contents out.old) (O.contents out.new) result }
+    ensures text { LeavesText (M.remaining map.old) (S.remaining scen.old) ask
+        (O.contents out.old) (O.contents out.new) result }
 
     // It is the text of a plan without conflict by the ask's rule that costs least of all such plans, or `none` exactly if none
     // costs at most the bound.
-    ensures best { ask.nodes ≡ None → LeavesBest (M.remaining map.old) (S.remaining scen.old) ask (O.contents out.old) (O.contents out.new) result }
+    ensures best { ask.nodes ≡ None → LeavesBest (M.remaining map.old) (S.remaining scen.old) ask
+        (O.contents out.old) (O.contents out.new) result }
 
     // With a limit of n nodes the bytes are the same, unless the tree has a node at place n that is in the cut or is the first
     // solution: exactly then they are `gave up`, with a cost that each plan without conflict has at least.
-    ensures limit { (n : ℕ) → ask.nodes ≡ Some n → LeavesLimit (M.remaining map.old) (S.remaining scen.old) ask n (O.contents out.old) (O.contents out.new) result }
+    ensures limit { (n : ℕ) → ask.nodes ≡ Some n
+        → LeavesLimit (M.remaining map.old) (S.remaining scen.old) ask n (O.contents out.old) (O.contents out.new) result }
 
     // With any number of workers from 1 to 64 the same text, or the same refusal.
-    ensures same { LeavesOnly (M.remaining map.old) (S.remaining scen.old) ask (O.contents out.old) (O.contents out.new) result }
+    ensures same { LeavesOnly (M.remaining map.old) (S.remaining scen.old) ask
+        (O.contents out.old) (O.contents out.new) result }
 
     // Out of memory is a refusal.
     ensures memory { IfErr result (λ fault. fault ≢ RunFault.Device DeviceFault.NoMemory) }
@@ -75,13 +80,18 @@ pub fn run_watched<R: Threads + Sync, M: Source, S: Source, O: Sink, W: Watch>(
     requires scen { S.failures scen.old < u64.MAX }
     requires out { O.failures out.old < u64.MAX }
     ensures map { Counts (is_read_failure FileName.Map (end_of result)) (M.failures map.old) (M.failures map.new) }
-    ensures scen { Counts (is_read_failure FileName.Scenario (end_of result)) (S.failures scen.old) (S.failures scen.new) }
+    ensures scen { Counts (is_read_failure FileName.Scenario (end_of result))
+        (S.failures scen.old) (S.failures scen.new) }
     ensures out { Counts (is_write_failure (end_of result)) (O.failures out.old) (O.failures out.new) }
     ensures within { AreWithin (files (M.remaining map.old) (S.remaining scen.old)) (end_of result) }
-    ensures text { LeavesText (M.remaining map.old) (S.remaining scen.old) ask (O.contents out.old) (O.contents out.new) result }
-    ensures best { ask.nodes ≡ None → LeavesBest (M.remaining map.old) (S.remaining scen.old) ask (O.contents out.old) (O.contents out.new) result }
-    ensures limit { (n : ℕ) → ask.nodes ≡ Some n → LeavesLimit (M.remaining map.old) (S.remaining scen.old) ask n (O.contents out.old) (O.contents out.new) result }
-    ensures same { LeavesOnly (M.remaining map.old) (S.remaining scen.old) ask (O.contents out.old) (O.contents out.new) result }
+    ensures text { LeavesText (M.remaining map.old) (S.remaining scen.old) ask
+        (O.contents out.old) (O.contents out.new) result }
+    ensures best { ask.nodes ≡ None → LeavesBest (M.remaining map.old) (S.remaining scen.old) ask
+        (O.contents out.old) (O.contents out.new) result }
+    ensures limit { (n : ℕ) → ask.nodes ≡ Some n
+        → LeavesLimit (M.remaining map.old) (S.remaining scen.old) ask n (O.contents out.old) (O.contents out.new) result }
+    ensures same { LeavesOnly (M.remaining map.old) (S.remaining scen.old) ask
+        (O.contents out.old) (O.contents out.new) result }
     ensures memory { IfErr result (λ fault. fault ≢ RunFault.Device DeviceFault.NoMemory) }
 {
     let setting = Setting {
@@ -105,10 +115,12 @@ fn write_text_or_fault<R: Threads + Sync, M: Source, S: Source, O: Sink, W: Watc
     requires scen { S.failures scen.old < u64.MAX }
     requires out { O.failures out.old < u64.MAX }
     ensures map { Counts (is_read_failure FileName.Map (end_of result)) (M.failures map.old) (M.failures map.new) }
-    ensures scen { Counts (is_read_failure FileName.Scenario (end_of result)) (S.failures scen.old) (S.failures scen.new) }
+    ensures scen { Counts (is_read_failure FileName.Scenario (end_of result))
+        (S.failures scen.old) (S.failures scen.new) }
     ensures out { Counts (is_write_failure (end_of result)) (O.failures out.old) (O.failures out.new) }
     ensures within { AreWithin (files (M.remaining map.old) (S.remaining scen.old)) (end_of result) }
-    ensures text { LeavesText (M.remaining map.old) (S.remaining scen.old) ask (O.contents out.old) (O.contents out.new) result }
+    ensures text { LeavesText (M.remaining map.old) (S.remaining scen.old) ask
+        (O.contents out.old) (O.contents out.new) result }
     ensures memory { IfErr result (λ fault. fault ≢ RunFault.Device DeviceFault.NoMemory) }
 {
     let map = read_file(setting.alloc, map, FileName::Map)?;

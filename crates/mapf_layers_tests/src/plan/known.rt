@@ -100,7 +100,8 @@ fn expect_turned(
 
 /// The numbers of a plan's paths.
 fn numbers_of(alloc: Global, known: &mut KnownPaths, plan: &Plan) -> Result<Vec<usize>, NoMemory>
-    ensures keeps { (n : ℕ) (path : List ℕ) → slice_get known.old.paths n ≡ Some path → slice_get known.new.paths n ≡ Some path }
+    ensures keeps { (n : ℕ) (path : List ℕ) → slice_get known.old.paths n ≡ Some path
+        → slice_get known.new.paths n ≡ Some path }
     ensures agents { IfOk result (λ numbers. (0 < length numbers.items) × (length numbers.items ≤ most_agents)) }
     ensures numbers { IfOk result (λ numbers. AreNumbers known.new.paths numbers.items) }
 {

@@ -44,7 +44,8 @@ pub(crate) fn root<R: Threads + Sync, G: Gate, S: Supply>(
 
 /// All of these paths; none where one is missing.
 fn all_of(alloc: Global, found: Vec<Option<Path>>) -> Result<Option<Vec<Path>>, NoMemory>
-    ensures { IfOk result (λ paths. MatchOption paths (Contains found.items None) (λ paths. found.items ≡ map Some paths.items)) }
+    ensures { IfOk result (λ paths. MatchOption paths (Contains found.items None)
+        (λ paths. found.items ≡ map Some paths.items)) }
 {
     let mut paths = Vec::with_capacity(alloc, found.len())?;
     for path in found {

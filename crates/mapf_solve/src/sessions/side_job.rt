@@ -42,7 +42,8 @@ impl<'p> Model for SideJob<'p> {
 
     ghost view = { λ j. record { query = j.query; node = j.node; number = j.number } };
 
-    ghost invariant = { λ j. IsBranching j.query.problem j.node × IsQueryOf j.node j.query × IsFromStart j.query.problem j.from_start };
+    ghost invariant = { λ j. IsBranching j.query.problem j.node × IsQueryOf j.node j.query
+        × IsFromStart j.query.problem j.from_start };
 }
 
 impl<'p> SideJob<'p> {

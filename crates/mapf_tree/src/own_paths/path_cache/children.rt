@@ -171,7 +171,8 @@ impl<'p> PathCache<'p> {
         requires agent { change.now.agent < length node.now.plan }
         requires path { slice_get self.old.paths number ≡ Some change.now.path }
         ensures same { self.new ≡ self.old }
-        ensures conflict { IfOk result (IsConflictOf node.now.rule (slice_set node.now.plan change.now.agent change.now.path)) }
+        ensures conflict { IfOk result (IsConflictOf node.now.rule
+            (slice_set node.now.plan change.now.agent change.now.path)) }
     {
         if let Some(at) = at {
             return self

@@ -156,7 +156,8 @@ impl<'p> PathCache<'p> {
         spare: Vec<usize>,
     ) -> Result<Option<Vec<usize>>, NoMemory>
         requires { IsBranching self.now.problem node.now }
-        ensures { IfOk result (λ found. IfSome found (λ sets. AreSetsOf self.now.sets sets.items node.now.constraints)) }
+        ensures { IfOk result (λ found. IfSome found
+            (λ sets. AreSetsOf self.now.sets sets.items node.now.constraints)) }
     {
         if self.firsts.is_empty() {
             return Ok(None);
