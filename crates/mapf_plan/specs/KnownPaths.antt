@@ -68,6 +68,12 @@ abbrev pub AreKept : List (List FirstTime) → List (List FirstTime) → ℕ →
 AreKept rows next one other time =
     (between : List (List FirstTime)) × IsKept rows between one other time × IsKept between next other one time
 
+-- the pair conflict of two agents of whose paths this is known was added, if there is one
+abbrev pub IsAdded : ℕ → ℕ → FirstTime → List PairConflict → Type 0
+IsAdded i j Unknown ms = ⊥
+IsAdded i j Never ms = ⊤
+IsAdded i j (At t) ms = Contains ms (record { first = min i j; second = max i j; time = t })
+
 -- each conflict that two agents on the paths of these numbers have has a pair conflict, whatever the other agents' paths are
 abbrev pub AreMet : KnownPaths → (i one j other : ℕ) → List PairConflict → Type 0
 AreMet known i one j other ms = (plan : List (List ℕ)) → path_of known.paths one ≡ path_of plan i → path_of known.paths other ≡ path_of plan j

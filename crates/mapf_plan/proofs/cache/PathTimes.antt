@@ -11,10 +11,10 @@ use Rattle.mapf_plan.specs.Plan.{path_of, IsConflict, first_agent, second_agent}
 use Rattle.mapf_plan.specs.FirstConflict.{IsConflictOfTwo, IsConflictWithout}
 use Rattle.mapf_plan.specs.Collisions.{HaveNoneBefore}
 use Rattle.mapf_plan.specs.PairConflicts.{HavePairConflicts, HasAllOf}
-use Rattle.mapf_plan.specs.KnownPaths.{KnownPaths, plan_of, row_in, time_in, known_time, IsRight, AreRight, IsSetTime, IsKept, AreKept, AreMet}
+use Rattle.mapf_plan.specs.KnownPaths.{KnownPaths, plan_of, row_in, time_in, known_time, IsRight, AreRight, IsSetTime, IsKept, AreKept, IsAdded, AreMet}
 use Rattle.mapf_plan.proofs.Conflicts.{agents_of}
 use Rattle.mapf_plan.proofs.collisions.Collisions.{either_order}
-use Rattle.mapf_plan.proofs.collisions.OfPairConflicts.{all_meet, pair_conflicts_without, meet_in_more}
+use Rattle.mapf_plan.proofs.collisions.OfPairConflicts.{all_meet, pair_conflicts_without, meet_added, meet_never, meet_in_more}
 
 -- each row is as it was, or is the one of which an entry was set
 pub row_set : (rows more : List (List FirstTime)) (row next : List FirstTime) (one other : ℕ) (time : FirstTime) → one < length more → ((i : ℕ) → row_in more i ≡ row_in rows i)
@@ -88,6 +88,13 @@ pub still_right : (rule : Rule) (paths : List (List ℕ)) (rows next : List (Lis
     → AreKept rows next one other time → AreRight rule paths next
 still_right rule paths rows next one other time each here kept =
     right_after rule paths kept.0 next other one time (right_after rule paths rows kept.0 one other time each here kept.1) (right_turned rule paths one other time here) kept.2
+
+-- two agents on paths of which that is known have the pair conflicts that were added
+pub met_known : (known : KnownPaths) (i one j other : ℕ) (time : FirstTime) (ms : List PairConflict) → IsRight known.rule known.paths one other time → IsAdded i j time ms
+    → AreMet known i one j other ms
+met_known known i one j other Unknown ms is added = absurd added
+met_known known i one j other Never ms is added = λ plan is_p is_q. meet_never known.rule plan i j _ _ ms is_p is_q is.2
+met_known known i one j other (At t) ms is added = λ plan is_p is_q. meet_added known.rule plan i j _ _ ms t added is_p is_q is.2
 
 -- more pair conflicts are enough too
 pub met_in_more : (known : KnownPaths) (i one j other : ℕ) (ms more : List PairConflict) → HasAllOf more ms → AreMet known i one j other ms → AreMet known i one j other more

@@ -1,8 +1,12 @@
 //! When agents on two paths have their first conflict, as far as that is known: a table by the paths' numbers.
 
-ghost use Rattle.std.specs.Prelude.{◌≡◌, ℕ, ◌<◌, [], length, OnOk};
-ghost use Rattle.mapf_plan.specs.KnownPaths.{row_in, time_in, known_time, AreKept, IsKept, IsSetTime};
+ghost use Rattle.std.specs.Prelude.{◌≡◌, ◌≢◌, ℕ, ◌<◌, ◌≤◌, [], length, slice_index, OnOk, IfOk, IsTrue};
+ghost use Rattle.mapf_grid.specs.Instance.{most_agents};
+ghost use Rattle.mapf_plan.specs.KnownPaths.{row_in, time_in, known_time, AreKept, IsAdded, IsKept, IsSetTime};
+ghost use Rattle.mapf_plan.specs.PairConflicts.{HasAllOf};
 
+use crate::PairConflict;
+use crate::pair_conflicts::pair_conflict_of;
 use mapf_grid::NoMemory;
 use std::alloc::Global;
 use std::marker::Model;
@@ -128,5 +132,52 @@ pub(crate) fn time_of(row: &[FirstTime], other: usize) -> FirstTime
     match row.get(other) {
         Some(time) => *time,
         None => FirstTime::Unknown,
+    }
+}
+
+/// Adds the pair conflicts of an agent with each other one from a first one on, as far as they are known of its path's row: up to
+/// the agent that is returned.
+pub(crate) fn add_known(
+    row: &[FirstTime],
+    numbers: &[usize],
+    agent: usize,
+    from: usize,
+    conflicts: &mut Vec<PairConflict>,
+) -> Result<usize, NoMemory>
+    requires agents { length numbers.now ≤ most_agents }
+    requires agent { agent < length numbers.now }
+    ensures keeps { OnOk result (HasAllOf conflicts.new.items conflicts.old.items) }
+    ensures added { IfOk result (λ end. (k : ℕ) → from ≤ k → k < end → k ≢ agent
+        → IsAdded agent k (time_in row.now (slice_index numbers.now k)) conflicts.new.items) }
+{
+    for other in from..numbers.len() {
+        if other == agent {
+            continue;
+        }
+        if !add_time(time_of(row, numbers[other]), agent, other, conflicts)? {
+            return Ok(other);
+        }
+    }
+    Ok(numbers.len())
+}
+
+/// Adds the pair conflict of two agents, if it is known whether there is one; answers whether it is.
+fn add_time(
+    time: FirstTime,
+    agent: usize,
+    other: usize,
+    conflicts: &mut Vec<PairConflict>,
+) -> Result<bool, NoMemory>
+    requires agents { (agent < most_agents) × (other < most_agents) }
+    ensures keeps { OnOk result (HasAllOf conflicts.new.items conflicts.old.items) }
+    ensures added { IfOk result (λ known. IsTrue known → IsAdded agent other time conflicts.new.items) }
+{
+    match time {
+        FirstTime::Unknown => Ok(false),
+        FirstTime::Never => Ok(true),
+        FirstTime::At(time) => {
+            conflicts.push(pair_conflict_of(agent, other, time))?;
+            Ok(true)
+        }
     }
 }

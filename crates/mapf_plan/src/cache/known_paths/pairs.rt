@@ -8,7 +8,7 @@ ghost use Rattle.mapf_plan.specs.PairConflicts.{HavePairConflicts, HasAllOf};
 ghost use Rattle.mapf_plan.specs.KnownPaths.{AreNumbers, AreMet, IsKnownPlan, changed_plan};
 
 use super::KnownPaths;
-use crate::cache::first_times::{FirstTime, time_of};
+use crate::cache::first_times::{FirstTime, add_known, time_of};
 use crate::collisions::first_time_of_two;
 use crate::pair_conflicts::{pair_conflict_of, pair_conflicts_without};
 use crate::{KnownPlan, PairConflict};
@@ -54,15 +54,57 @@ impl KnownPaths {
         ensures pairs { OnOk result ((k : ℕ) → from ≤ k → k < length numbers.now → k ≢ agent
             → AreMet self.old agent number k (slice_index numbers.now k) conflicts.new.items) }
     {
-        for other in from..numbers.len() {
+        let known = self.add_known_pair_conflicts(numbers, agent, number, from, conflicts)?;
+        for other in known..numbers.len() {
             if other == agent {
                 continue;
             }
-            if let Some(time) = self.first_time(number, numbers[other]) {
-                conflicts.push(pair_conflict_of(agent, other, time))?;
-            }
+            self.add_pair_conflict(agent, number, other, numbers[other], conflicts)?;
         }
         Ok(())
+    }
+
+    /// The same as far as they are known: up to the agent that is returned.
+    fn add_known_pair_conflicts(
+        &self,
+        numbers: &[usize],
+        agent: usize,
+        number: usize,
+        from: usize,
+        conflicts: &mut Vec<PairConflict>,
+    ) -> Result<usize, NoMemory>
+        requires agents { length numbers.now ≤ most_agents }
+        requires agent { agent < length numbers.now }
+        ensures keeps { OnOk result (HasAllOf conflicts.new.items conflicts.old.items) }
+        ensures pairs { IfOk result (λ end. (k : ℕ) → from ≤ k → k < end → k ≢ agent
+            → AreMet self.now agent number k (slice_index numbers.now k) conflicts.new.items) }
+    {
+        add_known(self.times.row(number), numbers, agent, from, conflicts)
+    }
+
+    /// Adds the pair conflict of two agents, whose paths have these numbers, where they have a conflict.
+    fn add_pair_conflict(
+        &mut self,
+        agent: usize,
+        one: usize,
+        with: usize,
+        other: usize,
+        conflicts: &mut Vec<PairConflict>,
+    ) -> Result<(), NoMemory>
+        requires agents { (agent < most_agents) × (with < most_agents) }
+        requires one { one < length self.old.paths }
+        requires other { other < length self.old.paths }
+        ensures known { self.new ≡ self.old }
+        ensures keeps { OnOk result (HasAllOf conflicts.new.items conflicts.old.items) }
+        ensures pair { OnOk result (AreMet self.old agent one with other conflicts.new.items) }
+    {
+        match self.first_time(one, other) {
+            Some(time) => {
+                conflicts.push(pair_conflict_of(agent, with, time))?;
+                Ok(())
+            }
+            None => Ok(()),
+        }
     }
 
     /// When agents on the paths of these numbers have their first conflict; none where they never have one.
