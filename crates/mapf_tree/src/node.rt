@@ -64,7 +64,8 @@ impl Model for Node {
 
     ghost view = { λ n. node_of n.body.value.key.name n.body.value.root.value n.body.value.changes n.body.value.rule n.body.value.conflict };
 
-    ghost invariant = { λ n. AgreesWith n.body.value.key.cost n.body.value.key.depth (node_of n.body.value.key.name n.body.value.root.value n.body.value.changes n.body.value.rule n.body.value.conflict) };
+    ghost invariant = { λ n. AgreesWith n.body.value.key.cost n.body.value.key.depth
+        (node_of n.body.value.key.name n.body.value.root.value n.body.value.changes n.body.value.rule n.body.value.conflict) };
 }
 
 impl Node {
@@ -100,7 +101,8 @@ impl Node {
     /// The node of this body.
     #[inline(always)]
     fn of(alloc: Global, body: Body) -> Result<Node, NoMemory>
-        requires { AgreesWith body.key.cost body.key.depth (node_of body.key.name body.root.value body.changes body.rule body.conflict) }
+        requires { AgreesWith body.key.cost body.key.depth
+            (node_of body.key.name body.root.value body.changes body.rule body.conflict) }
         ensures { IfOk result (λ n. n ≡ node_of body.key.name body.root.value body.changes body.rule body.conflict) }
     {
         match Box::new(alloc, body) {
@@ -125,7 +127,7 @@ impl Node {
     }
 
     /// The node one turn further, whose plan has this first conflict. The changed agent's path costs so much at this node.
-    pub(crate) fn turned(
+    pub(crate) fn with_change(
         &self,
         alloc: Global,
         side: Side,
@@ -136,13 +138,17 @@ impl Node {
         requires agent { change.value.agent < length self.now.plan }
         requires old { old ≡ cost (path_of self.now.plan change.value.agent) }
         requires small { plan_cost (slice_set self.now.plan change.value.agent change.value.path) ≤ most_bound }
-        requires conflict { IsConflictOf self.now.rule (slice_set self.now.plan change.value.agent change.value.path) conflict }
+        requires conflict { IsConflictOf self.now.rule
+            (slice_set self.now.plan change.value.agent change.value.path) conflict }
         ensures name { IfOk result (λ n. n.name ≡ self.now.name ++ side ∷ []) }
         ensures changes { IfOk result (λ n. n.changes ≡ self.now.changes ++ change.value ∷ []) }
-        ensures constraints { IfOk result (λ n. n.constraints ≡ slice_set self.now.constraints change.value.agent (change.value.constraint ∷ slice_index_or self.now.constraints change.value.agent [])) }
+        ensures constraints { IfOk result
+            (λ n. n.constraints ≡ slice_set self.now.constraints change.value.agent
+            (change.value.constraint ∷ slice_index_or self.now.constraints change.value.agent [])) }
         ensures plan { IfOk result (λ n. n.plan ≡ slice_set self.now.plan change.value.agent change.value.path) }
         ensures rule { IfOk result (λ n. n.rule ≡ self.now.rule) }
-        ensures conflict { IfOk result (λ n. IsConflictOf self.now.rule (slice_set self.now.plan change.value.agent change.value.path) n.conflict) }
+        ensures conflict { IfOk result
+            (λ n. IsConflictOf self.now.rule (slice_set self.now.plan change.value.agent change.value.path) n.conflict) }
     {
         let key = self.key_with(alloc, side, change.agent, old, &change.path)?;
         let body = Body {
@@ -157,7 +163,7 @@ impl Node {
     }
 
     /// The same node, of whose two sides this is known; nothing rests on it.
-    pub(crate) fn knowing(self, extensions: Option<SideExtensions>) -> Node
+    pub(crate) fn with_side_extensions(self, extensions: Option<SideExtensions>) -> Node
         ensures { result ≡ self }
     {
         let Node { mut body } = self;
@@ -166,7 +172,7 @@ impl Node {
     }
 
     /// The same node, whose last change has this number for its extension, unless memory runs out; nothing rests on it.
-    pub(crate) fn numbered(self, alloc: Global, extension: usize) -> Node
+    pub(crate) fn with_extension(self, alloc: Global, extension: usize) -> Node
         ensures { result ≡ self }
     {
         let Node { mut body } = self;
@@ -175,7 +181,7 @@ impl Node {
     }
 
     /// The same node, whose changes stand in one list for the nodes below it, where it has as many of its own as may be.
-    pub(crate) fn settled(self) -> Node
+    pub(crate) fn share_changes(self) -> Node
         ensures { result ≡ self }
     {
         let Node { mut body } = self;
@@ -277,7 +283,8 @@ impl Node {
     /// What the turns of its name changed: first what it shares with the nodes below it, then the rest.
     pub(crate) fn changes(&self) -> (&OlderChanges, &OwnChanges)
         ensures changes { result.0.now ++ result.1.now ≡ self.now.changes }
-        ensures constraints { self.now.constraints ≡ changed_sets (replicate (length self.now.plan) []) self.now.changes }
+        ensures constraints { self.now.constraints
+            ≡ changed_sets (replicate (length self.now.plan) []) self.now.changes }
     {
         self.body.changes.parts()
     }
@@ -324,7 +331,8 @@ impl Node {
     /// What an agent is forbidden.
     pub(crate) fn constraints(&self, alloc: Global, agent: usize) -> Result<Constraints, NoMemory>
         requires { agent < length self.now.plan }
-        ensures { IfOk result (λ set. (c : _) → Contains set c ↔ Contains (slice_index_or self.now.constraints agent []) c) }
+        ensures { IfOk result (λ set. (c : _)
+            → Contains set c ↔ Contains (slice_index_or self.now.constraints agent []) c) }
     {
         self.body.changes.constraints(alloc, agent)
     }

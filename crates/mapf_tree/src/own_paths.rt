@@ -180,7 +180,7 @@ impl<'p> OwnPaths<'p> {
             return child;
         };
         let extension = self.cache.learn(node, query, path);
-        Some(child?.numbered(self.alloc, extension))
+        Some(child?.with_extension(self.alloc, extension))
     }
 }
 

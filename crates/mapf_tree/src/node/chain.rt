@@ -131,7 +131,8 @@ impl Chain {
 
     /// An agent's path as its last change left it; none where no change is the agent's.
     pub(crate) fn turned_path(&self, agent: usize) -> Option<&Arc<Path>>
-        ensures { (root : List (List ℕ)) → agent < length root → IsTurnedTo root self.now agent (option_map (λ p. arc_value p.now) result) }
+        ensures { (root : List (List ℕ)) → agent < length root
+            → IsTurnedTo root self.now agent (option_map (λ p. arc_value p.now) result) }
     {
         let older = turned_after_fours(None, self.older.fours(), agent);
         turned_after(older, self.own.as_slice(), agent)
@@ -165,7 +166,8 @@ impl Chain {
 
     /// What an agent is forbidden.
     pub(crate) fn constraints(&self, alloc: Global, agent: usize) -> Result<Constraints, NoMemory>
-        ensures { IfOk result (λ set. (agents : ℕ) → agent < agents → IsSameSet set (slice_index_or (changed_sets (replicate agents []) self.now) agent [])) }
+        ensures { IfOk result (λ set. (agents : ℕ) → agent < agents
+            → IsSameSet set (slice_index_or (changed_sets (replicate agents []) self.now) agent [])) }
     {
         let fours = self.older.fours();
         let older = constraints_after_fours(Constraints::new(alloc), fours, agent)?;
@@ -179,7 +181,8 @@ fn turned_after_fours<'a>(
     fours: &'a [Arc<FourChanges>],
     agent: usize,
 ) -> Option<&'a Arc<Path>>
-    ensures { (root : List (List ℕ)) (old : List Changed) → agent < length root → IsTurnedTo root old agent (option_map (λ p. arc_value p.now) before.entry)
+    ensures { (root : List (List ℕ)) (old : List Changed) → agent < length root
+        → IsTurnedTo root old agent (option_map (λ p. arc_value p.now) before.entry)
         → IsTurnedTo root (old ++ flat_map arc_value fours.now) agent (option_map (λ p. arc_value p.now) result) }
 {
     let mut path = before;
@@ -195,7 +198,8 @@ fn turned_after<'a>(
     changes: &'a [Arc<Change>],
     agent: usize,
 ) -> Option<&'a Arc<Path>>
-    ensures { (root : List (List ℕ)) (old : List Changed) → agent < length root → IsTurnedTo root old agent (option_map (λ p. arc_value p.now) before.entry)
+    ensures { (root : List (List ℕ)) (old : List Changed) → agent < length root
+        → IsTurnedTo root old agent (option_map (λ p. arc_value p.now) before.entry)
         → IsTurnedTo root (old ++ map arc_value changes.now) agent (option_map (λ p. arc_value p.now) result) }
 {
     let mut path = before;
@@ -247,7 +251,8 @@ fn constraints_after_fours(
     fours: &[Arc<FourChanges>],
     agent: usize,
 ) -> Result<Constraints, NoMemory>
-    ensures { IfOk result (λ set. (sets : List (List Constraint)) → agent < length sets → IsSameSet before (slice_index_or sets agent [])
+    ensures { IfOk result (λ set. (sets : List (List Constraint)) → agent < length sets
+        → IsSameSet before (slice_index_or sets agent [])
         → IsSameSet set (slice_index_or (changed_sets sets (flat_map arc_value fours.now)) agent [])) }
 {
     let mut constraints = before;
@@ -263,7 +268,8 @@ fn constraints_after(
     changes: &[Arc<Change>],
     agent: usize,
 ) -> Result<Constraints, NoMemory>
-    ensures { IfOk result (λ set. (sets : List (List Constraint)) → agent < length sets → IsSameSet before (slice_index_or sets agent [])
+    ensures { IfOk result (λ set. (sets : List (List Constraint)) → agent < length sets
+        → IsSameSet before (slice_index_or sets agent [])
         → IsSameSet set (slice_index_or (changed_sets sets (map arc_value changes.now)) agent [])) }
 {
     let mut constraints = before;
@@ -279,7 +285,9 @@ fn constraints_with(
     change: &Change,
     agent: usize,
 ) -> Result<Constraints, NoMemory>
-    ensures own { change.now.agent ≡ agent → IfOk result (λ set. (c : Constraint) → Contains set c ↔ ((c ≡ change.now.constraint) ⊎ Contains constraints c)) }
+    ensures own { change.now.agent ≡ agent
+        → IfOk result (λ set. (c : Constraint)
+        → Contains set c ↔ ((c ≡ change.now.constraint) ⊎ Contains constraints c)) }
     ensures other { change.now.agent ≢ agent → IfOk result (λ set. set ≡ constraints) }
 {
     if change.agent == agent {

@@ -38,7 +38,7 @@ pub(crate) fn take_turn<C: Children>(
         let (key, plan) = key_and_plan(node)?;
         return Ok(Turn::Solved { key, plan });
     }
-    let node = node.settled();
+    let node = node.share_changes();
     let (left, right) = children.both(problem, &node)?;
     add_if_some(waiting, left)?;
     add_if_some(waiting, right)?;

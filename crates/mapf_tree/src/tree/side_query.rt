@@ -176,7 +176,7 @@ impl<'p> SideQuery<'p> {
                 extension,
             },
         )?;
-        Ok(Some(node.turned(alloc, self.side, change, old, conflict)?))
+        Ok(Some(node.with_change(alloc, self.side, change, old, conflict)?))
     }
 }
 

@@ -84,8 +84,8 @@ impl<'p> PathCache<'p> {
         let extensions = self.child_extensions(at, &change, &conflict);
         let bound = self.problem.bound();
         prove!(u64::from(bound) <= MOST_BOUND);
-        let child = node.turned(self.alloc, side, change, old, conflict)?;
-        Ok(Lookup::Known(Some(child.knowing(extensions))))
+        let child = node.with_change(self.alloc, side, change, old, conflict)?;
+        Ok(Lookup::Known(Some(child.with_side_extensions(extensions))))
     }
 
     /// The change by which this agent is forbidden this more, and has the path of this number from then on. The same one is given

@@ -183,7 +183,8 @@ fn are_paired(agents: usize, looked: usize) -> bool {
 
 /// Each agent's set after some fours of changes more; false where one isn't known.
 fn turn_fours(known: &ConstraintSets, sets: &mut Vec<usize>, fours: &[Arc<FourChanges>]) -> bool
-    ensures { IsTrue result → (cs : List (List Constraint)) → AreSetsOf known.now sets.old.items cs → AreSetsOf known.now sets.new.items (changed_sets cs (flat_map arc_value fours.now)) }
+    ensures { IsTrue result → (cs : List (List Constraint)) → AreSetsOf known.now sets.old.items cs
+        → AreSetsOf known.now sets.new.items (changed_sets cs (flat_map arc_value fours.now)) }
 {
     for four in fours {
         if !turn_all(known, sets, four.as_slice()) {
@@ -195,7 +196,8 @@ fn turn_fours(known: &ConstraintSets, sets: &mut Vec<usize>, fours: &[Arc<FourCh
 
 /// Each agent's set after some changes more; false where one isn't known.
 fn turn_all(known: &ConstraintSets, sets: &mut Vec<usize>, changes: &[Arc<Change>]) -> bool
-    ensures { IsTrue result → (cs : List (List Constraint)) → AreSetsOf known.now sets.old.items cs → AreSetsOf known.now sets.new.items (changed_sets cs (map arc_value changes.now)) }
+    ensures { IsTrue result → (cs : List (List Constraint)) → AreSetsOf known.now sets.old.items cs
+        → AreSetsOf known.now sets.new.items (changed_sets cs (map arc_value changes.now)) }
 {
     for change in changes {
         if !turn(known, sets, change) {
@@ -207,7 +209,8 @@ fn turn_all(known: &ConstraintSets, sets: &mut Vec<usize>, changes: &[Arc<Change
 
 /// Each agent's set after one change more; false where it isn't known.
 fn turn(known: &ConstraintSets, sets: &mut Vec<usize>, change: &Change) -> bool
-    ensures { IsTrue result → (cs : List (List Constraint)) → AreSetsOf known.now sets.old.items cs → AreSetsOf known.now sets.new.items (changed_sets cs (change.now ∷ [])) }
+    ensures { IsTrue result → (cs : List (List Constraint)) → AreSetsOf known.now sets.old.items cs
+        → AreSetsOf known.now sets.new.items (changed_sets cs (change.now ∷ [])) }
 {
     if change.agent >= sets.len() {
         return false;

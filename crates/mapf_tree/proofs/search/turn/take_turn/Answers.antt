@@ -12,14 +12,14 @@ returns-then-is_none-clause-turned g c =
 
 pub returns-clause-turned : goal.returns-clause-turned
 returns-clause-turned g c =
-    let same : c.in-Some.node ≡ c.settled-node.result = sym c.settled-node.ensures in
-    branched_case c.args.problem.now c.args.waiting.now c.take_least.new.self c.add_if_some.new.waiting c.add_if_some-2.new.waiting c.settled-node.result c.into_key.result c.in_ok-left.left c.in_ok-left.right
+    let same : c.in-Some.node ≡ c.share_changes-node.result = sym c.share_changes-node.ensures in
+    branched_case c.args.problem.now c.args.waiting.now c.take_least.new.self c.add_if_some.new.waiting c.add_if_some-2.new.waiting c.share_changes-node.result c.into_key.result c.in_ok-left.left c.in_ok-left.right
     (c.in-Some.ensures.taken ∙ ap (λ n. n ∷ c.take_least.new.self) same) c.in-Some.ensures.rising c.requires.nodes
     (subst (λ (n : Node). (found : Conflict) × (n.conflict ≡ Some found)) same (conflict_there _ _ _ c.is_none.ensures c.conflict.ensures.conflict c.if-is_none.false))
     c.in_ok-left.ensures.left c.in_ok-left.ensures.right c.in_ok-add_if_some.ensures c.in_ok-add_if_some-2.ensures c.into_key.ensures.rank
 
 pub both-requires-clause-branching : goal.both-requires-clause-branching
 both-requires-clause-branching g c =
-    subst (IsBranching c.args.problem.now) (sym c.settled-node.ensures)
+    subst (IsBranching c.args.problem.now) (sym c.share_changes-node.ensures)
     (branches c.args.problem.now c.args.waiting.now c.take_least.new.self c.in-Some.node c.in-Some.ensures.taken c.requires.nodes
     (some_there _ _ _ c.is_none.ensures c.conflict.ensures.conflict c.if-is_none.false))

@@ -11,8 +11,8 @@ returns-in_default-path-clause-child c =
     let found = subst (λ o. IfSome o (λ f. IsFoundAt c.args.self.now c.args.node.now c.args.side f.path)) c.in-Some.is c.in_ok-found.ensures.found in
     none_at c.args.self.now c.args.node.now c.args.side (subst (IsFoundAt c.args.self.now c.args.node.now c.args.side) c.in_default-path.is found)
 
-pub turned-requires-clause-small : goal.turned-requires-clause-small
-turned-requires-clause-small c =
+pub with_change-requires-clause-small : goal.with_change-requires-clause-small
+with_change-requires-clause-small c =
     let cache = c.args.self.now in let node = c.args.node.now in let side = c.args.side in let number = c.in-Some-path.number in let path = c.in_ok-change.change.value.path in
     let found : IsFoundAt cache node side (Some number) =
     subst (IsFoundAt cache node side) c.in-Some-path.is (subst (λ o. IfSome o (λ f. IsFoundAt cache node side f.path)) c.in-Some.is c.in_ok-found.ensures.found) in
@@ -33,6 +33,6 @@ returns-clause-child c =
     subst (λ (b : PathCache). slice_get b.paths number ≡ Some path) c.in_ok-found.ensures.same c.in_ok-change.ensures.path in
     let is : node.conflict ≡ Some c.unwrap-conflict.result = cc in
     let e = c.in_ok-child.ensures in
-    subst (λ n. IsChildOf cache.problem node side (Some n)) (sym c.knowing.ensures)
+    subst (λ n. IsChildOf cache.problem node side (Some n)) (sym c.with_side_extensions.ensures)
     (child_at cache node c.in_ok-child.child side c.unwrap-conflict.result number c.in_ok-change.change.value found at is (c.in_ok-change.ensures.agent ∙ c.agent_of.ensures) (c.in_ok-change.ensures.constraint ∙ c.constraint_of.ensures)
     e.name e.changes e.constraints e.plan e.rule e.conflict)

@@ -3,7 +3,7 @@ use Rattle.mapf_plan.specs.Plan.{plan_cost}
 use Rattle.mapf_tree.specs.Nodes.{Changed, Node}
 use Rattle.mapf_tree.specs.declared.node.Body.{Body}
 use Rattle.mapf_tree.proofs.Chains.{plan_turned, sets_turned, agrees_turned, if_ok}
-use Rattle.mapf_tree.proofs.node.Node.turned.Goals as goal
+use Rattle.mapf_tree.proofs.node.Node.with_change.Goals as goal
 
 pub of-requires : goal.of-requires
 of-requires c =
