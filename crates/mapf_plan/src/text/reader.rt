@@ -62,23 +62,23 @@ pub fn read_answer(alloc: Global, bytes: &[u8], map: &Map) -> Result<Answer, Tex
 fn read_head(line: &[u8]) -> Option<Head>
     ensures { MatchOption result ((head : HeadValue) → ¬ IsHead line.now head) (IsHead line.now) }
 {
-    if let Some(numbers) = behind(line, b"plan ") {
+    if let Some(numbers) = without_front(line, b"plan ") {
         let (agents, cost) = read_two_numbers(numbers, MOST_AGENTS, MOST_STATED)?;
         let agents = agents as usize;
         return Some(Head::Plan { agents, cost });
     }
-    if let Some(numbers) = behind(line, b"gave up ") {
+    if let Some(numbers) = without_front(line, b"gave up ") {
         let (nodes, least) = read_two_numbers(numbers, MOST_NODES, MOST_BOUND)?;
         return Some(Head::GaveUp { nodes, least });
     }
-    let bound = number(behind(line, b"none ")?, MOST_BOUND)?;
+    let bound = number(without_front(line, b"none ")?, MOST_BOUND)?;
     Some(Head::None {
         bound: bound as u32,
     })
 }
 
 /// What stands behind this front, where the line begins with it.
-fn behind<'a>(line: &'a [u8], front: &[u8]) -> Option<&'a [u8]>
+fn without_front<'a>(line: &'a [u8], front: &[u8]) -> Option<&'a [u8]>
     ensures { MatchOption result ((rest : List ℕ) → line.now ≢ front.now ++ rest)
         (λ rest. line.now ≡ front.now ++ rest.now) }
 {
