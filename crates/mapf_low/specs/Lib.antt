@@ -1,4 +1,5 @@
 pub mod Walk
+pub mod Lookup
 pub mod Constraints
 pub mod Kept
 pub mod OwnPath

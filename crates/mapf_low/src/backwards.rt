@@ -1,5 +1,6 @@
-ghost use Rattle.std.specs.Prelude.{◌≡◌, ℕ, ◌≤◌, List, IfOk, OnOk, IfSome, MatchOption};
+ghost use Rattle.std.specs.Prelude.{◌≡◌, ℕ, ◌≤◌, List, IfOk, OnOk, MatchOption};
 ghost use Rattle.mapf_grid.specs.Grid.{IsFree};
+ghost use Rattle.mapf_low.specs.Lookup.{IfKnown};
 ghost use Rattle.mapf_low.specs.Backwards.Tracing.{IsLeft, AreDead, IsTraced, HasNoneBefore};
 ghost use Rattle.mapf_low.specs.Constraints.{IsAllowed};
 ghost use Rattle.mapf_low.specs.Backwards.Earliest.{HasEarliest};
@@ -15,15 +16,15 @@ mod earliest;
 use crate::backwards::dead_ends::DeadEnds;
 use crate::backwards::earliest::earliest_arrivals;
 use crate::query::{Query, Trip};
-use crate::{Constraints, Distances};
+use crate::{Constraints, Distances, Lookup};
 use mapf_grid::{Cell, Map, NoMemory};
 use mapf_plan::Path;
 use std::alloc::Global;
 use std::mem::replace;
 
 /// The least list of steps to the goal that arrives there at this time step, by the smaller cell at the last place where two
-/// differ: read from its end, where each place before is the smallest cell that nothing rules out. `Some(None)`, if no list of
-/// steps does; `None`, if there was no room for a dead end.
+/// differ: read from its end, where each place before is the smallest cell that nothing rules out. None, if no list of steps
+/// does; unknown, if there was no room for a dead end.
 ///
 /// What turns out to be a dead end is added to `dead`, and holds for every cost. `cells` is room for the list, whatever it has:
 /// it is kept for the next cost, or goes out with the path.
@@ -33,12 +34,12 @@ fn trace(
     end: u32,
     dead: &mut DeadEnds,
     cells: &mut Vec<Cell>,
-) -> Result<Option<Option<Path>>, NoMemory>
+) -> Result<Lookup<Option<Path>>, NoMemory>
     requires end { end ≤ query.now.limit }
     requires left { IsLeft query.now dead.old.states end query.now.goal }
     requires dead { AreDead query.now dead.old.states }
     requires earliest { HasEarliest query.now }
-    ensures path { IfOk result (λ answer. IfSome answer (IsTraced query.now end)) }
+    ensures path { IfOk result (λ answer. IfKnown answer (IsTraced query.now end)) }
     ensures dead { OnOk result (AreDead query.now dead.new.states) }
 {
     let goal = query.goal();
@@ -57,30 +58,30 @@ fn trace(
             }
             None => {
                 if dead.is_full() {
-                    return Ok(None);
+                    return Ok(Lookup::Unknown);
                 }
                 dead.add(cell, time)?;
                 if time == end {
-                    return Ok(Some(None));
+                    return Ok(Lookup::Known(None));
                 }
                 time += 1;
             }
         }
     }
-    Ok(Some(Some(Path::of(replace(cells, Vec::new(alloc))))))
+    Ok(Lookup::Known(Some(Path::of(replace(cells, Vec::new(alloc))))))
 }
 
 /// The own path that is asked for, which costs at least `first`: what a list of steps of the first cost gives at which one
-/// leads to the goal, and may end there. `None`, if more than `budget` dead ends were met.
+/// leads to the goal, and may end there. Unknown, if more than `budget` dead ends were met.
 fn trace_first(
     alloc: Global,
     query: &Query,
     first: u32,
     budget: usize,
-) -> Result<Option<Option<Path>>, NoMemory>
+) -> Result<Lookup<Option<Path>>, NoMemory>
     requires before { HasNoneBefore query.now first }
     requires earliest { HasEarliest query.now }
-    ensures { IfOk result (λ answer. IfSome answer (IsFound query.now)) }
+    ensures { IfOk result (λ answer. IfKnown answer (IsFound query.now)) }
 {
     let goal = query.goal();
     let limit = query.limit();
@@ -89,31 +90,31 @@ fn trace_first(
     for end in first..limit + 1 {
         if query.may_end(end) && query.is_left(&dead, goal, end) {
             match trace(alloc, query, end, &mut dead, &mut cells)? {
-                None => return Ok(None),
-                Some(Some(path)) => return Ok(Some(Some(path))),
-                Some(None) => {}
+                Lookup::Unknown => return Ok(Lookup::Unknown),
+                Lookup::Known(Some(path)) => return Ok(Lookup::Known(Some(path))),
+                Lookup::Known(None) => {}
             }
         }
     }
-    Ok(Some(None))
+    Ok(Lookup::Known(None))
 }
 
-/// The own path that is asked for, where no path that the agent may take costs less than `least`. `None`, if more than `budget`
+/// The own path that is asked for, where no path that the agent may take costs less than `least`. Unknown, if more than `budget`
 /// dead ends were met.
 fn own_path(
     alloc: Global,
     query: &Query,
     least: u32,
     budget: usize,
-) -> Result<Option<Option<Path>>, NoMemory>
+) -> Result<Lookup<Option<Path>>, NoMemory>
     requires least { (p : List ℕ) → IsAllowed query.now.grid query.now.start query.now.goal query.now.limit
         query.now.constraints p → least ≤ cost p }
     requires earliest { HasEarliest query.now }
-    ensures { IfOk result (λ answer. IfSome answer (IsFound query.now)) }
+    ensures { IfOk result (λ answer. IfKnown answer (IsFound query.now)) }
 {
     match query.entry(query.goal()) {
         Some(earliest) => trace_first(alloc, query, least.max(earliest), budget),
-        None => Ok(Some(None)),
+        None => Ok(Lookup::Known(None)),
     }
 }
 
@@ -123,8 +124,8 @@ fn own_path(
 /// `from_start` are the distances to the start on this map, and no path that the agent may take costs less than `least`. A
 /// dead end is a cell at a time step from which the search had to turn back. Where it meets more than `budget` of them it
 /// begins again, by when the agent can be on each cell at the earliest under its constraints, in place of the distances.
-/// `None` says that it met too many dead ends then, too, and nothing of paths; `Some(None)` that there is no path that the
-/// agent may take; `Some(Some(path))` is its own path. Only `NoMemory` is an error.
+/// It is unknown where it met too many dead ends then, too; known to be none where there is no path that the agent may take;
+/// or its own path. Only `NoMemory` is an error.
 pub fn cheapest_backwards(
     alloc: Global,
     map: &Map,
@@ -135,13 +136,13 @@ pub fn cheapest_backwards(
     least: u32,
     bound: u32,
     budget: usize,
-) -> Result<Option<Option<Path>>, NoMemory>
+) -> Result<Lookup<Option<Path>>, NoMemory>
     requires start { IsFree map.now start }
     requires goal { IsFree map.now goal }
     requires from_start { AreDistances map.now start from_start.now }
     requires least { (p : List ℕ) → IsAllowed map.now start goal bound constraints.now p → least ≤ cost p }
     requires bound { bound ≤ most_bound }
-    ensures { IfOk result (λ answer. IfSome answer (λ found. MatchOption found
+    ensures { IfOk result (λ answer. IfKnown answer (λ found. MatchOption found
         ((p : List ℕ) → ¬ IsAllowed map.now start goal bound constraints.now p)
         (IsOwnPath map.now start goal bound constraints.now))) }
 {
@@ -149,8 +150,8 @@ pub fn cheapest_backwards(
     let _width = map.width();
     let trip = Trip { start, goal };
     let by_distance = Query::new(alloc, map, from_start.table(), &trip, constraints, bound)?;
-    if let Some(answer) = own_path(alloc, &by_distance, least, budget)? {
-        return Ok(Some(answer));
+    if let Lookup::Known(answer) = own_path(alloc, &by_distance, least, budget)? {
+        return Ok(Lookup::Known(answer));
     }
     let arrivals = earliest_arrivals(alloc, &by_distance)?;
     let by_arrival = Query::new(alloc, map, &arrivals, &trip, constraints, bound)?;

@@ -9,6 +9,7 @@ mod constraints;
 mod distances;
 mod forwards;
 pub mod laws;
+mod lookup;
 mod query;
 mod reconstruction;
 
@@ -17,3 +18,4 @@ pub use constraint::Constraint;
 pub use constraints::Constraints;
 pub use distances::Distances;
 pub use forwards::cheapest;
+pub use lookup::Lookup;

@@ -7,7 +7,6 @@ pub mod Nodes
 pub mod OwnChanges
 pub mod Family
 pub mod SideQuery
-pub mod Lookup
 pub mod PathCache
 pub mod SharedChanges
 pub mod Laws

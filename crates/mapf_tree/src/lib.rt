@@ -10,7 +10,7 @@ mod tree;
 
 pub use node::Node;
 pub use open_list::{First, OpenList};
-pub use own_paths::{Lookup, OwnPaths};
+pub use own_paths::OwnPaths;
 pub use search::{ByChild, Children, Progress, Search, solve_alone};
 pub use tree::{
     FromStart, Key, Name, Problem, Side, SideQuery, child, child_with, root, root_path, root_with,

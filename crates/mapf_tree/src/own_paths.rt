@@ -3,20 +3,19 @@
 ghost use Rattle.std.specs.Prelude.{◌≡◌, IfOk, IfSome};
 ghost use Rattle.mapf_tree.specs.Problem.{Problem};
 ghost use Rattle.mapf_tree.specs.Family.{IsBranching, IsChildOf};
-ghost use Rattle.mapf_tree.specs.Lookup.{IfKnown};
+ghost use Rattle.mapf_low.specs.Lookup.{IfKnown};
 ghost use Rattle.mapf_tree.specs.SideQuery.{IsFromStart, IsQueryOf};
 
 mod agent_distances;
 mod constraint_sets;
-mod lookup;
 mod path_cache;
 mod shared_changes;
 
 use crate::own_paths::agent_distances::AgentDistances;
-pub use crate::own_paths::lookup::Lookup;
 use crate::own_paths::path_cache::PathCache;
 use crate::{Children, FromStart, Node, OpenList, Problem, Side, SideQuery};
 use mapf_grid::NoMemory;
+use mapf_low::Lookup;
 use std::alloc::Global;
 use std::marker::Model;
 use std::sync::Arc;

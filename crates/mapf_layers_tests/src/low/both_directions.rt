@@ -5,7 +5,7 @@ use super::agreement::{free_places, is_same};
 use super::map_files::{LINE, OPEN, RING, ROOM, SQUARE, cell_at};
 use super::single_constraints::{at_most_one, set_of};
 use mapf_grid::{Cell, Map};
-use mapf_low::{Constraint, Constraints, Distances, cheapest, cheapest_backwards};
+use mapf_low::{Constraint, Constraints, Distances, Lookup, cheapest, cheapest_backwards};
 use std::alloc::Global;
 use std::process::Abort;
 use std::test::Fail;
@@ -33,7 +33,9 @@ fn assert_same(
     let one = cheapest(alloc, map, &distances, start, goal, set, BOUND)?;
     let other = cheapest_backwards(alloc, map, &from_start, start, goal, set, 0, BOUND, budget)?;
     let cells = one.as_ref().map(|path| path.cells());
-    let back = other.ok_or("too many dead ends")?;
+    let Lookup::Known(back) = other else {
+        return Err(Fail::from("too many dead ends"));
+    };
     assert!(rt;
         is_same(back.as_ref(), cells),
         "from {start:?} to {goal:?}: {back:?}, not {one:?}"
@@ -153,8 +155,11 @@ fn a_dead_end_over_the_budget_ends_the_search_backwards(rt: HostRuntime) -> Resu
             BOUND,
             budget,
         )?;
-        let path = found.map(|path| path.ok_or("no path")).transpose()?;
-        assert_eq!(rt; path.map(|path| path.cost()), cost);
+        let known = match found {
+            Lookup::Known(path) => Some(path.ok_or("no path")?.cost()),
+            Lookup::Unknown => None,
+        };
+        assert_eq!(rt; known, cost);
     }
     Ok(())
 }

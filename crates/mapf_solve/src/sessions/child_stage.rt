@@ -2,13 +2,14 @@
 
 ghost use Rattle.std.specs.Prelude.{◌≡◌, IsTrue};
 ghost use Rattle.mapf_tree.specs.Family.{IsBranching, IsChildOf};
-ghost use Rattle.mapf_tree.specs.Lookup.{IfKnown};
+ghost use Rattle.mapf_low.specs.Lookup.{IfKnown};
 ghost use Rattle.mapf_solve.specs.Rounds.{FitsSide};
 
 use crate::sessions::brands::OneProblem;
 use crate::sessions::desk::Slot;
 use crate::sessions::side_job::SideJob;
-use mapf_tree::{Key, Lookup, Node, Side};
+use mapf_low::Lookup;
+use mapf_tree::{Key, Node, Side};
 use std::marker::{Model, PhantomData};
 
 /// How far the work on a child of a node that waits has come.

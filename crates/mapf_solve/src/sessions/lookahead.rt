@@ -3,7 +3,7 @@
 ghost use Rattle.std.specs.Prelude.{◌≡◌, ◌<◌, ◌≤◌, All, IfErr, IfOk, IfSome, vec_len};
 ghost use Rattle.mapf_board.specs.declared.limits.TheConstants.{MOST_WORKERS};
 ghost use Rattle.mapf_tree.specs.Family.{IsBranching, IsChildOf};
-ghost use Rattle.mapf_tree.specs.Lookup.{IfKnown};
+ghost use Rattle.mapf_low.specs.Lookup.{IfKnown};
 ghost use Rattle.mapf_tree.specs.SideQuery.{IsQueryOf};
 ghost use Rattle.mapf_solve.specs.Sessions.{IsGivenOf};
 
@@ -13,7 +13,8 @@ use crate::sessions::desk::{Given, Slot};
 use crate::sessions::side_job::{SideJob, SideWork};
 use mapf_board::{Left, Pair, Work};
 use mapf_grid::NoMemory;
-use mapf_tree::{Key, Lookup, Node, OwnPaths, Problem, Side, SideQuery};
+use mapf_low::Lookup;
+use mapf_tree::{Key, Node, OwnPaths, Problem, Side, SideQuery};
 use std::alloc::Global;
 use std::cmp::Ordering;
 

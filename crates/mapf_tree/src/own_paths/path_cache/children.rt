@@ -6,19 +6,18 @@ ghost use Rattle.mapf_plan.specs.Plan.{path_of};
 ghost use Rattle.mapf_low.specs.Kept.{HasTwoEnds};
 ghost use Rattle.mapf_tree.specs.Nodes.{IsConflictOf};
 ghost use Rattle.mapf_tree.specs.Family.{IsBranching, IsChildOf};
-ghost use Rattle.mapf_tree.specs.Lookup.{IfKnown};
+ghost use Rattle.mapf_low.specs.Lookup.{IfKnown};
 ghost use Rattle.mapf_tree.specs.PathCache.{IsAt};
 
 use crate::node::change::Change;
 use crate::node::side_extensions::SideExtensions;
-use crate::own_paths::lookup::Lookup;
 use crate::own_paths::path_cache::PathCache;
 use crate::own_paths::path_cache::node_numbers::NodeNumbers;
 use crate::own_paths::shared_changes::{SharedChange, keep_shared, shared_change};
 use crate::tree::sides::{agent_of, constraint_of};
 use crate::{Node, Side};
 use mapf_grid::NoMemory;
-use mapf_low::Constraint;
+use mapf_low::{Constraint, Lookup};
 use mapf_plan::{Conflict, MOST_BOUND};
 use std::sync::Arc;
 

@@ -2,17 +2,17 @@
 
 ghost use Rattle.std.specs.Prelude.{◌≡◌, ◌≤◌, IfSome, IfOk};
 ghost use Rattle.mapf_tree.specs.Family.{IsBranching};
-ghost use Rattle.mapf_tree.specs.Lookup.{IfKnown};
+ghost use Rattle.mapf_low.specs.Lookup.{IfKnown};
 ghost use Rattle.mapf_tree.specs.PathCache.{AreSetsOf, IsAt, IsOwnIn, IsFoundAt};
 
 use crate::own_paths::constraint_sets::CachedPath;
-use crate::own_paths::lookup::Lookup;
 use crate::own_paths::path_cache::PathCache;
 use crate::own_paths::path_cache::node_numbers::NodeNumbers;
 use crate::tree::side_query::left_for;
 use crate::tree::sides::{agent_of, constraint_of};
 use crate::{Node, Side, SideQuery};
 use mapf_grid::NoMemory;
+use mapf_low::Lookup;
 
 /// What is known of the own path that a side of a node asks for.
 #[derive(Clone, Copy, Debug, PartialEq, Eq)]

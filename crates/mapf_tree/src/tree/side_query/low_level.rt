@@ -6,7 +6,7 @@ use crate::FromStart;
 use crate::tree::family::own_path;
 use crate::tree::side_query::SideQuery;
 use mapf_grid::NoMemory;
-use mapf_low::{Constraint, cheapest_backwards};
+use mapf_low::{Constraint, Lookup, cheapest_backwards};
 use mapf_plan::Path;
 use std::alloc::Global;
 
@@ -93,7 +93,7 @@ impl<'p> SideQuery<'p> {
                 self.limit,
                 MOST_DEAD_ENDS,
             )?;
-            if let Some(found) = answer {
+            if let Lookup::Known(found) = answer {
                 return Ok(found);
             }
         }

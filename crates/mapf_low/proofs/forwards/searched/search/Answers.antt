@@ -1,4 +1,4 @@
-use Rattle.std.proofs.Common.{◌≡◌, ◌≤◌, ◌+◌, ◌∷◌, [], ◌++◌, ℕ, length, subst, subst₂, sym, ap, ◌∙◌, arith, length-append}
+use Rattle.std.proofs.Common.{◌≡◌, ◌≤◌, ◌+◌, ◌∷◌, [], ◌++◌, length, subst, subst₂, sym, ap, ◌∙◌, arith, length-append}
 use Rattle.mapf_low.specs.Walk.{distance_at}
 use Rattle.mapf_low.specs.Forwards.FLevels.{IsAdded, ArePlaced}
 use Rattle.mapf_low.specs.Reached.{IsUsable}
