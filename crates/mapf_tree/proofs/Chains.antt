@@ -1,7 +1,8 @@
 -- One change more at the end of a chain.
-use Rattle.std.proofs.Common.{◌≡◌, ◌≢◌, ◌↔◌, ℕ, suc, ◌+◌, ◌<◌, ◌≤◌, List, [], ◌∷◌, ◌++◌, length, take, take_all, map, get_or, set, All, Option, Some, None, option_map, Result, Ok, Err, IfOk, IfSome, replicate, ap₂, refl, sym, ap, ◌∙◌, subst, subst₂, append_assoc, arith, Contains}
-use Rattle.std.proofs.Math.Seq.{take-suc}
-use Rattle.std.proofs.lemmas.List.{length-set, length-map, length_push, length-append, get_or-map, get_or-append-add}
+use Rattle.std.proofs.Common.{◌≡◌, ◌≢◌, ◌↔◌, ℕ, ◌+◌, ◌<◌, List, [], ◌∷◌, ◌++◌, length, take, take_all, map, get_or, set, All, Option, Some, Result, Ok, Err, IfOk, replicate, ap₂, refl, sym, ap, ◌∙◌, subst, subst₂, arith, Contains, get_or-set_same}
+use Rattle.std.specs.List.{AllZip, AppendsClones, slice_get}
+use Rattle.std.proofs.lemmas.List.{length-set, length_push, map-append, take_more}
+use Rattle.std.proofs.lemmas.Option.{slice_get_within, get_or_from_slice_get}
 use Rattle.std.proofs.lemmas.List.Elements.{All-push}
 use Rattle.mapf_grid.proofs.Lists.{set_cases}
 use Rattle.mapf_low.specs.declared.constraint.Constraint.{Constraint}
@@ -9,7 +10,7 @@ use Rattle.mapf_plan.specs.Plan.{path_of, plan_cost}
 use Rattle.mapf_plan.specs.declared.conflict.Conflict.{Conflict}
 use Rattle.mapf_plan.specs.declared.rule.Rule.{Rule}
 use Rattle.mapf_tree.specs.declared.tree.side.Side.{Side}
-use Rattle.mapf_tree.specs.Nodes.{Node, node_of, IsConflictOf, IsSameSet, AgreesWith, Changed, IsTurnedTo, changed_plan, changed_sets}
+use Rattle.mapf_tree.specs.Nodes.{Node, node_of, IsConflictOf, IsSameSet, AgreesWith, Changed, changed_plan, changed_sets}
 use Rattle.mapf_tree.proofs.ConstraintSets.{IsWith, IsWith-cons}
 
 -- the last change is made last
@@ -21,15 +22,6 @@ pub changed_sets-push : (sets : List (List Constraint)) (xs : List Changed) (x :
 changed_sets-push sets [] x = refl
 changed_sets-push sets (y ∷ xs) x = changed_sets-push (set sets y.agent (y.constraint ∷ get_or sets y.agent [])) xs x
 
--- the later changes are made of what the earlier ones left
-pub changed_plan-append : (plan : List (List ℕ)) (xs ys : List Changed) → changed_plan plan (xs ++ ys) ≡ changed_plan (changed_plan plan xs) ys
-changed_plan-append plan [] ys = refl
-changed_plan-append plan (x ∷ xs) ys = changed_plan-append (set plan x.agent x.path) xs ys
-
-pub changed_sets-append : (sets : List (List Constraint)) (xs ys : List Changed) → changed_sets sets (xs ++ ys) ≡ changed_sets (changed_sets sets xs) ys
-changed_sets-append sets [] ys = refl
-changed_sets-append sets (x ∷ xs) ys = changed_sets-append (set sets x.agent (x.constraint ∷ get_or sets x.agent [])) xs ys
-
 -- no change adds an agent
 pub length-changed_plan : (plan : List (List ℕ)) (xs : List Changed) → length (changed_plan plan xs) ≡ length plan
 length-changed_plan plan [] = refl
@@ -40,25 +32,29 @@ length-changed_sets sets [] = refl
 length-changed_sets sets (x ∷ xs) = length-changed_sets (set sets x.agent (x.constraint ∷ get_or sets x.agent [])) xs ∙ length-set sets x.agent _
 
 -- one more of a list's front
-pub taken_more : {X Y : Type 0} (f : X → Y) (xs : List X) (k : ℕ) (x : X) → k < length xs → x ≡ get_or xs k x → take (k + 1) (map f xs) ≡ take k (map f xs) ++ f x ∷ []
-taken_more f xs k x inside is =
-    let n : k + 1 ≡ suc k = omega arith in
-    ap (λ j. take j (map f xs)) n ∙ take-suc (map f xs) k (f x) (subst (λ l. k < l) (sym (length-map xs f)) inside)
-    ∙ ap (λ y. take k (map f xs) ++ y ∷ []) (get_or-map f xs k x (f x) inside ∙ ap f (sym is))
+pub taken_more : {X : Type 0} (xs : List X) (k : ℕ) (x : X) → slice_get xs k ≡ Some x → take (k + 1) xs ≡ take k xs ++ x ∷ []
+taken_more xs k x is = take_more xs k x (slice_get_within xs k x is) ∙ ap (λ y. take k xs ++ y ∷ []) (get_or_from_slice_get xs k x x is)
+
+-- what holds of each element holds of this one
+pub all_at : {X : Type 0} (P : X → Type 0) (xs : List X) (k : ℕ) (x : X) → slice_get xs k ≡ Some x → All P xs → P x
+all_at P xs k x is all = subst P (get_or_from_slice_get xs k x x is) (all k x (slice_get_within xs k x is))
+
+-- clones by what they show append what the others show
+pub map-clones : {X Y : Type 0} (f : X → Y) (old new more : List X) → AppendsClones (λ x y. f y ≡ f x) old new more → map f new ≡ map f old ++ map f more
+map-clones f old new more (ys, is, same) = ap (map f) is ∙ map-append f old ys ∙ ap (λ l. map f old ++ l) (shown more ys same)
+  where
+    shown : (xs ys : List _) → AllZip (λ x y. f y ≡ f x) xs ys → map f ys ≡ map f xs
+    shown [] [] same = refl
+    shown [] (y ∷ ys) same = absurd same
+    shown (x ∷ xs) [] same = absurd same
+    shown (x ∷ xs) (y ∷ ys) same = ap₂ (λ z zs. z ∷ zs) same.0 (shown xs ys same.1)
 
 -- an agent's path after one change more
-pub turned_more : {X : Type 0} (value : X → List ℕ) (plan : List (List ℕ)) (xs : List Changed) (x : Changed) (agent : ℕ) (old new : Option X) → agent < length plan → IsTurnedTo plan xs agent (option_map value old) →
-    (x.agent ≡ agent → option_map value new ≡ Some x.path) → (x.agent ≢ agent → new ≡ old) → IsTurnedTo plan (xs ++ x ∷ []) agent (option_map value new)
-turned_more value plan xs x agent old new inside is own other =
-    let within = subst (λ n. agent < n) (sym (length-changed_plan plan xs)) inside in
-    set_cases (λ q. q ≡ path_of (changed_plan plan (xs ++ x ∷ [])) agent → IsTurnedTo plan (xs ++ x ∷ []) agent (option_map value new)) (changed_plan plan xs) x.agent agent x.path [] within
-    (λ e h. subst (IsTurnedTo plan (xs ++ x ∷ []) agent) (sym (own e)) (sym h))
-    (λ n h. subst (λ r. IsTurnedTo plan (xs ++ x ∷ []) agent (option_map value r)) (sym (other n)) (kept (option_map value old) h is))
-    (ap (λ p. path_of p agent) (sym (changed_plan-push plan xs x)))
-  where
-    kept : (found : Option (List ℕ)) → path_of (changed_plan plan xs) agent ≡ path_of (changed_plan plan (xs ++ x ∷ [])) agent → IsTurnedTo plan xs agent found → IsTurnedTo plan (xs ++ x ∷ []) agent found
-    kept None h is = sym h ∙ is
-    kept (Some path) h is = sym h ∙ is
+pub path_more : (plan : List (List ℕ)) (xs : List Changed) (x : Changed) (agent : ℕ) (old new : List ℕ) → agent < length plan → old ≡ path_of (changed_plan plan xs) agent →
+    (x.agent ≡ agent → new ≡ x.path) → (x.agent ≢ agent → new ≡ old) → new ≡ path_of (changed_plan plan (xs ++ x ∷ [])) agent
+path_more plan xs x agent old new inside is own other =
+    subst (λ p. new ≡ path_of p agent) (sym (changed_plan-push plan xs x))
+    (set_cases (λ q. new ≡ q) (changed_plan plan xs) x.agent agent x.path [] (subst (λ n. agent < n) (sym (length-changed_plan plan xs)) inside) own (λ n. other n ∙ is))
 
 -- an agent's constraints after one change more
 pub sets_more : (sets : List (List Constraint)) (xs : List Changed) (x : Changed) (agent : ℕ) (old new : List Constraint) → agent < length sets →
@@ -71,27 +67,6 @@ sets_more sets xs x agent old new inside is own other =
     (set_cases (IsSameSet new) now x.agent agent (x.constraint ∷ get_or now x.agent []) [] within
     (λ e. IsWith-cons x.constraint (get_or now x.agent []) old new (subst (λ a. IsSameSet old (get_or now a [])) (sym e) is) (own e))
     (λ n. subst (λ s. IsSameSet s (get_or now agent [])) (sym (other n)) is))
-
--- one more of a chain's front, where the new one is known by its value
-pub chain_more : {X Y : Type 0} (f : X → Y) (xs : List X) (k : ℕ) (x : X) (y : Y) → k < length xs → x ≡ get_or xs k x → y ≡ f x → take (k + 1) (map f xs) ≡ take k (map f xs) ++ y ∷ []
-chain_more f xs k x y inside is e = taken_more f xs k x inside is ∙ ap (λ z. take k (map f xs) ++ z ∷ []) (sym e)
-
--- one more behind two lists is one more behind the second
-pub one_behind : {X : Type 0} (xs ys : List X) (x : X) (zs : List X) → zs ≡ ys ++ x ∷ [] → (xs ++ ys) ++ x ∷ [] ≡ xs ++ zs
-one_behind xs ys x zs e = append_assoc xs ys (x ∷ []) ∙ ap (λ l. xs ++ l) (sym e)
-
--- what holds of two lists holds of the second
-pub all_behind : {X : Type 0} (P : X → Type 0) (xs ys : List X) → All P (xs ++ ys) → All P ys
-all_behind P xs ys all k d h = subst P (get_or-append-add xs ys k d) (all (length xs + k) d (omega (arith, length-append xs ys, h)))
-
--- the whole chain
-pub chain_whole : {X Y : Type 0} (f : X → Y) (xs : List X) (k : ℕ) → length xs ≤ k → take k (map f xs) ≡ map f xs
-chain_whole f xs k h = take_all k (map f xs) (subst (λ n. n ≤ k) (sym (length-map xs f)) h)
-
--- what holds of a whole chain holds of each change
-pub chain_all : {X Y : Type 0} (P : Y → Type 0) (f : X → Y) (xs : List X) (k : ℕ) (x : X) (y : Y) → k < length xs → x ≡ get_or xs k x → y ≡ f x → All P (map f xs) → P y
-chain_all P f xs k x y inside is e all =
-    subst P (get_or-map f xs k x (f x) inside ∙ ap f (sym is) ∙ sym e) (all k (f x) (subst (λ n. k < n) (sym (length-map xs f)) inside))
 
 module _ (name : List Side) (root : List (List ℕ)) (xs : List Changed) (rule : Rule) (conflict : Option Conflict) (node : Node) (is : node_of name root xs rule conflict ≡ node) where
   -- an agent of a node is one of the root
@@ -122,12 +97,14 @@ module _ (name : List Side) (root : List (List ℕ)) (xs : List Changed) (rule :
       no_change [] e = refl
       no_change (x ∷ l) e = absurd (omega (arith, e))
 
-  -- a path that one of a node's changes gave an agent is the agent's
-  pub turned_at : {X : Type 0} (value : X → List ℕ) (agent : ℕ) (found : Option X) (changes : List Changed) → changes ≡ xs → agent < length node.plan →
-      ((plan : List (List ℕ)) → agent < length plan → IsTurnedTo plan changes agent (option_map value found)) → IfSome found (λ p. value p ≡ path_of node.plan agent)
-  turned_at value agent None changes e inside turned = tt
-  turned_at value agent (Some p) changes e inside turned =
-      sym (turned root (at_root agent root refl inside)) ∙ ap (λ l. path_of (changed_plan root l) agent) e ∙ ap (λ (n : Node). path_of n.plan agent) is
+  -- the last change's path is its agent's
+  pub last_at : (agent n : ℕ) (x : Changed) (changes : List Changed) → changes ≡ xs → slice_get changes n ≡ Some x → length changes ≡ n + 1 → x.agent ≡ agent → agent < length node.plan → x.path ≡ path_of node.plan agent
+  last_at agent n x changes e at last own inside =
+      let ps = changed_plan root (take n changes) in
+      let same : node.plan ≡ set ps x.agent x.path =
+      sym (ap (λ (n : Node). n.plan) is) ∙ ap (changed_plan root) (sym e ∙ sym (take_all (n + 1) changes (omega arith)) ∙ taken_more changes n x at) ∙ changed_plan-push root (take n changes) x in
+      sym (ap (λ l. path_of l agent) same ∙ subst (λ a. path_of (set ps a x.path) agent ≡ x.path) (sym own)
+      (get_or-set_same ps agent x.path [] (omega (arith, at_root agent root refl inside, length-changed_plan root (take n changes)))))
 
   -- an agent's constraints, as they are gathered from the changes
   pub sets_at : (agent : ℕ) (set : List Constraint) (changes : List Changed) → changes ≡ xs → agent < length node.plan →

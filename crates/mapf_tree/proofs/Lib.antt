@@ -21,7 +21,6 @@ pub mod Examples
 pub mod Tables
 pub mod RootNodes
 pub mod Chains
-pub mod Pieces
 pub mod LeastCosts
 pub mod SideNodes
 pub mod Queries

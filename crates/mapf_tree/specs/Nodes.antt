@@ -1,6 +1,6 @@
 -- A node as contracts see it: as a chain of changes from the root, and which node of the tree it stands for (Sharon et al. 2015:
 -- a child has one constraint more for one agent, and that agent's new path).
-use Rattle.std.specs.Prelude.{◌≡◌, ℕ, ◌<◌, ◌↔◌, List, [], ◌∷◌, ◌++◌, length, replicate, slice_set, slice_index_or, All, Option, Some, None, MatchOption, Contains}
+use Rattle.std.specs.Prelude.{◌≡◌, ℕ, ◌<◌, ◌↔◌, List, [], ◌∷◌, ◌++◌, length, replicate, slice_set, slice_index_or, All, Option, MatchOption, Contains}
 use Rattle.mapf_plan.specs.declared.conflict.Conflict.{Conflict}
 use Rattle.mapf_plan.specs.declared.rule.Rule.{Rule}
 use Rattle.mapf_plan.specs.Plan.{path_of, plan_cost, IsFirstConflict, HasNoConflict}
@@ -19,11 +19,6 @@ pub record Changed : Type 0 where
 abbrev pub changed_plan : List (List ℕ) → List Changed → List (List ℕ)
 changed_plan plan [] = plan
 changed_plan plan (x ∷ xs) = changed_plan (slice_set plan x.agent x.path) xs
-
--- an agent's path after some changes is that of the last change that is the agent's, or else the root's
-abbrev pub IsTurnedTo : List (List ℕ) → List Changed → ℕ → Option (List ℕ) → Type 0
-IsTurnedTo root changes agent (Some path) = path_of (changed_plan root changes) agent ≡ path
-IsTurnedTo root changes agent None = path_of (changed_plan root changes) agent ≡ path_of root agent
 
 -- each agent's constraints are those of its changes
 abbrev pub changed_sets : List (List Constraint) → List Changed → List (List Constraint)

@@ -11,4 +11,4 @@ held_in Nothing = []
 held_in (One changes) = map arc_value changes
 held_in (Two changes) = map arc_value changes
 held_in (Three changes) = map arc_value changes
-held_in (Four changes) = changes
+held_in (Four changes) = map arc_value changes

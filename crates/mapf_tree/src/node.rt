@@ -5,19 +5,15 @@ ghost use Rattle.mapf_plan.specs.Path.{cost};
 ghost use Rattle.mapf_plan.specs.Plan.{path_of, plan_cost, most_bound};
 ghost use Rattle.mapf_tree.specs.Nodes.{changed_sets};
 
-mod chain;
+pub(crate) mod chain;
 pub(crate) mod change;
 mod current_paths;
-pub(crate) mod four_changes;
-mod older_changes;
 mod own_changes;
 pub(crate) mod side_extensions;
 
 use crate::node::chain::Chain;
 use crate::node::change::Change;
 use crate::node::current_paths::CurrentPaths;
-use crate::node::older_changes::OlderChanges;
-use crate::node::own_changes::OwnChanges;
 use crate::node::side_extensions::SideExtensions;
 use crate::{Key, Name, Side};
 use mapf_grid::NoMemory;
@@ -185,7 +181,7 @@ impl Node {
         ensures { result ≡ self }
     {
         let Node { mut body } = self;
-        body.changes.settle();
+        body.changes.share();
         Node { body }
     }
 
@@ -276,17 +272,21 @@ impl Node {
             (λ found. slice_get self.now.changes turn ≡ Some (record { agent = found.0; constraint = found.1; path = found.2.now })) }
         ensures turns { length self.now.changes ≡ length self.now.name }
     {
-        let change = self.body.changes.get(turn)?;
+        let changes = &self.body.changes;
+        if turn >= changes.len() {
+            return None;
+        }
+        let change = changes.at(turn);
         Some((change.agent, change.constraint, &change.path))
     }
 
-    /// What the turns of its name changed: first what it shares with the nodes below it, then the rest.
-    pub(crate) fn changes(&self) -> (&OlderChanges, &OwnChanges)
-        ensures changes { result.0.now ++ result.1.now ≡ self.now.changes }
+    /// What the turns of its name changed.
+    pub(crate) fn changes(&self) -> &Chain
+        ensures changes { result.now ≡ self.now.changes }
         ensures constraints { self.now.constraints
             ≡ changed_sets (replicate (length self.now.plan) []) self.now.changes }
     {
-        self.body.changes.parts()
+        &self.body.changes
     }
 
     /// Whether it is the node of no turn.
@@ -313,12 +313,18 @@ impl Node {
         self.body.changes.path(&self.body.root, agent)
     }
 
-    /// An agent's path as a turn of the name gave it; none where it has the root's.
-    pub(crate) fn turned_path(&self, agent: usize) -> Option<&Arc<Path>>
+    /// An agent's path where the last turn of the name gave it; else none.
+    pub(crate) fn last_path(&self, agent: usize) -> Option<&Arc<Path>>
         requires { agent < length self.now.plan }
         ensures { IfSome result (λ path. arc_value path.now ≡ path_of self.now.plan agent) }
     {
-        self.body.changes.turned_path(agent)
+        let changes = &self.body.changes;
+        let change = changes.at(changes.len().checked_sub(1)?);
+        if change.agent == agent {
+            Some(&change.path)
+        } else {
+            None
+        }
     }
 
     /// The agents' paths.

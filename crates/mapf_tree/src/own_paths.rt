@@ -175,7 +175,7 @@ impl<'p> OwnPaths<'p> {
         ensures same { self.new ≡ self.old }
         ensures child { result ≡ child }
     {
-        let Some(path) = query.answer_in(node, &child) else {
+        let Lookup::Known(path) = query.answer_in(node, &child) else {
             return child;
         };
         let extension = self.cache.learn(node, query, path);

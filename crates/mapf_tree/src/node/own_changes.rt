@@ -1,10 +1,9 @@
 //! The changes of a chain that a node has by itself.
 
-ghost use Rattle.std.specs.Prelude.{◌≡◌, [], ◌∷◌, ◌++◌, map, IfOk, IfErr, IfSome};
+ghost use Rattle.std.specs.Prelude.{◌≡◌, ◌<◌, ◌≤◌, ◌↔◌, [], ◌∷◌, ◌++◌, length, map, IfOk, IsTrue};
 ghost use Rattle.std.specs.Arc.{arc_value};
 
 use crate::node::change::{Change, number};
-use crate::node::four_changes::FourChanges;
 use mapf_grid::NoMemory;
 use std::alloc::Global;
 use std::marker::Model;
@@ -17,7 +16,7 @@ enum Held {
     One([Arc<Change>; 1]),
     Two([Arc<Change>; 2]),
     Three([Arc<Change>; 3]),
-    Four(FourChanges),
+    Four([Arc<Change>; 4]),
 }
 
 /// The changes of a chain that a node has by itself, at most four.
@@ -54,25 +53,6 @@ impl OwnChanges {
         }
     }
 
-    /// One change.
-    pub(crate) fn one(change: Arc<Change>) -> OwnChanges
-        ensures { result ≡ change.value ∷ [] }
-    {
-        OwnChanges {
-            held: Held::One([change]),
-        }
-    }
-
-    /// The changes, shared once more, where there are as many as may be; else none.
-    pub(crate) fn full(&self) -> Result<Option<FourChanges>, NoMemory>
-        ensures { IfOk result (λ full. IfSome full (λ four. four ≡ self.now)) }
-    {
-        match &self.held {
-            Held::Four(four) => Ok(Some(four.copy()?)),
-            _ => Ok(None),
-        }
-    }
-
     /// The changes.
     pub(crate) fn as_slice(&self) -> &[Arc<Change>]
         ensures { map arc_value result.now ≡ self.now }
@@ -82,34 +62,35 @@ impl OwnChanges {
             Held::One(changes) => changes,
             Held::Two(changes) => changes,
             Held::Three(changes) => changes,
-            Held::Four(four) => four.as_slice(),
+            Held::Four(changes) => changes,
         }
     }
 
-    /// The same changes, shared once more, and another one. Where there are as many as may be, both come back apart.
-    pub(crate) fn with(
-        &self,
-        change: Arc<Change>,
-    ) -> Result<Result<OwnChanges, (FourChanges, Arc<Change>)>, NoMemory>
-        ensures own { IfOk result (λ more. IfOk more (λ own. own ≡ self.now ++ change.value ∷ [])) }
-        ensures four { IfOk result (λ more. IfErr more (λ back. back.0 ≡ self.now)) }
-        ensures back { IfOk result (λ more. IfErr more (λ back. back.1 ≡ change)) }
+    /// Whether there are as many as may be.
+    pub(crate) fn is_full(&self) -> bool
+        ensures { IsTrue result ↔ (4 ≤ length self.now) }
     {
-        let held = match &self.held {
-            Held::Nothing => Held::One([change]),
-            Held::One([a]) => Held::Two([Arc::try_clone(a)?, change]),
-            Held::Two([a, b]) => Held::Three([Arc::try_clone(a)?, Arc::try_clone(b)?, change]),
-            Held::Three([a, b, c]) => {
-                Held::Four(FourChanges::of([
-                    Arc::try_clone(a)?,
-                    Arc::try_clone(b)?,
-                    Arc::try_clone(c)?,
-                    change,
-                ]))
-            }
-            Held::Four(four) => return Ok(Err((four.copy()?, change))),
+        self.as_slice().len() >= 4
+    }
+
+    /// The same changes, shared once more, and another one, for which there is room.
+    pub(crate) fn with(&self, change: Arc<Change>) -> Result<OwnChanges, NoMemory>
+        requires { length self.now < 4 }
+        ensures { IfOk result (λ own. own ≡ self.now ++ change.value ∷ []) }
+    {
+        let held = match self.as_slice() {
+            [] => Held::One([change]),
+            [a] => Held::Two([Arc::try_clone(a)?, change]),
+            [a, b] => Held::Three([Arc::try_clone(a)?, Arc::try_clone(b)?, change]),
+            [a, b, c] => Held::Four([
+                Arc::try_clone(a)?,
+                Arc::try_clone(b)?,
+                Arc::try_clone(c)?,
+                change,
+            ]),
+            _ => unreachable!(),
         };
-        Ok(Ok(OwnChanges { held }))
+        Ok(OwnChanges { held })
     }
 
     /// The last change has this number for its extension, unless memory runs out.
@@ -121,7 +102,7 @@ impl OwnChanges {
             Held::One(changes) => number(alloc, &mut changes[0], extension),
             Held::Two(changes) => number(alloc, &mut changes[1], extension),
             Held::Three(changes) => number(alloc, &mut changes[2], extension),
-            Held::Four(four) => four.number(alloc, extension),
+            Held::Four(changes) => number(alloc, &mut changes[3], extension),
         }
     }
 
@@ -136,7 +117,12 @@ impl OwnChanges {
             Held::Three([a, b, c]) => {
                 Held::Three([Arc::try_clone(a)?, Arc::try_clone(b)?, Arc::try_clone(c)?])
             }
-            Held::Four(four) => Held::Four(four.copy()?),
+            Held::Four([a, b, c, d]) => Held::Four([
+                Arc::try_clone(a)?,
+                Arc::try_clone(b)?,
+                Arc::try_clone(c)?,
+                Arc::try_clone(d)?,
+            ]),
         };
         Ok(OwnChanges { held })
     }

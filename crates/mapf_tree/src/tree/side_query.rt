@@ -1,16 +1,17 @@
 //! What the child on a side of a node's conflict asks of the low level.
 
-ghost use Rattle.std.specs.Prelude.{◌≡◌, ◌<◌, ◌≤◌, length, option_map, Some, IfOk, IfSome};
+ghost use Rattle.std.specs.Prelude.{◌≡◌, ◌<◌, ◌≤◌, length, option_map, Some, IfOk};
 ghost use Rattle.std.specs.Arc.{arc_value};
 ghost use Rattle.mapf_plan.specs.Path.{cost};
 ghost use Rattle.mapf_plan.specs.Plan.{path_of, plan_cost, most_bound};
 ghost use Rattle.mapf_tree.specs.Family.{IsBranching, IsChildOf, Leaves};
+ghost use Rattle.mapf_tree.specs.Lookup.{IfKnown};
 
 mod low_level;
 
 use crate::node::change::Change;
 use crate::tree::sides::{agent_of, constraint_of};
-use crate::{Node, Problem, Side};
+use crate::{Lookup, Node, Problem, Side};
 use mapf_grid::NoMemory;
 use mapf_low::{Constraint, Constraints};
 use mapf_plan::Path;
@@ -135,15 +136,18 @@ impl<'p> SideQuery<'p> {
         &self,
         node: &Node,
         child: &'n Option<Node>,
-    ) -> Option<Option<&'n Arc<Path>>>
+    ) -> Lookup<Option<&'n Arc<Path>>>
         requires node { IsBranching self.now.problem node.now }
         requires query { IsQueryOf node.now self.now }
         requires child { IsChildOf self.now.problem node.now self.now.side child.now }
-        ensures { IfSome result (λ path. IsFoundBy self.now (option_map (λ p. arc_value p.now) path)) }
+        ensures { IfKnown result (λ path. IsFoundBy self.now (option_map (λ p. arc_value p.now) path)) }
     {
-        match child {
-            Some(child) => Some(Some(child.turned_path(self.agent)?)),
-            None => Some(None),
+        let Some(child) = child else {
+            return Lookup::Known(None);
+        };
+        match child.last_path(self.agent) {
+            Some(path) => Lookup::Known(Some(path)),
+            None => Lookup::Unknown,
         }
     }
 

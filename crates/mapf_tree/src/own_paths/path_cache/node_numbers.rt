@@ -1,8 +1,6 @@
 //! Each agent's set of constraints and its path at a node, by number.
 
-ghost use Rattle.std.specs.Prelude.{◌≡◌, ◌+◌, ◌<◌, List, ◌∷◌, [], length, map, slice_get, Some, IfSome, IfOk, IsTrue};
-ghost use Rattle.std.specs.List.{flat_map};
-ghost use Rattle.std.specs.Arc.{arc_value};
+ghost use Rattle.std.specs.Prelude.{◌≡◌, ◌+◌, ◌<◌, List, ◌∷◌, [], length, slice_get, Some, IfSome, IfOk, IsTrue};
 ghost use Rattle.mapf_plan.specs.Plan.{path_of};
 ghost use Rattle.mapf_low.specs.declared.constraint.Constraint.{Constraint};
 ghost use Rattle.mapf_tree.specs.Nodes.{changed_sets};
@@ -10,14 +8,13 @@ ghost use Rattle.mapf_tree.specs.Family.{IsBranching};
 ghost use Rattle.mapf_tree.specs.PathCache.{AreSetsOf, IsPlanOf, IsPlanUpTo, IsAt};
 
 use crate::Node;
+use crate::node::chain::Chain;
 use crate::node::change::Change;
-use crate::node::four_changes::FourChanges;
 use crate::own_paths::constraint_sets::{CachedPath, ConstraintSets};
 use crate::own_paths::path_cache::PathCache;
 use mapf_grid::NoMemory;
 use mapf_plan::KnownPlan;
 use std::mem::replace;
-use std::sync::Arc;
 
 /// Pairs of so many agents are kept by node from the start.
 const MOST_PAIRED: usize = 64;
@@ -165,11 +162,7 @@ impl<'p> PathCache<'p> {
         let mut sets = spare;
         sets.clear();
         sets.extend_from_slice(&self.firsts)?;
-        let (older, own) = node.changes();
-        if !turn_fours(&self.sets, &mut sets, older.fours()) {
-            return Ok(None);
-        }
-        if !turn_all(&self.sets, &mut sets, own.as_slice()) {
+        if !extend_sets(&self.sets, &mut sets, node.changes()) {
             return Ok(None);
         }
         Ok(Some(sets))
@@ -181,26 +174,13 @@ fn are_paired(agents: usize, looked: usize) -> bool {
     agents <= MOST_PAIRED || looked / NODES_BEFORE >= agents
 }
 
-/// Each agent's set after some fours of changes more; false where one isn't known.
-fn turn_fours(known: &ConstraintSets, sets: &mut Vec<usize>, fours: &[Arc<FourChanges>]) -> bool
-    ensures { IsTrue result → (cs : List (List Constraint)) → AreSetsOf known.now sets.old.items cs
-        → AreSetsOf known.now sets.new.items (changed_sets cs (flat_map arc_value fours.now)) }
-{
-    for four in fours {
-        if !turn_all(known, sets, four.as_slice()) {
-            return false;
-        }
-    }
-    true
-}
-
 /// Each agent's set after some changes more; false where one isn't known.
-fn turn_all(known: &ConstraintSets, sets: &mut Vec<usize>, changes: &[Arc<Change>]) -> bool
+fn extend_sets(known: &ConstraintSets, sets: &mut Vec<usize>, changes: &Chain) -> bool
     ensures { IsTrue result → (cs : List (List Constraint)) → AreSetsOf known.now sets.old.items cs
-        → AreSetsOf known.now sets.new.items (changed_sets cs (map arc_value changes.now)) }
+        → AreSetsOf known.now sets.new.items (changed_sets cs changes.now) }
 {
-    for change in changes {
-        if !turn(known, sets, change) {
+    for turn in 0..changes.len() {
+        if !extend_set(known, sets, changes.at(turn)) {
             return false;
         }
     }
@@ -208,7 +188,7 @@ fn turn_all(known: &ConstraintSets, sets: &mut Vec<usize>, changes: &[Arc<Change
 }
 
 /// Each agent's set after one change more; false where it isn't known.
-fn turn(known: &ConstraintSets, sets: &mut Vec<usize>, change: &Change) -> bool
+fn extend_set(known: &ConstraintSets, sets: &mut Vec<usize>, change: &Change) -> bool
     ensures { IsTrue result → (cs : List (List Constraint)) → AreSetsOf known.now sets.old.items cs
         → AreSetsOf known.now sets.new.items (changed_sets cs (change.now ∷ [])) }
 {

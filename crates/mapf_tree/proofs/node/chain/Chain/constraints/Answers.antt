@@ -1,22 +1,24 @@
-use Rattle.std.proofs.Common.{◌≡◌, ◌<◌, [], ◌++◌, map, length, replicate, get_or, subst, subst₂, sym, ap₂, ◌∙◌}
-use Rattle.std.specs.List.{flat_map}
-use Rattle.std.specs.Arc.{arc_value}
-use Rattle.std.proofs.lemmas.List.{length-replicate, get_or-replicate}
-use Rattle.mapf_tree.specs.Nodes.{IsSameSet, changed_sets}
-use Rattle.mapf_tree.proofs.Chains.{if_ok, changed_sets-append, length-changed_sets}
+use Rattle.std.proofs.Common.{List, ◌<◌, [], take, take_all, replicate, get_or, subst, subst₂, sym, ap, ◌∙◌, arith}
+use Rattle.std.proofs.lemmas.List.{length-replicate}
+use Rattle.mapf_low.specs.declared.constraint.Constraint.{Constraint}
+use Rattle.mapf_tree.specs.Nodes.{Changed, IsSameSet, changed_sets}
+use Rattle.mapf_tree.proofs.ConstraintSets.{IsWith}
+use Rattle.mapf_tree.proofs.Chains.{taken_more, sets_more}
+use Rattle.mapf_tree.proofs.node.chain.Chain.constraints.Goals.{then-change-agent+in_ok-constraints, else-change-agent}
 use Rattle.mapf_tree.proofs.node.chain.Chain.constraints.Goals as goal
 
+pub loop-turn-preserved : goal.loop-turn-preserved
+loop-turn-preserved c agents inside =
+    let x = c.at-change.result.now in let whose = ap (λ (y : Changed). y.agent) c.change.view_is in let sets : List (List Constraint) = replicate agents [] in
+    let more = sets_more sets (take c.loop-turn.turn c.args.self.now) x c.args.agent c.loop-turn.constraints c.if-change-agent.constraints
+    (subst (λ n. c.args.agent < n) (sym (length-replicate agents [])) inside) (c.loop-turn.invariant agents inside) in
+    subst (λ xs. IsSameSet c.if-change-agent.constraints (get_or (changed_sets sets xs) c.args.agent [])) (sym (taken_more c.args.self.now c.loop-turn.turn x c.at-change.ensures))
+    (elim c.if-change-agent.branch [
+      | then-change-agent+in_ok-constraints w ↦ more (λ _. subst₂ (λ k set. IsWith k c.loop-turn.constraints set) (ap (λ (y : Changed). y.constraint) c.change.view_is) (sym w.constraints-is) w.in_ok-constraints.ensures)
+          (λ n. absurd (n (sym whose ∙ w.if-change-agent.true)))
+      | else-change-agent w ↦ more (λ e. absurd (w.if-change-agent.false (whose ∙ e))) (λ _. w.constraints-is)
+    ])
+
 pub returns : goal.returns
-returns c =
-    let whole : flat_map arc_value c.fours-fours.result.now ++ map arc_value c.as_slice.result.now ≡ c.args.self.now =
-    ap₂ (λ xs ys. xs ++ ys) c.fours-fours.ensures c.as_slice.ensures ∙ c.self.view_is in
-    if_ok c.constraints_after.result _ _
-    (λ set gathered agents inside.
-    let in_all : c.args.agent < length (replicate agents []) = subst (λ n. c.args.agent < n) (sym (length-replicate agents [])) inside in
-    let older = flat_map arc_value c.fours-fours.result.now in
-    subst (λ xs. IsSameSet set (get_or (changed_sets (replicate agents []) xs) c.args.agent [])) whole
-    (subst (λ sets. IsSameSet set (get_or sets c.args.agent [])) (sym (changed_sets-append (replicate agents []) older (map arc_value c.as_slice.result.now)))
-    (gathered (changed_sets (replicate agents []) older) (subst (λ n. c.args.agent < n) (sym (length-changed_sets (replicate agents []) older)) in_all)
-    (c.in_ok-older.ensures (replicate agents []) in_all
-    (subst₂ (λ xs ys. IsSameSet xs ys) (sym c.new.ensures) (sym (get_or-replicate agents c.args.agent [] [] inside)) (λ k. (λ h. h, λ h. h)))))))
-    c.constraints_after.ensures
+returns c agents inside =
+    subst (λ xs. IsSameSet c.loop-turn.constraints (get_or (changed_sets (replicate agents []) xs) c.args.agent [])) (take_all c.loop-turn.turn c.args.self.now (omega arith)) (c.loop-turn.invariant agents inside)

@@ -1,9 +1,15 @@
-use Rattle.std.proofs.Common.{◌≡◌, [], ◌∷◌, ◌++◌, subst, sym, ap, ◌∙◌, arith}
-use Rattle.mapf_tree.proofs.Chains.{chain_more}
+use Rattle.std.proofs.Common.{◌≡◌, ◌<◌, [], ◌∷◌, ◌++◌, length, map, subst, sym, ap, ◌∙◌, arith}
+use Rattle.std.proofs.lemmas.List.{length-map, get_or-map}
+use Rattle.std.proofs.lemmas.Option.{slice_get_read}
+use Rattle.mapf_tree.proofs.Chains.{taken_more}
 use Rattle.mapf_tree.proofs.node.current_paths.CurrentPaths.plan.Goals as goal
 
 pub loop-path-preserved : goal.loop-path-preserved
 loop-path-preserved c =
+    let paths = c.deref-path-items.result.now in let i = c.loop-path.path-index in let path = c.in_ok-copy.field-0 in
+    let inside : i < length paths = omega arith in
     subst (λ xs. c.push.new.self.items ≡ xs)
-    (sym (chain_more (λ path. path.now) c.deref-path-items.result.now c.loop-path.path-index c.path-item.result c.in_ok-copy.field-0 (omega arith) c.path-item.is c.in_ok-copy.ensures))
-    (c.in_ok-push.ensures.items ∙ ap (λ l. l ++ c.in_ok-copy.field-0 ∷ []) c.loop-path.invariant)
+    (sym (taken_more (map (λ p. p.now) paths) i path
+    (slice_get_read (map (λ p. p.now) paths) (length paths) i path (sym (length-map paths (λ p. p.now))) inside
+    (c.in_ok-copy.ensures ∙ ap (λ p. p.now) c.path-item.is ∙ sym (get_or-map (λ p. p.now) paths i c.path-item.result path inside)))))
+    (c.in_ok-push.ensures.items ∙ ap (λ l. l ++ path ∷ []) c.loop-path.invariant)

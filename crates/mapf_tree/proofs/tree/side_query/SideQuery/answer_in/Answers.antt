@@ -5,13 +5,13 @@ use Rattle.mapf_tree.specs.SideQuery.{SideQuery, IsFoundBy}
 use Rattle.mapf_tree.proofs.Queries.{found_of_child}
 use Rattle.mapf_tree.proofs.tree.side_query.SideQuery.answer_in.Goals as goal
 
-pub returns-in_ok-turned_path-in-Some : goal.returns-in_ok-turned_path-in-Some
-returns-in_ok-turned_path-in-Some c =
-    subst (λ p. IsFoundBy c.args.self.now (Some p)) (sym (c.in_ok-turned_path-in-Some.ensures ∙ ap (λ (q : SideQuery). path_of c.in-Some.child.plan q.agent) c.self.view_is))
+pub returns-in-Some-last_path : goal.returns-in-Some-last_path
+returns-in-Some-last_path c =
+    subst (λ p. IsFoundBy c.args.self.now (Some p)) (sym (c.in-Some-last_path.ensures ∙ ap (λ (q : SideQuery). path_of c.in-Some.child.plan q.agent) c.self.view_is))
     (found_of_child c.args.node.now c.args.self.now (Some c.in-Some.child) c.requires.node c.requires.query
     (subst (IsChildOf c.args.self.now.problem c.args.node.now c.args.self.now.side) c.in-Some.is c.requires.child))
 
-pub returns-in-None : goal.returns-in-None
-returns-in-None c =
+pub returns-in_default : goal.returns-in_default
+returns-in_default c =
     found_of_child c.args.node.now c.args.self.now None c.requires.node c.requires.query
-    (subst (IsChildOf c.args.self.now.problem c.args.node.now c.args.self.now.side) c.in-None.is c.requires.child)
+    (subst (IsChildOf c.args.self.now.problem c.args.node.now c.args.self.now.side) c.in_default.is c.requires.child)

@@ -3,7 +3,7 @@ use Rattle.std.proofs.lemmas.Grind.{get_or_default_zero}
 use Rattle.mapf_tree.specs.Nodes.{Changed}
 use Rattle.mapf_tree.specs.PathCache.{IsExtended, AreSetsOf}
 use Rattle.mapf_tree.proofs.PathCaches.{sets_turned_on}
-use Rattle.mapf_tree.proofs.own_paths.path_cache.node_numbers.turn.Goals as goal
+use Rattle.mapf_tree.proofs.own_paths.path_cache.node_numbers.extend_set.Goals as goal
 
 pub returns-in-Some : goal.returns-in-Some
 returns-in-Some c told cs are =

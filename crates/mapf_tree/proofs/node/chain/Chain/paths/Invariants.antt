@@ -1,0 +1,6 @@
+use Rattle.std.proofs.Common.{◌≡◌, take}
+use Rattle.mapf_tree.specs.Nodes.{changed_plan}
+use Rattle.mapf_tree.proofs.node.chain.Chain.paths.Given as goal
+
+abbrev pub invariant-loop-turn : goal.invariant-loop-turn
+invariant-loop-turn l = l.paths ≡ changed_plan l.root (take l.turn l.self)

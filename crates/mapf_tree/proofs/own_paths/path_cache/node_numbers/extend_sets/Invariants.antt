@@ -1,0 +1,8 @@
+use Rattle.std.proofs.Common.{List, take}
+use Rattle.mapf_low.specs.declared.constraint.Constraint.{Constraint}
+use Rattle.mapf_tree.specs.Nodes.{changed_sets}
+use Rattle.mapf_tree.specs.PathCache.{AreSetsOf}
+use Rattle.mapf_tree.proofs.own_paths.path_cache.node_numbers.extend_sets.Given as goal
+
+abbrev pub invariant-loop-turn : goal.invariant-loop-turn
+invariant-loop-turn l = (cs : List (List Constraint)) → AreSetsOf l.known l.fn.sets.items cs → AreSetsOf l.known l.sets.items (changed_sets cs (take l.turn l.changes))
