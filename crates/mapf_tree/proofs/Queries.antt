@@ -1,5 +1,5 @@
 -- From the own path that a side's query asks for to the child on that side.
-use Rattle.std.proofs.Common.{◌≡◌, List, [], ◌∷◌, ◌++◌, ℕ, get_or, set, Option, Some, None, option_map, IsSome, refl, subst, subst₂, sym, ◌∙◌, arith}
+use Rattle.std.proofs.Common.{◌≡◌, [], ◌∷◌, ◌++◌, ℕ, get_or, set, Option, Some, None, option_map, IsSome, refl, subst, subst₂, sym, ◌∙◌, arith}
 use Rattle.mapf_plan.specs.declared.conflict.Conflict.{Conflict}
 use Rattle.mapf_tree.specs.Nodes.{Changed, Node, IsConflictOf}
 use Rattle.mapf_plan.specs.Plan.{path_of}

@@ -1,6 +1,6 @@
 -- What a search does step by step: it takes the nodes of the tree in the order of their keys, and ends with the answer.
 use Rattle.std.specs.List.{AllByRecursion}
-use Rattle.std.specs.Prelude.{◌≡◌, ◌≢◌, ◌<◌, ◌≤◌, length, [], ◌∷◌, ℕ, ◌⊎◌, ◌↔◌, List, Option, Some, None, Result, Ok, Err, IsErr, Contains}
+use Rattle.std.specs.Prelude.{◌≡◌, ◌≢◌, ◌<◌, ◌≤◌, length, [], ℕ, ◌⊎◌, ◌↔◌, List, Option, Some, None, Result, Ok, Err, IsErr, Contains}
 use Rattle.mapf_grid.specs.declared.fault.NoMemory.{NoMemory}
 use Rattle.mapf_grid.specs.Least.{IsLeast}
 use Rattle.mapf_plan.specs.Plan.{plan_cost, HasNoConflict}

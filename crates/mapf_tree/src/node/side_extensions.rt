@@ -1,4 +1,6 @@
-use crate::Side;
+ghost use Rattle.std.specs.Prelude.{◌≡◌};
+
+use crate::{Node, Side};
 
 /// The numbers that the extensions for the two sides of a node's conflict may have among those that are known; nothing rests on
 /// them.
@@ -25,5 +27,26 @@ impl SideExtensions {
             Side::Left => self.left as usize,
             Side::Right => self.right as usize,
         }
+    }
+}
+
+impl Node {
+    /// The same node, of whose two sides this is known; nothing rests on it.
+    pub(crate) fn with_side_extensions(self, extensions: Option<SideExtensions>) -> Node
+        ensures { result ≡ self }
+    {
+        let Node { mut body } = self;
+        body.extensions = extensions;
+        Node { body }
+    }
+
+    /// Whether the paths of both its children were known when it was made. No answer depends on it.
+    pub fn has_known_sides(&self) -> bool {
+        self.body.extensions.is_some()
+    }
+
+    /// The number that the extension for a side of its conflict may have among those that are known; nothing rests on it.
+    pub(crate) fn extension_on(&self, side: Side) -> Option<usize> {
+        Some(self.body.extensions?.on(side))
     }
 }

@@ -1,4 +1,4 @@
-use Rattle.std.proofs.Common.{arith, Ok, Some, inl, inr, refl, subst, ap, ◌∙◌}
+use Rattle.std.proofs.Common.{Ok, Some, inl, inr, refl, subst, ap, ◌∙◌}
 use Rattle.std.specs.Option.{option_map}
 use Rattle.mapf_plan.specs.declared.answer.Answer.TheVariants as answer
 use Rattle.mapf_tree.specs.Tree.{key_rank}

@@ -1,4 +1,4 @@
-use Rattle.std.proofs.Common.{◌≡◌, Some, subst, subst₂, sym, ap, ◌∙◌}
+use Rattle.std.proofs.Common.{Some, subst, subst₂, sym, ap, ◌∙◌}
 use Rattle.std.specs.Arc.{arc_value}
 use Rattle.mapf_tree.specs.Family.{IsOwnWithin}
 use Rattle.mapf_tree.specs.Tree.{IsOwnPathOf}
