@@ -8,9 +8,8 @@ ghost use Rattle.mapf_tree.specs.Problem.{IsLimit};
 ghost use Rattle.mapf_tree.specs.Answered.{IsAnswerOf};
 ghost use Rattle.mapf_solve.specs.Out.{AreNumbers, IsRefusal, IsTextFor, IsOut, IsBest, KeepsLimit, IsOnlyOut, IsWorkers, problem_of};
 
+use crate::means::Means;
 use crate::rounds::tables;
-use crate::sessions::Means;
-use crate::setting::Setting;
 use crate::solving::solve_from;
 use crate::{Ask, NoWatch, Pace, Refusal, Watch};
 use mapf_board::{AlwaysGrants, Gate, MOST_WORKERS};
@@ -52,12 +51,8 @@ pub fn answer<R: Threads + Sync, G: Gate>(
     ensures same_fault { IfErr result
         (λ fault. fault ≢ Refusal.NoMemory → IsWorkers ask → IsOnlyOut map.now scen.now ask (Err fault)) }
 {
-    let setting = Setting {
-        rt,
-        alloc,
-        pace: Pace::LONGEST,
-    };
-    text_or_fault(&setting, map, scen, ask, gate, &mut NoWatch)
+    let means = Means::new(rt, alloc, Pace::LONGEST, gate);
+    text_or_fault(means, map, scen, ask, &mut NoWatch)
 }
 
 /// What [`answer`] gives, and a watch is told how far the search has come: first of the root, if that is in the tree, then after each
@@ -80,55 +75,42 @@ pub fn answer_watched<R: Threads + Sync, G: Gate, W: Watch>(
     ensures same_fault { IfErr result
         (λ fault. fault ≢ Refusal.NoMemory → IsWorkers ask → IsOnlyOut map.now scen.now ask (Err fault)) }
 {
-    let setting = Setting {
-        rt,
-        alloc,
-        pace: Pace::WATCHED,
-    };
-    text_or_fault(&setting, map, scen, ask, gate, watch)
+    let means = Means::new(rt, alloc, Pace::WATCHED, gate);
+    text_or_fault(means, map, scen, ask, watch)
 }
 
-/// The same, where nothing is said of other plans and other numbers of workers.
+/// The same by the ask's number of workers, where nothing is said of other plans and other numbers of workers.
 pub(crate) fn text_or_fault<R: Threads + Sync, G: Gate, W: Watch>(
-    setting: &Setting<'_, R>,
+    mut means: Means<'_, R, G, AlwaysGrants>,
     map: &[u8],
     scen: &[u8],
     ask: Ask,
-    gate: &G,
     watch: &mut W,
 ) -> Result<Vec<u8>, Refusal>
     ensures text { IfOk result (λ bytes. IsOut map.now scen.now ask (Ok bytes.items)) }
     ensures fault { IfErr result (λ fault. fault ≢ Refusal.NoMemory → IsOut map.now scen.now ask (Err fault)) }
 {
-    let instance = asked_instance(setting.alloc, map, scen, ask)?;
-    Ok(text_of_instance(setting, instance, ask, gate, watch)?)
+    let instance = asked_instance(means.alloc, map, scen, ask)?;
+    means.workers = ask.workers as usize;
+    Ok(text_of_instance(&means, instance, ask, watch)?)
 }
 
-/// The text of the answer for this instance, which is looked for by the ask's number of workers.
+/// The text of the answer for this instance.
 fn text_of_instance<R: Threads + Sync, G: Gate, W: Watch>(
-    setting: &Setting<'_, R>,
+    means: &Means<'_, R, G, AlwaysGrants>,
     instance: Instance,
     ask: Ask,
-    gate: &G,
     watch: &mut W,
 ) -> Result<Vec<u8>, NoMemory>
     requires { AreNumbers ask }
     ensures { IfOk result (λ bytes. IsTextFor instance ask bytes.items) }
 {
     let goals = instance.agents() as u64;
-    let means = Means {
-        rt: setting.rt,
-        alloc: setting.alloc,
-        workers: ask.workers as usize,
-        pace: setting.pace,
-        gate,
-        supply: &AlwaysGrants,
-    };
-    let tables = tables(&means, &instance)?;
+    let tables = tables(means, &instance)?;
     let whole = Problem::with(instance, tables, ask.bound as u32);
     let problem = asked_problem(whole, ask);
-    let answer = solve_from(&means, &problem, goals, watch)?;
-    spell(setting.alloc, &problem, &answer)
+    let answer = solve_from(means, &problem, goals, watch)?;
+    spell(means.alloc, &problem, &answer)
 }
 
 /// The instance that is asked for, where the ask's numbers may be; or else the first fault.

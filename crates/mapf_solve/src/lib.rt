@@ -5,13 +5,13 @@ mod alone;
 mod answers;
 mod ask;
 pub mod laws;
+mod means;
 mod pace;
 mod refusal;
 mod rounds;
 mod run_fault;
 mod runs;
 mod sessions;
-mod setting;
 mod solving;
 mod watch;
 

@@ -3,6 +3,7 @@
 mod goal_job;
 mod path_job;
 mod root;
+mod round;
 mod tables;
 
 pub(crate) use root::root;

@@ -6,9 +6,9 @@ ghost use Rattle.mapf_plan.specs.Files.{is_read_failure, is_write_failure, AreWi
 ghost use Rattle.mapf_solve.specs.Run.{end_of, files, LeavesText, LeavesBest, LeavesLimit, LeavesOnly};
 
 use crate::answers::text_or_fault;
-use crate::setting::Setting;
+use crate::means::Means;
 use crate::{Ask, NoWatch, Pace, RunFault, Watch};
-use mapf_board::NoGate;
+use mapf_board::{AlwaysGrants, NoGate};
 use mapf_plan::{DeviceFault, FileName, Sink, Source, read_file, write_text};
 use std::alloc::Global;
 use std::thread::Threads;
@@ -58,12 +58,8 @@ pub fn run<R: Threads + Sync, M: Source, S: Source, O: Sink>(
     // Out of memory is a refusal.
     ensures memory { IfErr result (λ fault. fault ≢ RunFault.Device DeviceFault.NoMemory) }
 {
-    let setting = Setting {
-        rt,
-        alloc,
-        pace: Pace::LONGEST,
-    };
-    write_text_or_fault(&setting, map, scen, out, ask, &mut NoWatch)
+    let means = Means::new(rt, alloc, Pace::LONGEST, &NoGate);
+    write_text_or_fault(means, map, scen, out, ask, &mut NoWatch)
 }
 
 /// What [`run`] does, and a watch is told how far the search has come, as by [`answer_watched`](crate::answer_watched).
@@ -94,17 +90,13 @@ pub fn run_watched<R: Threads + Sync, M: Source, S: Source, O: Sink, W: Watch>(
         (O.contents out.old) (O.contents out.new) result }
     ensures memory { IfErr result (λ fault. fault ≢ RunFault.Device DeviceFault.NoMemory) }
 {
-    let setting = Setting {
-        rt,
-        alloc,
-        pace: Pace::WATCHED,
-    };
-    write_text_or_fault(&setting, map, scen, out, ask, watch)
+    let means = Means::new(rt, alloc, Pace::WATCHED, &NoGate);
+    write_text_or_fault(means, map, scen, out, ask, watch)
 }
 
 /// The same, where nothing is said of other plans and other numbers of workers.
 fn write_text_or_fault<R: Threads + Sync, M: Source, S: Source, O: Sink, W: Watch>(
-    setting: &Setting<'_, R>,
+    means: Means<'_, R, NoGate, AlwaysGrants>,
     map: &mut M,
     scen: &mut S,
     out: &mut O,
@@ -123,8 +115,8 @@ fn write_text_or_fault<R: Threads + Sync, M: Source, S: Source, O: Sink, W: Watc
         (O.contents out.old) (O.contents out.new) result }
     ensures memory { IfErr result (λ fault. fault ≢ RunFault.Device DeviceFault.NoMemory) }
 {
-    let map = read_file(setting.alloc, map, FileName::Map)?;
-    let scen = read_file(setting.alloc, scen, FileName::Scenario)?;
-    let text = text_or_fault(setting, &map, &scen, ask, &NoGate, watch)?;
+    let map = read_file(means.alloc, map, FileName::Map)?;
+    let scen = read_file(means.alloc, scen, FileName::Scenario)?;
+    let text = text_or_fault(means, &map, &scen, ask, watch)?;
     Ok(write_text(out, &text)?)
 }

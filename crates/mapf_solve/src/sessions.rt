@@ -4,12 +4,10 @@ mod brands;
 mod child_stage;
 mod desk;
 mod lookahead;
-mod means;
 mod session;
 mod side_job;
 mod source;
 
 pub use brands::OneProblem;
 pub(crate) use lookahead::Lookahead;
-pub(crate) use means::Means;
 pub(crate) use session::session;

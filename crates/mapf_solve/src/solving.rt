@@ -6,9 +6,10 @@ ghost use Rattle.mapf_tree.specs.Answered.{IsAnswerOf, IsBestAnswer};
 ghost use Rattle.mapf_board.specs.declared.limits.TheConstants.{MOST_WORKERS};
 ghost use Rattle.mapf_solve.specs.declared.pace.TheConstants.{MOST_SESSION_NODES, MOST_WORKER_TURNS};
 
+use crate::means::Means;
 use crate::pace::{MOST_SESSION_NODES, MOST_WORKER_TURNS, Pace};
 use crate::rounds::root;
-use crate::sessions::{Lookahead, Means, OneProblem, session};
+use crate::sessions::{Lookahead, OneProblem, session};
 use crate::watch::{NoWatch, Watch, tell};
 use mapf_board::{AlwaysGrants, Gate, Supply};
 use mapf_grid::NoMemory;

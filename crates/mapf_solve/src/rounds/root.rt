@@ -5,9 +5,10 @@ ghost use Rattle.mapf_tree.specs.Family.{IsRoot};
 ghost use Rattle.mapf_solve.specs.Rounds.{AreOfAgents};
 ghost use Rattle.mapf_board.specs.declared.limits.TheConstants.{MOST_TICKETS};
 
+use crate::means::Means;
 use crate::rounds::path_job::{PathJob, PathWork};
-use crate::sessions::Means;
-use mapf_board::{Gate, Supply, answer_all};
+use crate::rounds::round::answer_round;
+use mapf_board::{Gate, Supply};
 use mapf_grid::NoMemory;
 use mapf_plan::Path;
 use mapf_tree::{Node, Problem, root_with};
@@ -25,17 +26,7 @@ pub(crate) fn root<R: Threads + Sync, G: Gate, S: Supply>(
 {
     let jobs = path_jobs(means.alloc, problem, first)?;
     let work = PathWork::new(means.alloc);
-    let Ok(found) = answer_all(
-        means.rt,
-        means.alloc,
-        &work,
-        &jobs,
-        means.gate,
-        means.supply,
-        means.workers,
-    ) else {
-        return Err(NoMemory);
-    };
+    let found = answer_round(means, &work, &jobs)?;
     match all_of(means.alloc, found)? {
         Some(paths) => root_with(means.alloc, problem, paths),
         None => Ok(None),

@@ -5,9 +5,10 @@ ghost use Rattle.mapf_tree.specs.Problem.{HasDistances};
 ghost use Rattle.mapf_solve.specs.Rounds.{AreOfGoals};
 ghost use Rattle.mapf_board.specs.declared.limits.TheConstants.{MOST_TICKETS};
 
+use crate::means::Means;
 use crate::rounds::goal_job::{GoalJob, GoalWork};
-use crate::sessions::Means;
-use mapf_board::{Gate, Supply, answer_all};
+use crate::rounds::round::answer_round;
+use mapf_board::{Gate, Supply};
 use mapf_grid::{Instance, NoMemory};
 use mapf_low::Distances;
 use std::alloc::Global;
@@ -22,18 +23,7 @@ pub(crate) fn tables<R: Threads + Sync, G: Gate, S: Supply>(
 {
     let jobs = goal_jobs(means.alloc, instance)?;
     let work = GoalWork::new(means.alloc);
-    match answer_all(
-        means.rt,
-        means.alloc,
-        &work,
-        &jobs,
-        means.gate,
-        means.supply,
-        means.workers,
-    ) {
-        Ok(tables) => Ok(tables),
-        Err(_) => Err(NoMemory),
-    }
+    answer_round(means, &work, &jobs)
 }
 
 /// A job for each agent's goal.

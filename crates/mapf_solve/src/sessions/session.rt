@@ -6,10 +6,10 @@ ghost use Rattle.mapf_board.specs.Workers.{IsCrewOf, size_of};
 ghost use Rattle.mapf_board.specs.declared.limits.TheConstants.{MOST_SLOTS};
 ghost use Rattle.mapf_solve.specs.Sessions.{AreSidesOf, WentOn, WentUpTo};
 
+use crate::means::Means;
 use crate::sessions::brands::{OneBoard, OneProblem};
 use crate::sessions::desk::Desk;
 use crate::sessions::lookahead::Lookahead;
-use crate::sessions::means::Means;
 use crate::sessions::side_job::SideWork;
 use crate::sessions::source::SessionSource;
 use mapf_board::{

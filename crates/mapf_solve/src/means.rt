@@ -1,0 +1,42 @@
+//! What an answer is worked out with.
+
+ghost use Rattle.std.specs.Prelude.{◌<◌, ◌≤◌};
+ghost use Rattle.mapf_board.specs.declared.limits.TheConstants.{MOST_WORKERS};
+
+use crate::Pace;
+use mapf_board::AlwaysGrants;
+use std::alloc::Global;
+
+/// What an answer is worked out with: threads, memory, 1 to 64 workers, a pace, a gate and a supply.
+#[derive(Drop)]
+pub(crate) struct Means<'a, R, G, S> {
+    pub(crate) rt: &'a R,
+    pub(crate) alloc: Global,
+    pub(crate) workers: usize,
+    pub(crate) pace: Pace,
+    pub(crate) gate: &'a G,
+    pub(crate) supply: &'a S,
+    pub ghost few: { (0 < workers) × (workers ≤ MOST_WORKERS) },
+    pub ghost paced: { 1 ≤ pace.session_nodes },
+}
+
+impl<'a, R, G> Means<'a, R, G, AlwaysGrants> {
+    /// One worker, as long as no other number of them is asked for, and memory for each of its jobs.
+    pub(crate) fn new(
+        rt: &'a R,
+        alloc: Global,
+        pace: Pace,
+        gate: &'a G,
+    ) -> Means<'a, R, G, AlwaysGrants>
+        requires { 1 ≤ pace.session_nodes }
+    {
+        Means {
+            rt,
+            alloc,
+            workers: 1,
+            pace,
+            gate,
+            supply: &AlwaysGrants,
+        }
+    }
+}
