@@ -6,21 +6,21 @@ use Rattle.mapf_tree.specs.declared.search.progress.Progress.TheVariants.{Workin
 use Rattle.mapf_tree.specs.Problem.{Problem}
 use Rattle.mapf_tree.specs.Search.{Searched, TakesBetween}
 use Rattle.mapf_tree.proofs.Remaining.{remaining, remaining_falls}
-use Rattle.mapf_solve.specs.Sessions.{WentOn}
+use Rattle.mapf_solve.specs.Sessions.{HasTaken}
 
 -- as the search tells it
 pub went_on : (p q : Problem) (n : ℕ) (from : Option (List ℕ)) (s : Searched) (r : Result Progress NoMemory) → q ≡ p →
-    (r ≡ Ok Working → (s.outcome ≡ Ok None) × TakesBetween q from s.last n) → (r ≡ Ok Finished → (m : ℕ) × (m ≤ n) × TakesBetween q from s.last m) → WentOn p n from s r
+    (r ≡ Ok Working → (s.outcome ≡ Ok None) × TakesBetween q from s.last n) → (r ≡ Ok Finished → (m : ℕ) × (m ≤ n) × TakesBetween q from s.last m) → HasTaken p n from s r
 went_on p q n from s (Ok Working) e w f = let k = w refl in (k.0, subst (λ x. TakesBetween x from s.last n) e k.1)
 went_on p q n from s (Ok Finished) e w f = let k = f refl in (k.0, k.1, subst (λ x. TakesBetween x from s.last k.0) e k.2)
 went_on p q n from s (Err refused) e w f = tt
 
 -- where it didn't end there is no answer yet
-pub still_open : (p : Problem) (n : ℕ) (from : Option (List ℕ)) (s : Searched) (r : Progress) → ¬ (r ≡ Finished) → WentOn p n from s (Ok r) → s.outcome ≡ Ok None
+pub still_open : (p : Problem) (n : ℕ) (from : Option (List ℕ)) (s : Searched) (r : Progress) → ¬ (r ≡ Finished) → HasTaken p n from s (Ok r) → s.outcome ≡ Ok None
 still_open p n from s Working on w = w.0
 still_open p n from s Finished on w = absurd (on refl)
 
 -- and fewer nodes are left
-pub falls : (p : Problem) (n : ℕ) (from : Option (List ℕ)) (s : Searched) (r : Progress) → ¬ (r ≡ Finished) → 1 ≤ n → WentOn p n from s (Ok r) → remaining p s.last < remaining p from
+pub falls : (p : Problem) (n : ℕ) (from : Option (List ℕ)) (s : Searched) (r : Progress) → ¬ (r ≡ Finished) → 1 ≤ n → HasTaken p n from s (Ok r) → remaining p s.last < remaining p from
 falls p n from s Working on some w = remaining_falls p p from s.last n refl some w.1
 falls p n from s Finished on some w = absurd (on refl)

@@ -23,11 +23,11 @@ abbrev pub AreSidesOf : Problem → List (Option WantedChild) → Type 0
 AreSidesOf p current = (slot : ℕ) (job : WantedChild) → slice_index_or current slot None ≡ Some job → job.query.problem ≡ p
 
 -- from the last taken node on a search took the next n nodes of the tree and has no answer yet, or it ended after at most n
-abbrev pub WentOn : Problem → ℕ → Option (List ℕ) → Searched → Result Progress NoMemory → Type 0
-WentOn p n from s (Ok Working) = (s.outcome ≡ Ok None) × TakesBetween p from s.last n
-WentOn p n from s (Ok Finished) = (m : ℕ) × (m ≤ n) × TakesBetween p from s.last m
-WentOn p n from s (Err _) = Unit {0}
+abbrev pub HasTaken : Problem → ℕ → Option (List ℕ) → Searched → Result Progress NoMemory → Type 0
+HasTaken p n from s (Ok Working) = (s.outcome ≡ Ok None) × TakesBetween p from s.last n
+HasTaken p n from s (Ok Finished) = (m : ℕ) × (m ≤ n) × TakesBetween p from s.last m
+HasTaken p n from s (Err _) = Unit {0}
 
 -- it went on so by some number of nodes: by one at least, and by so many at most
-abbrev pub WentUpTo : Problem → ℕ → Option (List ℕ) → Searched → Result Progress NoMemory → Type 0
-WentUpTo p most from s r = (n : ℕ) × (1 ≤ n) × (n ≤ most) × WentOn p n from s r
+abbrev pub HasTakenUpTo : Problem → ℕ → Option (List ℕ) → Searched → Result Progress NoMemory → Type 0
+HasTakenUpTo p most from s r = (n : ℕ) × (1 ≤ n) × (n ≤ most) × HasTaken p n from s r

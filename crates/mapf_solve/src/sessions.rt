@@ -10,4 +10,4 @@ mod source;
 
 pub use brands::OneProblem;
 pub(crate) use lookahead::Lookahead;
-pub(crate) use session::session;
+pub(crate) use session::{SessionSearch, session};

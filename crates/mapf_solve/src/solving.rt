@@ -9,7 +9,7 @@ ghost use Rattle.mapf_solve.specs.declared.pace.TheConstants.{MOST_SESSION_NODES
 use crate::means::Means;
 use crate::pace::{MOST_SESSION_NODES, MOST_WORKER_TURNS, Pace};
 use crate::rounds::root;
-use crate::sessions::{Lookahead, OneProblem, session};
+use crate::sessions::{Lookahead, OneProblem, SessionSearch, session};
 use crate::watch::{NoWatch, Watch, tell};
 use mapf_board::{AlwaysGrants, Gate, Supply};
 use mapf_grid::NoMemory;
@@ -124,8 +124,7 @@ pub(crate) fn solve_from<R: Threads + Sync, G: Gate, S: Supply, W: Watch>(
     first: u64,
     watch: &mut W,
 ) -> Result<Answer, NoMemory>
-    ensures answer { IfOk result (IsAnswerOf problem.now) }
-    ensures best { IfOk result (IsBestAnswer problem.now) }
+    ensures { IfOk result (IsAnswerOf problem.now) }
 {
     let agents = problem.instance().agents() as u64;
     let root = root(means, problem, first)?;
@@ -144,22 +143,20 @@ fn solve_root<P: OneProblem + Send + Sync, R: Threads + Sync, G: Gate, S: Supply
     requires root { IsRoot problem.now root }
     ensures { IfOk result (IsAnswerOf P.problem) }
 {
-    let has_tree = root.is_some();
-    let mut search = Search::from_root(means.alloc, problem, root)?;
-    let mut known = Lookahead::<P>::new(means.alloc, problem, means.workers, next)?;
-    if has_tree {
-        tell::<P, W>(watch, &search);
-    }
+    let mut sessions = SessionSearch {
+        search: Search::from_root(means.alloc, problem, root)?,
+        lookahead: Lookahead::<P>::new(means.alloc, problem, means.workers, next)?,
+    };
+    tell::<P, W>(watch, &sessions.search);
     loop {
-        let (further, learned, progress) = session(means, search, known)?;
-        search = further;
-        known = learned;
-        if has_tree {
-            tell::<P, W>(watch, &search);
-        }
+        let (further, progress) = session(means, sessions);
+        sessions = further;
+        let progress = progress?;
+        tell::<P, W>(watch, &sessions.search);
         if let Progress::Finished = progress {
             break;
         }
     }
+    let SessionSearch { search, .. } = sessions;
     search.into_answer().ok_or(NoMemory)
 }

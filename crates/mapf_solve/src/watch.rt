@@ -27,10 +27,13 @@ impl Watch for NoWatch {
     fn taken<P: OneProblem>(&mut self, _nodes: u64, _least: u64) {}
 }
 
-/// Tells a watch how far a search has come, unless memory ran out.
+/// Tells a watch how far a search has come, unless the tree has no root or memory ran out.
 pub(crate) fn tell<P: OneProblem, W: Watch>(watch: &mut W, search: &Search<'_>)
     requires { search.now.problem ≡ P.problem }
 {
+    if search.last().is_none() && search.waiting().is_empty() {
+        return;
+    }
     let nodes = search.taken();
     if let Some(least) = search.lower_bound() {
         watch.taken::<P>(nodes, least);

@@ -4,7 +4,7 @@ ghost use Rattle.std.specs.Prelude.{◌≡◌, IfOk, None, Ok};
 ghost use Rattle.mapf_board.specs.Owners.{IsOwnerOf, board_of, currents};
 ghost use Rattle.mapf_board.specs.Workers.{IsCrewOf, size_of};
 ghost use Rattle.mapf_board.specs.declared.limits.TheConstants.{MOST_SLOTS};
-ghost use Rattle.mapf_solve.specs.Sessions.{AreSidesOf, WentOn, WentUpTo};
+ghost use Rattle.mapf_solve.specs.Sessions.{AreSidesOf, HasTaken, HasTakenUpTo};
 
 use crate::means::Means;
 use crate::sessions::brands::{OneBoard, OneProblem};
@@ -23,6 +23,14 @@ use std::thread::Threads;
 /// The most nodes that a session takes which begins without a job, and so without workers.
 const QUIET_NODES: u64 = 256;
 
+/// A search, and what each of its sessions hands on to the next.
+#[derive(Drop)]
+pub(crate) struct SessionSearch<'p, P: OneProblem> {
+    pub(crate) search: Search<'p>,
+    pub(crate) lookahead: Lookahead<'p, P>,
+    ghost of_problem: { search.problem ≡ P.problem },
+}
+
 /// A search and its source of children.
 ///
 /// They are one value, so that a closure that has both has one lifetime of the problem, and not one for each of them.
@@ -37,7 +45,7 @@ impl<'p, 's, P: OneProblem, B: OneBoard, G: Gate> Led<'p, 's, P, B, G> {
     /// The owner's part of a session: so many nodes are taken, then the board is shut.
     fn lead(self, nodes: u64) -> (Led<'p, 's, P, B, G>, Result<Progress, NoMemory>)
         requires { self.search.outcome ≡ Ok None }
-        ensures { WentOn P.problem nodes self.entry.search.last result.0.search result.1 }
+        ensures { HasTaken P.problem nodes self.entry.search.last result.0.search result.1 }
     {
         let Led {
             mut search,
@@ -68,7 +76,8 @@ fn lead_with_workers<
     Result<Crew<'s, SideWork<'p>>, mapf_board::NoMemory>,
 )
     requires { led.search.outcome ≡ Ok None }
-    ensures went { WentUpTo P.problem means.now.pace.session_nodes led.entry.search.last result.0.0.search result.0.1 }
+    ensures went { HasTakenUpTo P.problem means.now.pace.session_nodes led.entry.search.last
+        result.0.0.search result.0.1 }
     ensures crew { IfOk result.1 (λ back. back.live.now ≡ crew.entry.live.now) }
 {
     let nodes = means.pace.session_nodes;
@@ -84,15 +93,15 @@ fn lead_with_workers<
         means.supply,
         ||
             requires { led.search.outcome ≡ Ok None }
-            ensures { WentOn P.problem nodes led.entry.search.last result.0.search result.1 }
+            ensures { HasTaken P.problem nodes led.entry.search.last result.0.search result.1 }
         { led.lead(nodes) },
     );
     (led, crew)
 }
 
-/// What a session leaves at its board: the search with what is known, how it went on, the owner and the workers' seats.
+/// What a session leaves at its board: the search, how it went on, the owner and the workers' seats.
 type Seated<'p, P> = (
-    (Search<'p>, Lookahead<'p, P>),
+    SessionSearch<'p, P>,
     Result<Progress, NoMemory>,
     Owner<SideWork<'p>>,
     Result<Vec<WorkerSeat<SideWork<'p>>>, mapf_board::NoMemory>,
@@ -111,53 +120,53 @@ fn session_at<
     live: &Live<SideWork<'p>>,
     owner: Owner<SideWork<'p>>,
     seats: Vec<WorkerSeat<SideWork<'p>>>,
-    search: Search<'p>,
-    known: Lookahead<'p, P>,
+    sessions: SessionSearch<'p, P>,
 ) -> Seated<'p, P>
     requires board { board_of live.now ≡ B.board }
     requires slots { size_of live.now ≡ MOST_SLOTS }
     requires owns { IsOwnerOf live.now owner }
     requires sides { AreSidesOf P.problem (currents owner) }
     requires crew { IsCrewOf live.now seats.items }
-    requires problem { search.problem ≡ P.problem }
-    requires open_yet { search.outcome ≡ Ok None }
-    ensures problem { result.0.0.problem ≡ P.problem }
-    ensures went { WentUpTo P.problem means.now.pace.session_nodes search.entry.last result.0.0 result.1 }
+    requires open_yet { sessions.search.outcome ≡ Ok None }
+    ensures went { HasTakenUpTo P.problem means.now.pace.session_nodes sessions.entry.search.last
+        result.0.search result.1 }
     ensures owns { IsOwnerOf live.now result.2 }
     ensures sides { AreSidesOf P.problem (currents result.2) }
     ensures crew { IfOk result.3 (λ seats. IsCrewOf live.now seats.items) }
 {
+    let SessionSearch { search, lookahead } = sessions;
     let desk = Desk::<P, B>::new(live, owner);
-    let source = SessionSource::begin(known, desk, means.gate, search.waiting());
+    let source = SessionSource::begin(lookahead, desk, means.gate, search.waiting());
     let led = Led { search, source };
     let ((led, progress), crew) = lead_with_workers(means, Crew::of(live, seats), led);
     let Led { search, source } = led;
-    let (known, owner) = source.into_parts();
-    ((search, known), progress, owner, seats_of(live, crew))
+    let (lookahead, owner) = source.into_parts();
+    let sessions = SessionSearch { search, lookahead };
+    (sessions, progress, owner, seats_of(live, crew))
 }
 
 /// One session: nodes are taken, and workers beside work out children of those that wait. How the search went on, for one node
 /// at least and at most as many as a session takes.
 pub(crate) fn session<'p, P: OneProblem + Send + Sync, R: Threads + Sync, G: Gate, S: Supply>(
     means: &Means<'_, R, G, S>,
-    search: Search<'p>,
-    known: Lookahead<'p, P>,
-) -> Result<(Search<'p>, Lookahead<'p, P>, Progress), NoMemory>
-    requires problem { search.problem ≡ P.problem }
-    requires open_yet { search.outcome ≡ Ok None }
-    ensures problem { IfOk result (λ r. r.0.problem ≡ P.problem) }
-    ensures went { IfOk result (λ r. WentUpTo P.problem means.now.pace.session_nodes search.entry.last r.0 (Ok r.2)) }
+    sessions: SessionSearch<'p, P>,
+) -> (SessionSearch<'p, P>, Result<Progress, NoMemory>)
+    requires { sessions.search.outcome ≡ Ok None }
+    ensures { HasTakenUpTo P.problem means.now.pace.session_nodes sessions.entry.search.last
+        result.0.search result.1 }
 {
     let Ok((live, owner, seats)) = Live::<SideWork<'p>>::new(means.alloc, MOST_SLOTS, means.workers)
     else {
-        return Err(NoMemory);
+        return (sessions, Err(NoMemory));
     };
-    let ((search, mut known), progress, owner, seats) = session_at::<P, Brand, R, G, S>(
-        means, &live, owner, seats, search, known,
+    let (mut sessions, progress, owner, seats) = session_at::<P, Brand, R, G, S>(
+        means, &live, owner, seats, sessions,
     );
-    let Ok(left) = close_behind(means.alloc, live, owner, seats) else {
-        return Err(NoMemory);
-    };
-    known.keep_all(left);
-    Ok((search, known, progress?))
+    match close_behind(means.alloc, live, owner, seats) {
+        Ok(left) => {
+            sessions.lookahead.keep_all(left);
+            (sessions, progress)
+        }
+        Err(_) => (sessions, Err(NoMemory)),
+    }
 }

@@ -20,10 +20,10 @@ use mapf_tree::{Children, Node, OpenList, Problem, Side};
 /// Its methods know nothing of the gate: only as a source of children it calls it.
 #[derive(Drop)]
 pub(crate) struct SessionSource<'p, 's, P: OneProblem, B: OneBoard, G> {
-    known: Lookahead<'p, P>,
+    lookahead: Lookahead<'p, P>,
     pub(crate) desk: Desk<'p, 's, P, B>,
     gate: &'s G,
-    /// For so many turns no job is looked for, since lately there was none.
+    /// For so many nodes no job is looked for, since lately there was none.
     quiet: usize,
 }
 
@@ -31,7 +31,7 @@ impl<'p, 's, P: OneProblem, B: OneBoard, G> SessionSource<'p, 's, P, B, G> {
     /// The source of a session that begins with jobs for these nodes. The first node is taken of the same ones, so there is
     /// nothing to be posted before that.
     pub(crate) fn begin(
-        known: Lookahead<'p, P>,
+        lookahead: Lookahead<'p, P>,
         desk: Desk<'p, 's, P, B>,
         gate: &'s G,
         waiting: &OpenList,
@@ -39,7 +39,7 @@ impl<'p, 's, P: OneProblem, B: OneBoard, G> SessionSource<'p, 's, P, B, G> {
         requires { AllStand P.problem waiting.now }
     {
         let mut source = SessionSource {
-            known,
+            lookahead,
             desk,
             gate,
             quiet: 1,
@@ -53,30 +53,16 @@ impl<'p, 's, P: OneProblem, B: OneBoard, G> SessionSource<'p, 's, P, B, G> {
         ensures owns { IsOwnerAt B.board MOST_SLOTS result.1 }
         ensures sides { AreSidesOf P.problem (currents result.1) }
     {
-        let SessionSource { known, desk, .. } = self;
-        (known, desk.into_owner())
-    }
-
-    /// Works ahead, before one of these nodes is taken: collects what is done, and posts jobs. Where none is to be posted, the
-    /// nodes aren't looked at again for as many turns.
-    fn look_ahead(&mut self, waiting: &OpenList)
-        requires { AllStand P.problem waiting.now }
-    {
-        if self.quiet > 0 {
-            self.quiet -= 1;
-            return;
-        }
-        self.collect_all();
-        if !self.post_all(waiting) {
-            self.quiet = self.known.nodes;
-        }
+        let SessionSource {
+            lookahead,
+            desk,
+            ..
+        } = self;
+        (lookahead, desk.into_owner())
     }
 
     /// Collects what is done.
     fn collect_all(&mut self) {
-        if !self.desk.has_jobs() {
-            return;
-        }
         for number in 0..MOST_SLOTS {
             let slot = Slot::at(number);
             if self.desk.is_used(slot) {
@@ -91,7 +77,7 @@ impl<'p, 's, P: OneProblem, B: OneBoard, G> SessionSource<'p, 's, P, B, G> {
         requires { AllStand P.problem waiting.now }
     {
         let mut has_posted = false;
-        for node in waiting.first(self.known.nodes) {
+        for node in waiting.first(self.lookahead.nodes) {
             if may_have_jobs(node) && self.post_sides(node) {
                 has_posted = true;
             }
@@ -115,19 +101,19 @@ impl<'p, 's, P: OneProblem, B: OneBoard, G> SessionSource<'p, 's, P, B, G> {
         let Some(slot) = self.desk.free_slot() else {
             return false;
         };
-        let Some(job) = self.known.job(node, side, slot) else {
+        let Some(job) = self.lookahead.job(node, side, slot) else {
             return false;
         };
         self.desk.post(slot, job);
         true
     }
 
-    /// What became of the job for a child of the node whose turn it is, if there is one, is kept. A job that nobody claimed comes
-    /// out of its slot, to be performed now.
+    /// What became of the job for a child of the node that is expanded, if there is one, is kept. A job that nobody claimed
+    /// comes out of its slot, to be performed now.
     fn fetch(&mut self, node: &Node, side: Side) -> Option<SideJob<'p>>
         ensures { IfSome result (λ job. job.query.problem ≡ P.problem) }
     {
-        let slot = self.known.slot_of(node, side)?;
+        let slot = self.lookahead.slot_of(node, side)?;
         let Err(Found::Posted) = self.keep_done(slot) else {
             return None;
         };
@@ -141,7 +127,7 @@ impl<'p, 's, P: OneProblem, B: OneBoard, G> SessionSource<'p, 's, P, B, G> {
     /// Keeps what is done in a slot. An error is the state that was found.
     fn keep_done(&mut self, slot: Slot) -> Result<(), Found> {
         let given = self.desk.collect(slot)?;
-        self.known.keep(given);
+        self.lookahead.keep(given);
         Ok(())
     }
 }
@@ -160,15 +146,23 @@ impl<'p, 's, P: OneProblem, B: OneBoard, G: Gate> Children for SessionSource<'p,
             if let Some(job) = self.fetch(node, side) {
                 let number = job.number();
                 self.gate.enter(number);
-                self.known.perform(job);
+                self.lookahead.perform(job);
                 self.gate.leave(number);
             }
         }
-        self.known.children(node)
+        self.lookahead.children(node)
     }
 
+    // Where no job is to be posted, the nodes aren't looked at again for as many nodes as are looked at.
     fn ahead(&mut self, _problem: &Problem, waiting: &OpenList) {
-        self.look_ahead(waiting);
+        if self.quiet > 0 {
+            self.quiet -= 1;
+            return;
+        }
+        self.collect_all();
+        if !self.post_all(waiting) {
+            self.quiet = self.lookahead.nodes;
+        }
     }
 }
 
