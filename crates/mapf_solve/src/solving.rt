@@ -1,7 +1,6 @@
 //! A problem's answer.
 
 ghost use Rattle.std.specs.Prelude.{◌≡◌, ◌<◌, ◌≤◌, IfOk};
-ghost use Rattle.mapf_tree.specs.Family.{IsRoot};
 ghost use Rattle.mapf_tree.specs.Answered.{IsAnswerOf, IsBestAnswer};
 ghost use Rattle.mapf_board.specs.declared.limits.TheConstants.{MOST_WORKERS};
 ghost use Rattle.mapf_solve.specs.declared.pace.TheConstants.{MOST_SESSION_NODES, MOST_WORKER_TURNS};
@@ -14,7 +13,7 @@ use crate::watch::{NoWatch, Watch, tell};
 use mapf_board::{AlwaysGrants, Gate, Supply};
 use mapf_grid::NoMemory;
 use mapf_plan::Answer;
-use mapf_tree::{Node, Problem, Progress, Search};
+use mapf_tree::{Problem, Progress, Search};
 use std::alloc::Global;
 use std::marker::Brand;
 use std::thread::Threads;
@@ -126,36 +125,32 @@ pub(crate) fn solve_from<R: Threads + Sync, G: Gate, S: Supply, W: Watch>(
 ) -> Result<Answer, NoMemory>
     ensures { IfOk result (IsAnswerOf problem.now) }
 {
-    let agents = problem.instance().agents() as u64;
-    let root = root(means, problem, first)?;
-    solve_root::<Brand, R, G, S, W>(means, problem, root, first.saturating_add(agents), watch)
+    solve_in_sessions::<Brand, R, G, S, W>(means, problem, first, watch)
 }
 
-/// The same from the root on, in sessions, whose jobs are numbered from `next` on.
-fn solve_root<P: OneProblem + Send + Sync, R: Threads + Sync, G: Gate, S: Supply, W: Watch>(
+/// The same, by a search that goes on in sessions. The jobs of the root come before theirs.
+fn solve_in_sessions<P: OneProblem + Send + Sync, R: Threads + Sync, G: Gate, S: Supply, W: Watch>(
     means: &Means<'_, R, G, S>,
     problem: &Problem,
-    root: Option<Node>,
-    next: u64,
+    first: u64,
     watch: &mut W,
 ) -> Result<Answer, NoMemory>
-    requires problem { problem.now ≡ P.problem }
-    requires root { IsRoot problem.now root }
+    requires { problem.now ≡ P.problem }
     ensures { IfOk result (IsAnswerOf P.problem) }
 {
-    let mut sessions = SessionSearch {
-        search: Search::from_root(means.alloc, problem, root)?,
-        lookahead: Lookahead::<P>::new(means.alloc, problem, means.workers, next)?,
-    };
+    let next = first.saturating_add(problem.instance().agents() as u64);
+    let lookahead = Lookahead::<P>::new(means.alloc, problem, means.workers, next)?;
+    let root = root(means, problem, first)?;
+    let search = Search::from_root(means.alloc, problem, root)?;
+    let mut sessions = SessionSearch { search, lookahead };
     tell::<P, W>(watch, &sessions.search);
     loop {
         let (further, progress) = session(means, sessions);
         sessions = further;
-        let progress = progress?;
         tell::<P, W>(watch, &sessions.search);
-        if let Progress::Finished = progress {
+        let Ok(Progress::Working) = progress else {
             break;
-        }
+        };
     }
     let SessionSearch { search, .. } = sessions;
     search.into_answer().ok_or(NoMemory)

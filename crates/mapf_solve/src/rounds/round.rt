@@ -18,7 +18,7 @@ pub(crate) fn answer_round<R: Threads + Sync, W: Work, O: Order<W> + Sync, G: Ga
     requires jobs { length jobs.now ≤ MOST_TICKETS }
     ensures { IfOk result (λ answers. AllZip W.fits (map O.ordered jobs.now) answers.items) }
 {
-    answer_all(
+    let Ok(answers) = answer_all(
         means.rt,
         means.alloc,
         work,
@@ -26,6 +26,8 @@ pub(crate) fn answer_round<R: Threads + Sync, W: Work, O: Order<W> + Sync, G: Ga
         means.gate,
         means.supply,
         means.workers,
-    )
-    .map_err(|_| NoMemory)
+    ) else {
+        return Err(NoMemory);
+    };
+    Ok(answers)
 }

@@ -207,15 +207,10 @@ impl<'p, P: OneProblem> Lookahead<'p, P> {
         requires { IsBranching P.problem node.now }
         ensures { IfKnown result (IsChildOf P.problem node.now side) }
     {
-        let Some(last) = self.entries.last() else {
+        let Ok(place) = self.place_of(node, side) else {
             return Lookup::Unknown;
         };
-        if last.side != side || last.key != *node.key() {
-            return Lookup::Unknown;
-        }
-        let Some(Entry { stage, .. }) = self.entries.pop() else {
-            return Lookup::Unknown;
-        };
+        let Entry { stage, .. } = self.entries.remove(place);
         match stage {
             ChildStage::WorkedOut(worked) => worked.child_of(node, side),
             ChildStage::Posted(_) | ChildStage::Unposted => Lookup::Unknown,

@@ -1,4 +1,4 @@
 use Rattle.mapf_solve.proofs.solving.solve_from.Given as goal
 
-abbrev pub ghosts-solve_root : goal.ghosts-solve_root
-ghosts-solve_root g a = record { problem = a.problem.now }
+abbrev pub ghosts-solve_in_sessions : goal.ghosts-solve_in_sessions
+ghosts-solve_in_sessions g a = record { problem = a.problem.now }

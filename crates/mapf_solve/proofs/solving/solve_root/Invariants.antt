@@ -1,9 +1,0 @@
-use Rattle.std.proofs.Common.{◌≡◌, Ok, None}
-use Rattle.mapf_tree.proofs.Remaining.{remaining}
-use Rattle.mapf_solve.proofs.solving.solve_root.Given as goal
-
-abbrev pub invariant-loop-sessions : goal.invariant-loop-sessions
-invariant-loop-sessions g l = l.sessions.search.outcome ≡ Ok None
-
-abbrev pub decreases-loop-sessions : goal.decreases-loop-sessions
-decreases-loop-sessions g l = remaining g.P.OneProblem.problem l.sessions.search.last
