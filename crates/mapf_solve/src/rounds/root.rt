@@ -25,8 +25,7 @@ pub(crate) fn root<R: Threads + Sync, G: Gate, S: Supply>(
     ensures { IfOk result (IsRoot problem.now) }
 {
     let jobs = path_jobs(means.alloc, problem, first)?;
-    let work = PathWork::new(means.alloc);
-    let found = answer_round(means, &work, &jobs)?;
+    let found = answer_round(means, PathWork::new(means.alloc), jobs)?;
     match all_of(means.alloc, found)? {
         Some(paths) => root_with(means.alloc, problem, paths),
         None => Ok(None),

@@ -10,19 +10,21 @@ use mapf_grid::NoMemory;
 use std::thread::Threads;
 
 /// The answers to at most 1,000 jobs, in their order.
-pub(crate) fn answer_round<R: Threads + Sync, W: Work, O: Order<W> + Sync, G: Gate, S: Supply>(
-    means: &Means<'_, R, G, S>,
-    work: &W,
-    jobs: &[O],
-) -> Result<Vec<W::Answer>, NoMemory>
-    requires jobs { length jobs.now ≤ MOST_TICKETS }
-    ensures { IfOk result (λ answers. AllZip W.fits (map O.ordered jobs.now) answers.items) }
+pub(crate) fn answer_round<
+    R: Threads + Sync,
+    W: Work + Drop,
+    O: Order<W> + Sync + Drop,
+    G: Gate,
+    S: Supply,
+>(means: &Means<'_, R, G, S>, work: W, jobs: Vec<O>) -> Result<Vec<W::Answer>, NoMemory>
+    requires { length jobs.items ≤ MOST_TICKETS }
+    ensures { IfOk result (λ answers. AllZip W.fits (map O.ordered jobs.items) answers.items) }
 {
     let Ok(answers) = answer_all(
         means.rt,
         means.alloc,
-        work,
-        jobs,
+        &work,
+        &jobs,
         means.gate,
         means.supply,
         means.workers,

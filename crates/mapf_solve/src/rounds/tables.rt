@@ -22,8 +22,7 @@ pub(crate) fn tables<R: Threads + Sync, G: Gate, S: Supply>(
     ensures { IfOk result (λ tables. HasDistances instance.now tables.items) }
 {
     let jobs = goal_jobs(means.alloc, instance)?;
-    let work = GoalWork::new(means.alloc);
-    answer_round(means, &work, &jobs)
+    answer_round(means, GoalWork::new(means.alloc), jobs)
 }
 
 /// A job for each agent's goal.
