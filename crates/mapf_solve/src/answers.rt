@@ -152,7 +152,7 @@ pub(crate) fn asked_problem(problem: Problem, ask: Ask) -> Problem
     requires limit { IsLimit ask.nodes }
     ensures { result ≡ problem_of problem.inst ask }
 {
-    limited(ruled(problem, ask.rule), ask.nodes)
+    with_limit(with_rule(problem, ask.rule), ask.nodes)
 }
 
 /// Whether a search may be limited so: not at all, or to 1 to 1,000,000 nodes.
@@ -166,7 +166,7 @@ fn is_limit(nodes: Option<u64>) -> bool
 }
 
 /// The problem with this limit on nodes, if it is one.
-fn limited(problem: Problem, nodes: Option<u64>) -> Problem
+fn with_limit(problem: Problem, nodes: Option<u64>) -> Problem
     requires fresh { problem.nodes ≡ None }
     requires limit { IsLimit nodes }
     ensures { result ≡ record { inst = problem.inst; bound = problem.bound; nodes = nodes; rule = problem.rule } }
@@ -178,7 +178,7 @@ fn limited(problem: Problem, nodes: Option<u64>) -> Problem
 }
 
 /// The problem by this rule.
-fn ruled(problem: Problem, rule: Rule) -> Problem
+fn with_rule(problem: Problem, rule: Rule) -> Problem
     requires { problem.rule ≡ Rule.Classical }
     ensures { result ≡ record { inst = problem.inst; bound = problem.bound; nodes = problem.nodes; rule = rule } }
 {

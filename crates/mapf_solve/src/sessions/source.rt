@@ -15,6 +15,9 @@ use mapf_board::{Found, Gate, MOST_SLOTS, Owner};
 use mapf_grid::NoMemory;
 use mapf_tree::{Children, Node, OpenList, Problem, Side};
 
+/// The waiting nodes aren't looked at again for at most so many nodes: as many as one look is for with 64 workers.
+const LONGEST_PAUSE: usize = 256;
+
 /// The owner's part of a session: the search's source of children, of which some are worked ahead on a board.
 ///
 /// Its methods know nothing of the gate: only as a source of children it calls it.
@@ -25,6 +28,8 @@ pub(crate) struct SessionSource<'p, 's, P: OneProblem, B: OneBoard, G> {
     gate: &'s G,
     /// For so many nodes no job is looked for, since lately there was none.
     quiet: usize,
+    /// For so many nodes none will be looked for, if the next look finds none.
+    pause: usize,
 }
 
 impl<'p, 's, P: OneProblem, B: OneBoard, G> SessionSource<'p, 's, P, B, G> {
@@ -38,11 +43,13 @@ impl<'p, 's, P: OneProblem, B: OneBoard, G> SessionSource<'p, 's, P, B, G> {
     ) -> SessionSource<'p, 's, P, B, G>
         requires { AllStand P.problem waiting.now }
     {
+        let pause = lookahead.nodes;
         let mut source = SessionSource {
             lookahead,
             desk,
             gate,
             quiet: 1,
+            pause,
         };
         source.post_all(waiting);
         source
@@ -153,15 +160,19 @@ impl<'p, 's, P: OneProblem, B: OneBoard, G: Gate> Children for SessionSource<'p,
         self.lookahead.children(node)
     }
 
-    // Where no job is to be posted, the nodes aren't looked at again for as many nodes as are looked at.
+    // Where no job is to be posted, the nodes aren't looked at again for as many nodes as are looked at, and for twice as many
+    // each further time.
     fn ahead(&mut self, _problem: &Problem, waiting: &OpenList) {
         if self.quiet > 0 {
             self.quiet -= 1;
             return;
         }
         self.collect_all();
-        if !self.post_all(waiting) {
-            self.quiet = self.lookahead.nodes;
+        if self.post_all(waiting) {
+            self.pause = self.lookahead.nodes;
+        } else {
+            self.quiet = self.pause;
+            self.pause = self.pause.saturating_mul(2).min(LONGEST_PAUSE);
         }
     }
 }

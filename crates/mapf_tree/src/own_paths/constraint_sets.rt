@@ -178,7 +178,7 @@ impl ConstraintSets {
     }
 
     /// The set with this constraint more, where it is known. The guess is the number that the extension may have.
-    pub(crate) fn extended(
+    pub(crate) fn find_set_after(
         &self,
         guess: usize,
         before: usize,
@@ -228,18 +228,18 @@ pub(crate) fn is_same(one: &Constraint, other: &Constraint) -> bool
 fn set_key(agent: usize, constraints: &[Constraint]) -> u64 {
     let mut key = agent as u64;
     for constraint in constraints {
-        key = mixed(key, constraint);
+        key = mix(key, constraint);
     }
     key
 }
 
 /// A number for a set with one constraint more. Others seldom have the same, and nothing rests on it.
 fn extension_key(set: usize, constraint: &Constraint) -> u64 {
-    mixed((set as u64).wrapping_mul(MIXER), constraint)
+    mix((set as u64).wrapping_mul(MIXER), constraint)
 }
 
 /// A number that one more constraint goes into.
-fn mixed(number: u64, constraint: &Constraint) -> u64 {
+fn mix(number: u64, constraint: &Constraint) -> u64 {
     let (from, to, time) = match *constraint {
         Constraint::Vertex { cell, time } => (cell, cell, time),
         Constraint::Edge { from, to, time } => (from, to, time),

@@ -5,7 +5,7 @@ ghost use Rattle.std.specs.Arc.{arc_value};
 ghost use Rattle.mapf_plan.specs.Path.{cost};
 ghost use Rattle.mapf_plan.specs.Plan.{path_of, plan_cost, most_bound};
 ghost use Rattle.mapf_tree.specs.Family.{IsBranching, IsChildOf, Leaves};
-ghost use Rattle.mapf_tree.specs.Lookup.{IfKnown};
+ghost use Rattle.mapf_low.specs.Lookup.{IfKnown};
 
 mod low_level;
 

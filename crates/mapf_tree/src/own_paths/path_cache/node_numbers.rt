@@ -195,7 +195,7 @@ fn extend_set(known: &ConstraintSets, sets: &mut Vec<usize>, change: &Change) ->
     if change.agent >= sets.len() {
         return false;
     }
-    match known.extended(change.extension, sets[change.agent], &change.constraint) {
+    match known.find_set_after(change.extension, sets[change.agent], &change.constraint) {
         Some(set) => {
             sets[change.agent] = set;
             true
