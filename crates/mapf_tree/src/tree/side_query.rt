@@ -11,9 +11,9 @@ mod low_level;
 
 use crate::node::change::Change;
 use crate::tree::sides::{agent_of, constraint_of};
-use crate::{Lookup, Node, Problem, Side};
+use crate::{Node, Problem, Side};
 use mapf_grid::NoMemory;
-use mapf_low::{Constraint, Constraints};
+use mapf_low::{Constraint, Constraints, Lookup};
 use mapf_plan::Path;
 use std::alloc::Global;
 use std::marker::Model;
