@@ -6,7 +6,7 @@ use Rattle.mapf_tree.specs.declared.search.progress.Progress.TheVariants.{Workin
 use Rattle.mapf_tree.specs.Problem.{Problem}
 use Rattle.mapf_tree.specs.Search.{Searched, TakesBetween}
 use Rattle.mapf_tree.proofs.Remaining.{remaining, remaining_falls}
-use Rattle.mapf_solve.specs.Sessions.{HasTaken, HasTakenUpTo}
+use Rattle.mapf_solve.specs.Sessions.{HasTaken}
 
 -- as the search tells it
 pub went_on : (p q : Problem) (n : ℕ) (from : Option (List ℕ)) (s : Searched) (r : Result Progress NoMemory) → q ≡ p →
@@ -16,13 +16,13 @@ went_on p q n from s (Ok Finished) e w f = let k = f refl in (k.0, k.1, subst (�
 went_on p q n from s (Err refused) e w f = tt
 
 -- while it goes on there is no answer yet
-pub still_open : (p : Problem) (most : ℕ) (from : Option (List ℕ)) (s : Searched) (r : Result Progress NoMemory) → HasTakenUpTo p most from s r → r ≡ Ok Working → s.outcome ≡ Ok None
-still_open p most from s (Ok Working) went on = went.3.0
-still_open p most from s (Ok Finished) went on = cc
-still_open p most from s (Err refused) went on = cc
+pub still_open : (p : Problem) (n : ℕ) (from : Option (List ℕ)) (s : Searched) (r : Result Progress NoMemory) → HasTaken p n from s r → r ≡ Ok Working → s.outcome ≡ Ok None
+still_open p n from s (Ok Working) went on = went.0
+still_open p n from s (Ok Finished) went on = cc
+still_open p n from s (Err refused) went on = cc
 
 -- and fewer nodes are left
-pub falls : (p : Problem) (most : ℕ) (from : Option (List ℕ)) (s : Searched) (r : Result Progress NoMemory) → HasTakenUpTo p most from s r → r ≡ Ok Working → remaining p s.last < remaining p from
-falls p most from s (Ok Working) went on = remaining_falls p p from s.last went.0 refl went.1 went.3.1
-falls p most from s (Ok Finished) went on = cc
-falls p most from s (Err refused) went on = cc
+pub falls : (p : Problem) (n : ℕ) (from : Option (List ℕ)) (s : Searched) (r : Result Progress NoMemory) → 1 ≤ n → HasTaken p n from s r → r ≡ Ok Working → remaining p s.last < remaining p from
+falls p n from s (Ok Working) some went on = remaining_falls p p from s.last n refl some went.1
+falls p n from s (Ok Finished) some went on = cc
+falls p n from s (Err refused) some went on = cc

@@ -27,7 +27,3 @@ abbrev pub HasTaken : Problem → ℕ → Option (List ℕ) → Searched → Res
 HasTaken p n from s (Ok Working) = (s.outcome ≡ Ok None) × TakesBetween p from s.last n
 HasTaken p n from s (Ok Finished) = (m : ℕ) × (m ≤ n) × TakesBetween p from s.last m
 HasTaken p n from s (Err _) = Unit {0}
-
--- it went on so by some number of nodes: by one at least, and by so many at most
-abbrev pub HasTakenUpTo : Problem → ℕ → Option (List ℕ) → Searched → Result Progress NoMemory → Type 0
-HasTakenUpTo p most from s r = (n : ℕ) × (1 ≤ n) × (n ≤ most) × HasTaken p n from s r

@@ -1,6 +1,6 @@
 //! A problem's answer.
 
-ghost use Rattle.std.specs.Prelude.{◌≡◌, ◌<◌, ◌≤◌, IfOk};
+ghost use Rattle.std.specs.Prelude.{◌≡◌, ◌<◌, ◌≤◌, IfOk, None, Ok};
 ghost use Rattle.mapf_tree.specs.Answered.{IsAnswerOf, IsBestAnswer};
 ghost use Rattle.mapf_board.specs.declared.limits.TheConstants.{MOST_WORKERS};
 ghost use Rattle.mapf_solve.specs.declared.pace.TheConstants.{MOST_SESSION_NODES, MOST_WORKER_TURNS};
@@ -128,7 +128,7 @@ pub(crate) fn solve_from<R: Threads + Sync, G: Gate, S: Supply, W: Watch>(
     solve_in_sessions::<Brand, R, G, S, W>(means, problem, first, watch)
 }
 
-/// The same, by a search that goes on in sessions. The jobs of the root come before theirs.
+/// The same, by a search that goes on in sessions.
 fn solve_in_sessions<P: OneProblem + Send + Sync, R: Threads + Sync, G: Gate, S: Supply, W: Watch>(
     means: &Means<'_, R, G, S>,
     problem: &Problem,
@@ -138,11 +138,7 @@ fn solve_in_sessions<P: OneProblem + Send + Sync, R: Threads + Sync, G: Gate, S:
     requires { problem.now ≡ P.problem }
     ensures { IfOk result (IsAnswerOf P.problem) }
 {
-    let next = first.saturating_add(problem.instance().agents() as u64);
-    let lookahead = Lookahead::<P>::new(means.alloc, problem, means.workers, next)?;
-    let root = root(means, problem, first)?;
-    let search = Search::from_root(means.alloc, problem, root)?;
-    let mut sessions = SessionSearch { search, lookahead };
+    let mut sessions = begin::<P, R, G, S>(means, problem, first)?;
     tell::<P, W>(watch, &sessions.search);
     loop {
         let (further, progress) = session(means, sessions);
@@ -154,4 +150,20 @@ fn solve_in_sessions<P: OneProblem + Send + Sync, R: Threads + Sync, G: Gate, S:
     }
     let SessionSearch { search, .. } = sessions;
     search.into_answer().ok_or(NoMemory)
+}
+
+/// A search of the root, whose jobs come before those of the sessions.
+fn begin<'p, P: OneProblem, R: Threads + Sync, G: Gate, S: Supply>(
+    means: &Means<'_, R, G, S>,
+    problem: &'p Problem,
+    first: u64,
+) -> Result<SessionSearch<'p, P>, NoMemory>
+    requires { problem.now ≡ P.problem }
+    ensures { IfOk result (λ sessions. sessions.search.outcome ≡ Ok None) }
+{
+    let next = first.saturating_add(problem.instance().agents() as u64);
+    let lookahead = Lookahead::<P>::new(means.alloc, problem, means.workers, next)?;
+    let root = root(means, problem, first)?;
+    let search = Search::from_root(means.alloc, problem, root)?;
+    Ok(SessionSearch { search, lookahead })
 }

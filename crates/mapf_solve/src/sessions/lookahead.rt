@@ -1,20 +1,21 @@
 //! What sessions of a search hand on: own paths, and what is known of children of nodes that wait.
 
-ghost use Rattle.std.specs.Prelude.{◌≡◌, ◌<◌, ◌≤◌, All, IfErr, IfOk, IfSome, vec_len};
+ghost use Rattle.std.specs.Prelude.{◌≡◌, ◌<◌, ◌≤◌, All, IfErr, IfOk, IfSome, None, Ok, vec_len};
 ghost use Rattle.mapf_board.specs.declared.limits.TheConstants.{MOST_WORKERS};
 ghost use Rattle.mapf_tree.specs.Family.{IsBranching, IsChildOf};
 ghost use Rattle.mapf_low.specs.Lookup.{IfKnown};
 ghost use Rattle.mapf_tree.specs.SideQuery.{IsQueryOf};
-ghost use Rattle.mapf_solve.specs.Sessions.{IsGivenOf};
+ghost use Rattle.mapf_solve.specs.Sessions.{HasTaken, IsGivenOf};
 
 use crate::sessions::brands::OneProblem;
 use crate::sessions::child_stage::{ChildOfJob, ChildStage, Entry};
 use crate::sessions::desk::{Given, Slot};
+use crate::sessions::rest::Rest;
 use crate::sessions::side_job::{SideJob, SideWork};
 use mapf_board::{Left, Pair, Work};
 use mapf_grid::NoMemory;
 use mapf_low::Lookup;
-use mapf_tree::{Key, Node, OwnPaths, Problem, Side, SideQuery};
+use mapf_tree::{Key, Node, OwnPaths, Problem, Progress, Search, Side, SideQuery};
 use std::alloc::Global;
 use std::cmp::Ordering;
 
@@ -24,11 +25,14 @@ pub(crate) struct Lookahead<'p, P: OneProblem> {
     own_paths: OwnPaths<'p>,
     /// The greatest key first, and a right side before a left one: what is next to be asked for is the last.
     entries: Vec<Entry<'p, P>>,
-    /// Of how many waiting nodes children are worked ahead.
-    pub(crate) nodes: usize,
+    /// How many workers there are.
+    pub(crate) workers: usize,
     /// The number of the next job.
     next: u64,
+    /// How many sessions go on without workers.
+    rest: Rest,
     ghost is_of: { own_paths ≡ P.problem },
+    ghost few: { workers ≤ MOST_WORKERS },
 }
 
 // By hand, so that a proof about what holds one sees a call where it is dropped, and not its fields.
@@ -38,8 +42,9 @@ impl<'p, P: OneProblem> Drop for Lookahead<'p, P> {
             alloc: _,
             own_paths: _,
             entries: _,
-            nodes: _,
+            workers: _,
             next: _,
+            rest: _,
         } = self;
     }
 }
@@ -59,8 +64,9 @@ impl<'p, P: OneProblem> Lookahead<'p, P> {
             alloc,
             own_paths: OwnPaths::new(alloc, problem)?,
             entries: Vec::new(alloc),
-            nodes: 4 * workers,
+            workers,
             next,
+            rest: Rest::new(),
         })
     }
 
@@ -148,7 +154,10 @@ impl<'p, P: OneProblem> Lookahead<'p, P> {
         requires { IsGivenOf P.problem given }
     {
         match given {
-            Left::Answer(pair) => self.learn(pair),
+            Left::Answer(pair) => {
+                self.rest.count();
+                self.learn(pair);
+            }
             Left::Job(job) => self.give_up(&job),
         }
     }
@@ -188,6 +197,31 @@ impl<'p, P: OneProblem> Lookahead<'p, P> {
         if let Ok(place) = self.place_of(job.node(), job.side()) {
             self.entries.remove(place);
         }
+    }
+
+    /// Whether the session that begins is one without workers.
+    pub(crate) fn rests(&mut self) -> bool {
+        self.rest.take()
+    }
+
+    /// A session with workers ended, in which at most so many nodes were taken: whether workers are worth it is judged by it.
+    pub(crate) fn judge(&mut self, nodes: u64) {
+        self.rest.judge(nodes);
+    }
+
+    /// A search goes on by so many nodes, and nothing is worked ahead for it.
+    pub(crate) fn lead_alone(
+        &mut self,
+        search: &mut Search<'p>,
+        nodes: u64,
+    ) -> Result<Progress, NoMemory>
+        requires problem { search.old.problem ≡ P.problem }
+        requires open_yet { search.old.outcome ≡ Ok None }
+        ensures problem { search.new.problem ≡ P.problem }
+        ensures went { HasTaken P.problem nodes search.old.last search.new result }
+    {
+        self.entries.clear();
+        search.go(&mut self.own_paths, nodes)
     }
 
     /// The children of the node whose turn it is, of which what was worked ahead is used.

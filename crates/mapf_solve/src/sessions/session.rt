@@ -4,7 +4,7 @@ ghost use Rattle.std.specs.Prelude.{◌≡◌, IfOk, None, Ok};
 ghost use Rattle.mapf_board.specs.Owners.{IsOwnerOf, board_of, currents};
 ghost use Rattle.mapf_board.specs.Workers.{IsCrewOf, size_of};
 ghost use Rattle.mapf_board.specs.declared.limits.TheConstants.{MOST_SLOTS};
-ghost use Rattle.mapf_solve.specs.Sessions.{AreSidesOf, HasTaken, HasTakenUpTo};
+ghost use Rattle.mapf_solve.specs.Sessions.{AreSidesOf, HasTaken};
 
 use crate::means::Means;
 use crate::sessions::brands::{OneBoard, OneProblem};
@@ -20,9 +20,6 @@ use mapf_tree::{Progress, Search};
 use std::marker::Brand;
 use std::thread::Threads;
 
-/// The most nodes that a session takes which begins without a job, and so without workers.
-const QUIET_NODES: u64 = 256;
-
 /// A search, and what each of its sessions hands on to the next.
 #[derive(Drop)]
 pub(crate) struct SessionSearch<'p, P: OneProblem> {
@@ -34,14 +31,32 @@ pub(crate) struct SessionSearch<'p, P: OneProblem> {
 /// A search and its source of children.
 ///
 /// They are one value, so that a closure that has both has one lifetime of the problem, and not one for each of them.
-#[derive(Drop)]
 struct Led<'p, 's, P: OneProblem, B: OneBoard, G> {
     search: Search<'p>,
     source: SessionSource<'p, 's, P, B, G>,
     ghost of_problem: { search.problem ≡ P.problem },
 }
 
+// By hand, so that a proof about what holds both sees a call where they are dropped, and not their fields.
+impl<'p, 's, P: OneProblem, B: OneBoard, G> Drop for Led<'p, 's, P, B, G> {
+    fn drop(self) {
+        let Led {
+            search: _,
+            source: _,
+        } = self;
+    }
+}
+
 impl<'p, 's, P: OneProblem, B: OneBoard, G: Gate> Led<'p, 's, P, B, G> {
+    /// The search and its source.
+    fn into_parts(self) -> (Search<'p>, SessionSource<'p, 's, P, B, G>)
+        ensures search { result.0 ≡ self.entry.search }
+        ensures problem { result.0.problem ≡ P.problem }
+    {
+        let Led { search, source } = self;
+        (search, source)
+    }
+
     /// The owner's part of a session: so many nodes are taken, then the board is shut.
     fn lead(self, nodes: u64) -> (Led<'p, 's, P, B, G>, Result<Progress, NoMemory>)
         requires { self.search.outcome ≡ Ok None }
@@ -55,10 +70,22 @@ impl<'p, 's, P: OneProblem, B: OneBoard, G: Gate> Led<'p, 's, P, B, G> {
         source.desk.shut();
         (Led { search, source }, progress)
     }
+
+    /// The same where no worker is beside, and nothing is worked ahead.
+    fn lead_alone(self, nodes: u64) -> (Led<'p, 's, P, B, G>, Result<Progress, NoMemory>)
+        requires { self.search.outcome ≡ Ok None }
+        ensures { HasTaken P.problem nodes self.entry.search.last result.0.search result.1 }
+    {
+        let Led {
+            mut search,
+            mut source,
+        } = self;
+        let progress = source.lookahead.lead_alone(&mut search, nodes);
+        (Led { search, source }, progress)
+    }
 }
 
-/// The owner's part of a session, and beside it that of the workers, where there is a job for them. Without workers few nodes
-/// are taken, so that it is soon seen whether there are jobs.
+/// The owner's part of a session, and beside it that of the workers, where there is a job for them.
 fn lead_with_workers<
     'p,
     's,
@@ -76,13 +103,13 @@ fn lead_with_workers<
     Result<Crew<'s, SideWork<'p>>, mapf_board::NoMemory>,
 )
     requires { led.search.outcome ≡ Ok None }
-    ensures went { HasTakenUpTo P.problem means.now.pace.session_nodes led.entry.search.last
+    ensures went { HasTaken P.problem means.now.pace.session_nodes led.entry.search.last
         result.0.0.search result.0.1 }
     ensures crew { IfOk result.1 (λ back. back.live.now ≡ crew.entry.live.now) }
 {
     let nodes = means.pace.session_nodes;
     if !led.source.desk.has_jobs() {
-        return (led.lead(nodes.min(QUIET_NODES)), Ok(crew));
+        return (led.lead_alone(nodes), Ok(crew));
     }
     let (crew, led) = work_beside(
         means.rt,
@@ -128,7 +155,7 @@ fn session_at<
     requires sides { AreSidesOf P.problem (currents owner) }
     requires crew { IsCrewOf live.now seats.items }
     requires open_yet { sessions.search.outcome ≡ Ok None }
-    ensures went { HasTakenUpTo P.problem means.now.pace.session_nodes sessions.entry.search.last
+    ensures went { HasTaken P.problem means.now.pace.session_nodes sessions.entry.search.last
         result.0.search result.1 }
     ensures owns { IsOwnerOf live.now result.2 }
     ensures sides { AreSidesOf P.problem (currents result.2) }
@@ -139,20 +166,19 @@ fn session_at<
     let source = SessionSource::begin(lookahead, desk, means.gate, search.waiting());
     let led = Led { search, source };
     let ((led, progress), crew) = lead_with_workers(means, Crew::of(live, seats), led);
-    let Led { search, source } = led;
+    let (search, source) = led.into_parts();
     let (lookahead, owner) = source.into_parts();
     let sessions = SessionSearch { search, lookahead };
     (sessions, progress, owner, seats_of(live, crew))
 }
 
-/// One session: nodes are taken, and workers beside work out children of those that wait. How the search went on, for one node
-/// at least and at most as many as a session takes.
-pub(crate) fn session<'p, P: OneProblem + Send + Sync, R: Threads + Sync, G: Gate, S: Supply>(
+/// A session at a board of its own, which is closed behind it.
+fn session_with_board<'p, P: OneProblem + Send + Sync, R: Threads + Sync, G: Gate, S: Supply>(
     means: &Means<'_, R, G, S>,
     sessions: SessionSearch<'p, P>,
 ) -> (SessionSearch<'p, P>, Result<Progress, NoMemory>)
     requires { sessions.search.outcome ≡ Ok None }
-    ensures { HasTakenUpTo P.problem means.now.pace.session_nodes sessions.entry.search.last
+    ensures { HasTaken P.problem means.now.pace.session_nodes sessions.entry.search.last
         result.0.search result.1 }
 {
     let Ok((live, owner, seats)) = Live::<SideWork<'p>>::new(means.alloc, MOST_SLOTS, means.workers)
@@ -169,4 +195,40 @@ pub(crate) fn session<'p, P: OneProblem + Send + Sync, R: Threads + Sync, G: Gat
         }
         Err(_) => (sessions, Err(NoMemory)),
     }
+}
+
+/// A session without a board.
+fn session_alone<'p, P: OneProblem>(
+    sessions: SessionSearch<'p, P>,
+    nodes: u64,
+) -> (SessionSearch<'p, P>, Result<Progress, NoMemory>)
+    requires { sessions.search.outcome ≡ Ok None }
+    ensures { HasTaken P.problem nodes sessions.entry.search.last result.0.search result.1 }
+{
+    let SessionSearch {
+        mut search,
+        mut lookahead,
+    } = sessions;
+    let progress = lookahead.lead_alone(&mut search, nodes);
+    (SessionSearch { search, lookahead }, progress)
+}
+
+/// One session: nodes are taken, and workers beside work out children of those that wait, unless they rest. How the search went
+/// on, for as many nodes as a session takes.
+pub(crate) fn session<'p, P: OneProblem + Send + Sync, R: Threads + Sync, G: Gate, S: Supply>(
+    means: &Means<'_, R, G, S>,
+    sessions: SessionSearch<'p, P>,
+) -> (SessionSearch<'p, P>, Result<Progress, NoMemory>)
+    requires { sessions.search.outcome ≡ Ok None }
+    ensures { HasTaken P.problem means.now.pace.session_nodes sessions.entry.search.last
+        result.0.search result.1 }
+{
+    let nodes = means.pace.session_nodes;
+    let mut sessions = sessions;
+    if sessions.lookahead.rests() {
+        return session_alone(sessions, nodes);
+    }
+    let (mut sessions, progress) = session_with_board(means, sessions);
+    sessions.lookahead.judge(nodes);
+    (sessions, progress)
 }

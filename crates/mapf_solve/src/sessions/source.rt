@@ -15,26 +15,31 @@ use mapf_board::{Found, Gate, MOST_SLOTS, Owner};
 use mapf_grid::NoMemory;
 use mapf_tree::{Children, Node, OpenList, Problem, Side};
 
-/// The waiting nodes aren't looked at again for at most so many nodes: as many as one look is for with 64 workers.
-const LONGEST_PAUSE: usize = 256;
-
 /// The owner's part of a session: the search's source of children, of which some are worked ahead on a board.
 ///
 /// Its methods know nothing of the gate: only as a source of children it calls it.
-#[derive(Drop)]
 pub(crate) struct SessionSource<'p, 's, P: OneProblem, B: OneBoard, G> {
-    lookahead: Lookahead<'p, P>,
+    pub(crate) lookahead: Lookahead<'p, P>,
     pub(crate) desk: Desk<'p, 's, P, B>,
     gate: &'s G,
-    /// For so many nodes no job is looked for, since lately there was none.
-    quiet: usize,
-    /// For so many nodes none will be looked for, if the next look finds none.
-    pause: usize,
+    /// For so many nodes the waiting ones aren't looked at again.
+    looked: usize,
+}
+
+// By hand, so that a proof about what holds a source sees a call where it is dropped, and not its fields.
+impl<'p, 's, P: OneProblem, B: OneBoard, G> Drop for SessionSource<'p, 's, P, B, G> {
+    fn drop(self) {
+        let SessionSource {
+            lookahead: _,
+            desk: _,
+            gate: _,
+            looked: _,
+        } = self;
+    }
 }
 
 impl<'p, 's, P: OneProblem, B: OneBoard, G> SessionSource<'p, 's, P, B, G> {
-    /// The source of a session that begins with jobs for these nodes. The first node is taken of the same ones, so there is
-    /// nothing to be posted before that.
+    /// The source of a session that begins with jobs for these nodes.
     pub(crate) fn begin(
         lookahead: Lookahead<'p, P>,
         desk: Desk<'p, 's, P, B>,
@@ -43,13 +48,11 @@ impl<'p, 's, P: OneProblem, B: OneBoard, G> SessionSource<'p, 's, P, B, G> {
     ) -> SessionSource<'p, 's, P, B, G>
         requires { AllStand P.problem waiting.now }
     {
-        let pause = lookahead.nodes;
         let mut source = SessionSource {
             lookahead,
             desk,
             gate,
-            quiet: 1,
-            pause,
+            looked: 0,
         };
         source.post_all(waiting);
         source
@@ -63,7 +66,8 @@ impl<'p, 's, P: OneProblem, B: OneBoard, G> SessionSource<'p, 's, P, B, G> {
         let SessionSource {
             lookahead,
             desk,
-            ..
+            gate: _,
+            looked: _,
         } = self;
         (lookahead, desk.into_owner())
     }
@@ -79,40 +83,27 @@ impl<'p, 's, P: OneProblem, B: OneBoard, G> SessionSource<'p, 's, P, B, G> {
     }
 
     /// Posts jobs for the children of the first waiting nodes of which nothing is known, left first, as long as there is a free
-    /// slot. Whether one was posted.
-    fn post_all(&mut self, waiting: &OpenList) -> bool
+    /// slot.
+    fn post_all(&mut self, waiting: &OpenList)
         requires { AllStand P.problem waiting.now }
     {
-        let mut has_posted = false;
-        for node in waiting.first(self.lookahead.nodes) {
-            if may_have_jobs(node) && self.post_sides(node) {
-                has_posted = true;
+        for node in waiting.first(4 * self.lookahead.workers) {
+            if may_have_jobs(node) {
+                self.post(node, Side::Left);
+                self.post(node, Side::Right);
             }
         }
-        has_posted
     }
 
-    /// Posts the jobs for both children of a node, left first. Whether one was posted.
-    fn post_sides(&mut self, node: &Node) -> bool
+    /// Posts the job for a child of a node, if nothing is known of it and a slot is free.
+    fn post(&mut self, node: &Node, side: Side)
         requires { IsBranching P.problem node.now }
     {
-        let left = self.post(node, Side::Left);
-        let right = self.post(node, Side::Right);
-        left || right
-    }
-
-    /// Posts the job for a child of a node, if nothing is known of it and a slot is free. Whether it was posted.
-    fn post(&mut self, node: &Node, side: Side) -> bool
-        requires { IsBranching P.problem node.now }
-    {
-        let Some(slot) = self.desk.free_slot() else {
-            return false;
-        };
-        let Some(job) = self.lookahead.job(node, side, slot) else {
-            return false;
-        };
-        self.desk.post(slot, job);
-        true
+        if let Some(slot) = self.desk.free_slot() {
+            if let Some(job) = self.lookahead.job(node, side, slot) {
+                self.desk.post(slot, job);
+            }
+        }
     }
 
     /// What became of the job for a child of the node that is expanded, if there is one, is kept. A job that nobody claimed
@@ -160,20 +151,16 @@ impl<'p, 's, P: OneProblem, B: OneBoard, G: Gate> Children for SessionSource<'p,
         self.lookahead.children(node)
     }
 
-    // Where no job is to be posted, the nodes aren't looked at again for as many nodes as are looked at, and for twice as many
-    // each further time.
+    // The nodes are looked at once for as many nodes as there are workers, so that a look costs each node the same for any number
+    // of them.
     fn ahead(&mut self, _problem: &Problem, waiting: &OpenList) {
-        if self.quiet > 0 {
-            self.quiet -= 1;
+        if self.looked > 0 {
+            self.looked -= 1;
             return;
         }
         self.collect_all();
-        if self.post_all(waiting) {
-            self.pause = self.lookahead.nodes;
-        } else {
-            self.quiet = self.pause;
-            self.pause = self.pause.saturating_mul(2).min(LONGEST_PAUSE);
-        }
+        self.post_all(waiting);
+        self.looked = self.lookahead.workers.saturating_sub(1);
     }
 }
 

@@ -1,0 +1,60 @@
+//! When a search goes on without workers.
+
+/// Workers found too little to do where they worked out fewer children than one for so many nodes.
+const NODES_A_CHILD: u64 = 4;
+
+/// How many sessions go on without workers at first, and by what that grows.
+const FIRST: u64 = 4;
+
+/// The most sessions in a row without workers.
+const LONGEST: u64 = 64;
+
+/// How many sessions go on without workers, where these found too little to do: 4, and each further time 4 times as many, up to 64.
+///
+/// A thread that looks for jobs slows the one that searches, on a machine whose processors share a core. No answer depends on who
+/// works a child out.
+#[derive(Drop)]
+pub(crate) struct Rest {
+    /// How many sessions without workers are left.
+    sessions: u64,
+    /// How many there are to be next.
+    next: u64,
+    /// How many children workers worked out in this session.
+    children: u64,
+}
+
+impl Rest {
+    /// There are workers in the first session.
+    pub(crate) fn new() -> Rest {
+        Rest {
+            sessions: 0,
+            next: FIRST,
+            children: 0,
+        }
+    }
+
+    /// A worker worked a child out.
+    pub(crate) fn count(&mut self) {
+        self.children = self.children.saturating_add(1);
+    }
+
+    /// Whether the session that begins is one without workers.
+    pub(crate) fn take(&mut self) -> bool {
+        if self.sessions == 0 {
+            return false;
+        }
+        self.sessions -= 1;
+        true
+    }
+
+    /// A session with workers ended, in which at most so many nodes were taken.
+    pub(crate) fn judge(&mut self, nodes: u64) {
+        if self.children < nodes / NODES_A_CHILD {
+            self.sessions = self.next;
+            self.next = self.next.saturating_mul(FIRST).min(LONGEST);
+        } else {
+            self.next = FIRST;
+        }
+        self.children = 0;
+    }
+}
