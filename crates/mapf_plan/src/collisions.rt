@@ -1,13 +1,11 @@
 //! How the first conflict of a plan is found.
 
-mod earlier;
 mod first_collision;
 mod first_conflict;
 mod first_of_pair;
 mod marks;
 mod step_conflicts;
 
-pub(crate) use earlier::earlier;
 pub(crate) use first_collision::first_time_of_two;
 pub(crate) use first_conflict::first_conflict_from;
 pub use first_conflict::first_conflict_of_changed;

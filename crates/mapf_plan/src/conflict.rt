@@ -1,5 +1,7 @@
-ghost use Rattle.std.specs.Prelude.{◌≡◌, ◌↔◌, IsTrue};
+ghost use Rattle.std.specs.Prelude.{◌≡◌, ◌↔◌, ◌⊎◌, IsTrue};
 ghost use Rattle.mapf_grid.specs.Least.{Precedes};
+ghost use Rattle.mapf_plan.specs.declared.conflict.Conflict.{Conflict};
+ghost use Rattle.mapf_plan.specs.FirstConflict.{IsEarlier};
 ghost use Rattle.mapf_plan.specs.Plan.{conflict_rank, conflict_time};
 
 use mapf_grid::Cell;
@@ -56,31 +58,29 @@ impl Conflict {
     fn rank(&self) -> [u64; 5]
         ensures { result ≡ conflict_rank self.now }
     {
-        match *self {
-            Conflict::Vertex {
-                first,
-                second,
-                time,
-                ..
-            } => [u64::from(time), 0, first as u64, second as u64, 0],
-            Conflict::Swapping {
-                first,
-                second,
-                time,
-                ..
-            } => [u64::from(time), 1, first as u64, second as u64, 0],
+        let (kind, one, other, follower) = match *self {
+            Conflict::Vertex { first, second, .. } => (0, first, second, 0),
+            Conflict::Swapping { first, second, .. } => (1, first, second, 0),
             Conflict::Following {
                 follower,
                 leader,
-                time,
                 ..
-            } => [
-                u64::from(time),
-                2,
-                follower.min(leader) as u64,
-                follower.max(leader) as u64,
-                follower as u64,
-            ],
-        }
+            } => (2, follower.min(leader), follower.max(leader), follower),
+        };
+        let time = u64::from(self.time());
+        [time, kind, one as u64, other as u64, follower as u64]
+    }
+}
+
+/// The one that comes before the other, where both are there.
+pub(crate) fn earlier(known: Option<Conflict>, found: Option<Conflict>) -> Option<Conflict>
+    ensures either { (result ≡ known) ⊎ (result ≡ found) }
+    ensures known { (c : Conflict) → IsEarlier c result → IsEarlier c known }
+    ensures found { (c : Conflict) → IsEarlier c result → IsEarlier c found }
+{
+    match (known, found) {
+        (Some(one), Some(other)) => Some(if other.is_before(&one) { other } else { one }),
+        (Some(one), None) => Some(one),
+        (None, other) => other,
     }
 }

@@ -8,7 +8,8 @@ ghost use Rattle.mapf_plan.specs.Plan.{first_agent, second_agent, IsConflict, Is
 ghost use Rattle.mapf_plan.specs.FirstConflict.{HasNoConflictBefore, IsConflictAt, IsEarlier};
 ghost use Rattle.mapf_plan.specs.PairConflicts.{HavePairConflicts};
 
-use crate::collisions::{earlier, first_conflict_from, pair_at};
+use crate::collisions::{first_conflict_from, pair_at};
+use crate::conflict::earlier;
 use crate::{AgentPaths, Conflict, Rule};
 use mapf_grid::NoMemory;
 

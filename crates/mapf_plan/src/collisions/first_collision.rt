@@ -37,7 +37,8 @@ pub(super) fn first_collision(
     }
 }
 
-/// The same, block by block, where both paths go on to the end of these time steps.
+/// The same, where both paths go on to the end of these time steps: block by block, and step by step only in one in which they
+/// are close.
 fn first_while_both_move(rule: Rule, one: &Path, other: &Path, from: u32, end: u32) -> Option<u32>
     requires before { DontCollideBefore rule one.now other.now from }
     requires within { end ≤ min (cost one.now) (cost other.now) + 1 }
@@ -46,23 +47,12 @@ fn first_while_both_move(rule: Rule, one: &Path, other: &Path, from: u32, end: u
     let mut start = from;
     while start < end {
         let next = start + BLOCK.min(end - start);
-        if let Some(time) = first_of_block(rule, one, other, start, next) {
-            return Some(time);
+        if are_close_within(one, other, start as usize, next as usize) {
+            if let Some(time) = first_step_by_step(rule, one, other, start, next) {
+                return Some(time);
+            }
         }
         start = next;
-    }
-    None
-}
-
-/// The same for one block, which is looked at step by step only where they are close in it.
-fn first_of_block(rule: Rule, one: &Path, other: &Path, from: u32, end: u32) -> Option<u32>
-    requires before { DontCollideBefore rule one.now other.now from }
-    requires block { from < end }
-    requires within { end ≤ min (cost one.now) (cost other.now) + 1 }
-    ensures { IsFirstCollision rule one.now other.now end result }
-{
-    if are_close_within(one, other, from as usize, end as usize) {
-        return first_step_by_step(rule, one, other, from, end);
     }
     None
 }

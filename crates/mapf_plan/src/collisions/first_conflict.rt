@@ -1,6 +1,6 @@
 //! The first conflict of a plan: by time steps as far as most plans need it, and by pairs of agents from there on.
 
-ghost use Rattle.std.specs.Prelude.{ℕ, ◌<◌, ◌≤◌, [], ◌∷◌, length, MatchOption, ⊤};
+ghost use Rattle.std.specs.Prelude.{◌≡◌, ℕ, ◌<◌, ◌≤◌, [], ◌∷◌, length, MatchOption, ⊤};
 ghost use Rattle.mapf_grid.specs.Least.{NoneBefore};
 ghost use Rattle.mapf_plan.specs.declared.conflict.Conflict.{Conflict};
 ghost use Rattle.mapf_plan.specs.Path.{cost};
@@ -10,10 +10,10 @@ ghost use Rattle.mapf_plan.specs.FirstConflict.{HasNoConflictBefore, IsConflictB
 ghost use Rattle.mapf_plan.specs.FirstConflict.{IsEarlier, IsOfAgent};
 ghost use Rattle.mapf_plan.specs.declared.collisions.first_conflict.TheConstants.{STEPS};
 
-use super::earlier::{earlier, end_by};
 use super::first_of_pair::first_of_pair;
 use super::marks::Marks;
 use super::step_conflicts::first_at;
+use crate::conflict::earlier;
 use crate::{AgentPaths, Conflict, Rule};
 
 /// How many time steps all agents are looked at together, at most. From then on pairs of agents are, as two that are at rest
@@ -117,4 +117,16 @@ fn first_by_pairs<P: AgentPaths>(plan: &P, rule: Rule, time: u32) -> Option<Conf
         );
     }
     known
+}
+
+/// The time step from which on no conflict comes before the one that is known; the end, where none is known.
+fn end_by(known: &Option<Conflict>, end: u32) -> u32
+    requires { MatchOption known.now ⊤ (λ c. conflict_time c < end) }
+    ensures within { result ≤ end }
+    ensures later { (c : Conflict) → conflict_time c < end → result ≤ conflict_time c → ¬ IsEarlier c known.now }
+{
+    match known {
+        Some(conflict) => conflict.time() + 1,
+        None => end,
+    }
 }

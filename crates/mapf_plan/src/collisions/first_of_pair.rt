@@ -24,10 +24,8 @@ pub(super) fn first_of_pair<P: AgentPaths>(
     ensures time { MatchOption result ⊤ (λ c. conflict_time c < end) }
     ensures conflict { IsFirstOfPair rule (P.paths plan.now) first second end result }
 {
-    match first_collision(rule, plan.path(first), plan.path(second), from, end) {
-        Some(time) => pair_at(plan, rule, first, second, time),
-        None => None,
-    }
+    let time = first_collision(rule, plan.path(first), plan.path(second), from, end)?;
+    pair_at(plan, rule, first, second, time)
 }
 
 /// The conflict of these two agents at a time step, where they have none before it.

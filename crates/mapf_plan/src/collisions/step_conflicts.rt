@@ -6,9 +6,9 @@ ghost use Rattle.mapf_plan.specs.declared.rule.Rule.{Rule};
 ghost use Rattle.mapf_plan.specs.Plan.{conflict_time, second_agent, IsFirstConflict};
 ghost use Rattle.mapf_plan.specs.FirstConflict.{HasNoConflictBefore, IsConflictAt, IsEarlier};
 
-use super::earlier::earlier;
 use super::first_of_pair::pair_at;
 use super::marks::Marks;
+use crate::conflict::earlier;
 use crate::{AgentPaths, Conflict, Rule};
 
 /// The first conflict at a time step, where no two agents have one before it. Two agents are compared only where their marks

@@ -69,8 +69,7 @@ impl Path {
     pub fn copy(&self, alloc: Global) -> Result<Path, NoMemory>
         ensures { IfOk result (λ other. other ≡ self.now) }
     {
-        let cells = self.cells().to_vec(alloc)?;
-        Ok(Path::of(cells))
+        Ok(Path::of(self.cells().to_vec(alloc)?))
     }
 
     /// Whether another path has the same cells.

@@ -13,10 +13,7 @@ pub(super) fn number(word: &[u8], most: u64) -> Option<u64>
         (λ n. (n ≤ most) × (word.now ≡ decimal n)) }
 {
     let value = decimal_value(word, MOST_DIGITS)?;
-    if has_leading_zero(word) {
-        return None;
-    }
-    if value > most {
+    if has_leading_zero(word) || value > most {
         return None;
     }
     Some(value)

@@ -72,9 +72,8 @@ fn read_head(line: &[u8]) -> Option<Head>
         return Some(Head::GaveUp { nodes, least });
     }
     let bound = number(without_front(line, b"none ")?, MOST_BOUND)?;
-    Some(Head::None {
-        bound: bound as u32,
-    })
+    let bound = bound as u32;
+    Some(Head::None { bound })
 }
 
 /// What stands behind this front, where the line begins with it.
@@ -200,20 +199,17 @@ fn read_place(word: &[u8]) -> Option<(u32, u32)>
 fn cells_of(
     alloc: Global,
     places: &[(u32, u32)],
-    number: usize,
+    line: usize,
     map: &Map,
 ) -> Result<Vec<Cell>, TextFault>
     ensures cells { IfOk result (λ cells. AllZip (IsCellAt map.now) places.now cells.items) }
     ensures fault { IfErr result (λ fault. (fault ≡ TextFault.NoMemory)
-        ⊎ ((place : ℕ) × (fault ≡ TextFault.Outside number place) × IsFirstOutside map.now places.now place)) }
+        ⊎ ((place : ℕ) × (fault ≡ TextFault.Outside line place) × IsFirstOutside map.now places.now place)) }
 {
     let mut cells = Vec::new(alloc);
     for (place, (x, y)) in places.iter().enumerate() {
         let Some(cell) = map.cell(*x, *y) else {
-            return Err(TextFault::Outside {
-                line: number,
-                place,
-            });
+            return Err(TextFault::Outside { line, place });
         };
         cells.push(cell)?;
     }

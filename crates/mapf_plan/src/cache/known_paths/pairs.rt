@@ -54,7 +54,8 @@ impl KnownPaths {
         ensures pairs { OnOk result ((k : ℕ) → from ≤ k → k < length numbers.now → k ≢ agent
             → AreMet self.old agent number k (slice_index numbers.now k) conflicts.new.items) }
     {
-        let known = self.add_known_pair_conflicts(numbers, agent, number, from, conflicts)?;
+        let row = self.times.row(number);
+        let known = add_known(row, numbers, agent, from, conflicts)?;
         for other in known..numbers.len() {
             if other == agent {
                 continue;
@@ -62,24 +63,6 @@ impl KnownPaths {
             self.add_pair_conflict(agent, number, other, numbers[other], conflicts)?;
         }
         Ok(())
-    }
-
-    /// The same as far as they are known: up to the agent that is returned.
-    fn add_known_pair_conflicts(
-        &self,
-        numbers: &[usize],
-        agent: usize,
-        number: usize,
-        from: usize,
-        conflicts: &mut Vec<PairConflict>,
-    ) -> Result<usize, NoMemory>
-        requires agents { length numbers.now ≤ most_agents }
-        requires agent { agent < length numbers.now }
-        ensures keeps { OnOk result (HasAllOf conflicts.new.items conflicts.old.items) }
-        ensures pairs { IfOk result (λ end. (k : ℕ) → from ≤ k → k < end → k ≢ agent
-            → AreMet self.now agent number k (slice_index numbers.now k) conflicts.new.items) }
-    {
-        add_known(self.times.row(number), numbers, agent, from, conflicts)
     }
 
     /// Adds the pair conflict of two agents, whose paths have these numbers, where they have a conflict.

@@ -10,15 +10,15 @@ first_collision-requires g c =
 
 pub pair_at-requires-clause-before : goal.pair_at-requires-clause-before
 pair_at-requires-clause-before g c =
-    pair_has_none c.args.rule (g.P.AgentPaths.paths c.args.plan.now) c.args.first c.args.second c.in-Some.time
-    (subst₂ (λ p q. DontCollideBefore c.args.rule p q c.in-Some.time) c.path.ensures c.path-2.ensures c.in-Some.ensures.2)
+    pair_has_none c.args.rule (g.P.AgentPaths.paths c.args.plan.now) c.args.first c.args.second c.in_ok-time.time
+    (subst₂ (λ p q. DontCollideBefore c.args.rule p q c.in_ok-time.time) c.path.ensures c.path-2.ensures c.in_ok-time.ensures.2)
 
-pub returns-in-Some-clause-conflict : goal.returns-in-Some-clause-conflict
-returns-in-Some-clause-conflict g c =
-    found_by_end c.args.rule (g.P.AgentPaths.paths c.args.plan.now) c.args.first c.args.second c.in-Some.time c.args.end c.pair_at.result c.requires.agents.0 c.requires.agents.1
-    (subst₂ (λ p q. DoCollide c.args.rule p q c.in-Some.time) c.path.ensures c.path-2.ensures c.in-Some.ensures.1) c.pair_at.ensures.conflict
+pub returns-clause-conflict : goal.returns-clause-conflict
+returns-clause-conflict g c =
+    found_by_end c.args.rule (g.P.AgentPaths.paths c.args.plan.now) c.args.first c.args.second c.in_ok-time.time c.args.end c.pair_at.result c.requires.agents.0 c.requires.agents.1
+    (subst₂ (λ p q. DoCollide c.args.rule p q c.in_ok-time.time) c.path.ensures c.path-2.ensures c.in_ok-time.ensures.1) c.pair_at.ensures.conflict
 
-pub returns-in-None-clause-conflict : goal.returns-in-None-clause-conflict
-returns-in-None-clause-conflict g c =
-    pair_has_none c.args.rule (g.P.AgentPaths.paths c.args.plan.now) c.args.first c.args.second c.args.end
-    (subst₂ (λ p q. DontCollideBefore c.args.rule p q c.args.end) c.path.ensures c.path-2.ensures c.in-None.ensures)
+pub returns-in_err-time-clause-conflict : goal.returns-in_err-time-clause-conflict
+returns-in_err-time-clause-conflict g c =
+    rw c.from_residual.ensures (pair_has_none c.args.rule (g.P.AgentPaths.paths c.args.plan.now) c.args.first c.args.second c.args.end
+    (subst₂ (λ p q. DontCollideBefore c.args.rule p q c.args.end) c.path.ensures c.path-2.ensures c.in_err-time.ensures))

@@ -3,6 +3,7 @@ use Rattle.std.specs.Prelude.{decimal}
 use Rattle.std.proofs.lemmas.Bool.{false≢true}
 use Rattle.mapf_plan.proofs.text.Numbers.{Spells, value_of_text, word_of_value}
 use Rattle.mapf_plan.proofs.text.number.number.Goals as goal
+use Rattle.mapf_plan.proofs.text.number.number.Goals.{then-has_leading_zero-via-then-has_leading_zero, then-has_leading_zero-via-else-has_leading_zero+then-value-most}
 
 pub returns-in_err-value : goal.returns-in_err-value
 returns-in_err-value c =
@@ -13,13 +14,10 @@ returns-in_err-value c =
 pub returns-then-has_leading_zero : goal.returns-then-has_leading_zero
 returns-then-has_leading_zero c = λ n within is.
     let spells : Spells c.args.word.now n = value_of_text c.args.word.now n (omega arith) is in
-    let long = c.if-has_leading_zero.ensures.0 refl in
-    absurd (omega (arith, spells.canonical long.0, long.1))
-
-pub returns-then-value-most : goal.returns-then-value-most
-returns-then-value-most c = λ n within is.
-    let spells : Spells c.args.word.now n = value_of_text c.args.word.now n (omega arith) is in
-    absurd (omega (arith, c.in_ok-value.ensures.some.1, spells.value))
+    elim c.then-has_leading_zero.branch [
+      | then-has_leading_zero-via-then-has_leading_zero w ↦ let long = w.if-has_leading_zero.ensures.0 refl in absurd (omega (arith, spells.canonical long.0, long.1))
+      | then-has_leading_zero-via-else-has_leading_zero+then-value-most w ↦ absurd (omega (arith, c.in_ok-value.ensures.some.1, spells.value))
+    ]
 
 pub returns : goal.returns
 returns c =
