@@ -4,7 +4,6 @@ mod first_collision;
 mod first_conflict;
 mod first_of_pair;
 mod marks;
-mod step_conflicts;
 
 pub(crate) use first_collision::first_time_of_two;
 pub(crate) use first_conflict::first_conflict_from;

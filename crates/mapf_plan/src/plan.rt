@@ -84,7 +84,6 @@ impl Plan {
     pub fn first_conflict_by(&self, rule: Rule) -> Option<Conflict>
         ensures { MatchOption result (HasNoConflict rule self.now) (λ c. IsFirstConflict rule self.now c) }
     {
-        let _ = &self.paths;
         first_conflict_from(self, rule, 0)
     }
 }

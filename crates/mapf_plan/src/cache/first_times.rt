@@ -129,10 +129,7 @@ fn keep_in_row(row: &mut Vec<FirstTime>, other: usize, time: FirstTime) -> Resul
 pub(crate) fn time_of(row: &[FirstTime], other: usize) -> FirstTime
     ensures { result ≡ time_in row.now other }
 {
-    match row.get(other) {
-        Some(time) => *time,
-        None => FirstTime::Unknown,
-    }
+    row.get(other).copied().unwrap_or(FirstTime::Unknown)
 }
 
 /// Adds the pair conflicts of an agent with each other one from a first one on, as far as they are known of its path's row: up to

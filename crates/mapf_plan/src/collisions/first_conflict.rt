@@ -1,18 +1,17 @@
 //! The first conflict of a plan: by time steps as far as most plans need it, and by pairs of agents from there on.
 
-ghost use Rattle.std.specs.Prelude.{◌≡◌, ℕ, ◌<◌, ◌≤◌, [], ◌∷◌, length, MatchOption, ⊤};
+ghost use Rattle.std.specs.Prelude.{◌≡◌, ℕ, ◌+◌, ◌<◌, ◌≤◌, [], ◌∷◌, length, MatchOption, ⊤};
 ghost use Rattle.mapf_grid.specs.Least.{NoneBefore};
 ghost use Rattle.mapf_plan.specs.declared.conflict.Conflict.{Conflict};
 ghost use Rattle.mapf_plan.specs.Path.{cost};
-ghost use Rattle.mapf_plan.specs.Plan.{most_bound, conflict_rank, conflict_time, path_of, IsConflict};
+ghost use Rattle.mapf_plan.specs.Plan.{most_bound, conflict_rank, conflict_time, path_of, second_agent, IsConflict};
 ghost use Rattle.mapf_plan.specs.Plan.{IsFirstConflict, HasNoConflict};
-ghost use Rattle.mapf_plan.specs.FirstConflict.{HasNoConflictBefore, IsConflictBefore, IsConflictWithout};
+ghost use Rattle.mapf_plan.specs.FirstConflict.{HasNoConflictBefore, IsConflictAt, IsConflictBefore, IsConflictWithout};
 ghost use Rattle.mapf_plan.specs.FirstConflict.{IsEarlier, IsOfAgent};
 ghost use Rattle.mapf_plan.specs.declared.collisions.first_conflict.TheConstants.{STEPS};
 
-use super::first_of_pair::first_of_pair;
+use super::first_of_pair::{first_of_pair, pair_at};
 use super::marks::Marks;
-use super::step_conflicts::first_at;
 use crate::conflict::earlier;
 use crate::{AgentPaths, Conflict, Rule};
 
@@ -90,6 +89,54 @@ pub(crate) fn first_conflict_from<P: AgentPaths>(
     first_by_pairs(plan, rule, end)
 }
 
+/// The first conflict at a time step, where no two agents have one before it. Two agents are compared only where their marks
+/// meet.
+#[inline(never)]
+fn first_at<P: AgentPaths>(
+    plan: &P,
+    rule: Rule,
+    time: u32,
+    round: u8,
+    marks: &mut Marks,
+) -> Option<Conflict>
+    requires before { HasNoConflictBefore rule (P.paths plan.now) time }
+    ensures { MatchOption result (HasNoConflictBefore rule (P.paths plan.now) (time + 1))
+        (IsFirstConflict rule (P.paths plan.now)) }
+{
+    let mut known = None;
+    for agent in 0..plan.agents() {
+        let path = plan.path(agent);
+        let from = path.at(time.saturating_sub(1));
+        if marks.meets(rule, round, from, path.at(time)) {
+            known = earlier_at(plan, rule, agent, time, known);
+        }
+    }
+    known
+}
+
+/// The conflict at a time step that is known, or an earlier one at it of this agent with one of a smaller number.
+fn earlier_at<P: AgentPaths>(
+    plan: &P,
+    rule: Rule,
+    agent: usize,
+    time: u32,
+    known: Option<Conflict>,
+) -> Option<Conflict>
+    requires agent { agent < length (P.paths plan.now) }
+    requires before { HasNoConflictBefore rule (P.paths plan.now) time }
+    requires conflict { MatchOption known ⊤ (IsConflictAt rule (P.paths plan.now) time) }
+    ensures conflict { MatchOption result ⊤ (IsConflictAt rule (P.paths plan.now) time) }
+    ensures keeps { (c : Conflict) → IsEarlier c result → IsEarlier c known }
+    ensures first { (c : Conflict) → IsConflictAt rule (P.paths plan.now) time c → second_agent c ≡ agent
+        → ¬ IsEarlier c result }
+{
+    let mut earliest = known;
+    for other in 0..agent {
+        earliest = earlier(earliest, pair_at(plan, rule, other, agent, time));
+    }
+    earliest
+}
+
 /// The cost of the longest path: then all agents are at rest.
 fn longest<P: AgentPaths>(plan: &P) -> u32
     ensures small { result ≤ most_bound }
@@ -111,10 +158,8 @@ fn first_by_pairs<P: AgentPaths>(plan: &P, rule: Rule, time: u32) -> Option<Conf
     let mut known = None;
     for agent in 0..plan.agents() {
         let until = end_by(&known, end);
-        known = earlier(
-            known,
-            first_of_agent(plan, rule, agent, agent + 1, time, until),
-        );
+        let found = first_of_agent(plan, rule, agent, agent + 1, time, until);
+        known = earlier(known, found);
     }
     known
 }

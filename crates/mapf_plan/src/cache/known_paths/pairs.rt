@@ -81,13 +81,10 @@ impl KnownPaths {
         ensures keeps { OnOk result (HasAllOf conflicts.new.items conflicts.old.items) }
         ensures pair { OnOk result (AreMet self.old agent one with other conflicts.new.items) }
     {
-        match self.first_time(one, other) {
-            Some(time) => {
-                conflicts.push(pair_conflict_of(agent, with, time))?;
-                Ok(())
-            }
-            None => Ok(()),
+        if let Some(time) = self.first_time(one, other) {
+            conflicts.push(pair_conflict_of(agent, with, time))?;
         }
+        Ok(())
     }
 
     /// When agents on the paths of these numbers have their first conflict; none where they never have one.

@@ -4,7 +4,7 @@ use Rattle.mapf_plan.specs.declared.conflict.Conflict.{Conflict}
 use Rattle.mapf_plan.specs.Plan.{second_agent, place}
 use Rattle.mapf_plan.specs.FirstConflict.{IsConflictAt, IsEarlier}
 use Rattle.mapf_plan.specs.Marks.{IsMarked, beside}
-use Rattle.mapf_plan.proofs.collisions.step_conflicts.first_at.Given as goal
+use Rattle.mapf_plan.proofs.collisions.first_conflict.first_at.Given as goal
 
 abbrev pub invariant-loop-agent : goal.invariant-loop-agent
 invariant-loop-agent g l =

@@ -7,8 +7,8 @@ use Rattle.mapf_plan.specs.FirstConflict.{IsConflictAt, IsEarlier}
 use Rattle.mapf_plan.specs.Marks.{IsMarked, beside}
 use Rattle.mapf_plan.proofs.Conflicts.{agents_of}
 use Rattle.mapf_plan.proofs.collisions.Steps.{meets_at, one_more, first_of_time}
-use Rattle.mapf_plan.proofs.collisions.step_conflicts.first_at.Goals.{then-meets, else-meets}
-use Rattle.mapf_plan.proofs.collisions.step_conflicts.first_at.Goals as goal
+use Rattle.mapf_plan.proofs.collisions.first_conflict.first_at.Goals.{then-meets, else-meets}
+use Rattle.mapf_plan.proofs.collisions.first_conflict.first_at.Goals as goal
 
 pub loop-agent-preserved : goal.loop-agent-preserved
 loop-agent-preserved g c =

@@ -3,7 +3,7 @@ use Rattle.std.proofs.lemmas.Bool.{cases_lt}
 use Rattle.mapf_plan.specs.Plan.{first_agent, conflict_time}
 use Rattle.mapf_plan.specs.FirstConflict.{IsConflictAt, IsConflictOfPair}
 use Rattle.mapf_plan.proofs.collisions.Steps.{of_either, found_that, found_first, some_before}
-use Rattle.mapf_plan.proofs.collisions.step_conflicts.earlier_at.Goals as goal
+use Rattle.mapf_plan.proofs.collisions.first_conflict.earlier_at.Goals as goal
 
 pub loop-other-preserved : goal.loop-other-preserved
 loop-other-preserved g c =

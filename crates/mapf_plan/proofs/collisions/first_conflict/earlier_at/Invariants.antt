@@ -3,7 +3,7 @@ use Rattle.std.specs.Prelude.{⊤}
 use Rattle.mapf_plan.specs.declared.conflict.Conflict.{Conflict}
 use Rattle.mapf_plan.specs.Plan.{first_agent, second_agent}
 use Rattle.mapf_plan.specs.FirstConflict.{IsConflictAt, IsEarlier}
-use Rattle.mapf_plan.proofs.collisions.step_conflicts.earlier_at.Given as goal
+use Rattle.mapf_plan.proofs.collisions.first_conflict.earlier_at.Given as goal
 
 abbrev pub invariant-loop-other : goal.invariant-loop-other
 invariant-loop-other g l =
