@@ -3,7 +3,6 @@
 mod first_times;
 mod known_paths;
 mod known_plan;
-mod numbered;
 
 pub use known_paths::KnownPaths;
 pub use known_plan::KnownPlan;

@@ -10,7 +10,7 @@ ghost use Rattle.mapf_plan.specs.KnownPaths.{KnownPaths, AreNumbers, IsKnownPlan
 mod pairs;
 
 use super::first_times::FirstTimes;
-use super::numbered::Numbered;
+use super::known_plan::Numbered;
 use crate::pair_conflicts::first_conflict_of_pair_conflicts;
 use crate::{Conflict, KnownPlan, PairConflict, Path, Rule};
 use mapf_grid::{Cell, NoMemory};
@@ -124,10 +124,8 @@ impl KnownPaths {
         for agent in 0..numbers.len() {
             self.add_pair_conflicts(numbers, agent, numbers[agent], agent + 1, &mut conflicts)?;
         }
-        Ok(KnownPlan {
-            numbers: Vec::from_slice(self.alloc, numbers)?,
-            conflicts,
-        })
+        let numbers = Vec::from_slice(self.alloc, numbers)?;
+        Ok(KnownPlan { numbers, conflicts })
     }
 
     /// Gives one agent of a plan another path: the one of this number. Only the pairs of that agent are gone through. Where

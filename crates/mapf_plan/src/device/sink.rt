@@ -45,17 +45,13 @@ impl<W: Write> Sink for Counted<W> {
             Ok(taken) => taken == 0 && !buf.is_empty(),
             Err(_) => true,
         };
-        if has_failed {
-            self.failures += 1;
-        }
+        self.failures += u64::from(has_failed);
         result
     }
 
     fn flush(&mut self) -> io::Result<()> {
         let result = self.device.flush();
-        if result.is_err() {
-            self.failures += 1;
-        }
+        self.failures += u64::from(result.is_err());
         result
     }
 

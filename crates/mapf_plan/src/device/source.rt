@@ -35,9 +35,7 @@ impl<R: Read> Source for Counted<R> {
 
     fn read(&mut self, buf: &mut [u8]) -> io::Result<usize> {
         let result = self.device.read(buf);
-        if result.is_err() {
-            self.failures += 1;
-        }
+        self.failures += u64::from(result.is_err());
         result
     }
 

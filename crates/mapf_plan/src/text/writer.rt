@@ -60,22 +60,10 @@ fn push_positions(text: &mut String, path: &[Cell], map: &Map) -> Result<(), NoM
     ensures { OnOk result (string_bytes text.new
         ≡ string_bytes text.old ++ join_with_byte 32 (mapped (position map.now) path.now)) }
 {
-    if let [first, rest @ ..] = path {
-        push_position(text, "", *first, map)?;
-        push_further(text, rest, map)
-    } else {
-        Ok(())
-    }
-}
-
-/// The positions behind the first one, each after a space.
-fn push_further(text: &mut String, path: &[Cell], map: &Map) -> Result<(), NoMemory>
-    requires { AllByRecursion (λ c. c < cells map.now) path.now }
-    ensures { OnOk result (string_bytes text.new
-        ≡ string_bytes text.old ++ flat_map (λ c. codes " " ++ position map.now c) path.now) }
-{
+    let mut front = "";
     for cell in path {
-        push_position(text, " ", *cell, map)?;
+        push_position(text, front, *cell, map)?;
+        front = " ";
     }
     Ok(())
 }

@@ -18,7 +18,7 @@ loop-agent-preserved c =
 
 pub returns-clause-plan : goal.returns-clause-plan
 returns-clause-plan c =
-    subst (λ ns. IsKnownPlan c.args.self.now ns c.loop-agent.conflicts.items) (sym c.in_ok-from_slice.ensures.items)
+    subst (λ ns. IsKnownPlan c.args.self.now ns c.loop-agent.conflicts.items) (sym c.in_ok-numbers.ensures.items)
     (record {
       few = c.requires.agents;
       inside = c.requires.numbers;
