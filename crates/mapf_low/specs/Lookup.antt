@@ -3,11 +3,6 @@ use Rattle.std.specs.Prelude.{⊤}
 use Rattle.mapf_low.specs.declared.lookup.Lookup.{Lookup}
 use Rattle.mapf_low.specs.declared.lookup.Lookup.TheVariants.{Unknown, Known}
 
--- what is asked for is known
-abbrev pub IsKnown : {A : Type 0} → Lookup A → Type 0
-IsKnown Unknown = ⊥
-IsKnown (Known x) = ⊤
-
 -- this holds of what is asked for, if that is known
 abbrev pub IfKnown : {A : Type 0} → Lookup A → (A → Type 0) → Type 0
 IfKnown Unknown P = ⊤

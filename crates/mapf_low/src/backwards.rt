@@ -56,10 +56,8 @@ fn trace(
                 time -= 1;
                 cells[time as usize] = before;
             }
+            None if dead.is_full() => return Ok(Lookup::Unknown),
             None => {
-                if dead.is_full() {
-                    return Ok(Lookup::Unknown);
-                }
                 dead.add(cell, time)?;
                 if time == end {
                     return Ok(Lookup::Known(None));
@@ -84,10 +82,9 @@ fn trace_first(
     ensures { IfOk result (λ answer. IfKnown answer (IsFound query.now)) }
 {
     let goal = query.goal();
-    let limit = query.limit();
     let mut dead = DeadEnds::new(alloc, budget);
     let mut cells = Vec::new(alloc);
-    for end in first..limit + 1 {
+    for end in first..query.limit() + 1 {
         if query.may_end(end) && query.is_left(&dead, goal, end) {
             match trace(alloc, query, end, &mut dead, &mut cells)? {
                 Lookup::Unknown => return Ok(Lookup::Unknown),

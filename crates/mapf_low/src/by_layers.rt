@@ -88,8 +88,7 @@ pub(crate) fn by_layers(alloc: Global, query: &Query) -> Result<Option<Path>, No
             return Ok(None);
         }
         if query.can_end(layer, time) {
-            let path = reconstruct_path(alloc, query, &layers, time)?;
-            return Ok(Some(path));
+            return Ok(Some(reconstruct_path(alloc, query, &layers, time)?));
         }
         let next = next_layer(alloc, query, layer, time + 1)?;
         layers.push(next)?;

@@ -70,13 +70,11 @@ pub(crate) fn find(alloc: Global, query: &Query) -> Result<(Searched, Option<Pat
     ensures end { IfOk result (λ r. r.0.end ≡ option_map cost r.1) }
 {
     let searched = search(alloc, query)?;
-    match searched.end {
-        None => Ok((searched, None)),
-        Some(end) => {
-            let path = read_path(alloc, query, &searched, end)?;
-            Ok((searched, Some(path)))
-        }
-    }
+    let Some(end) = searched.end else {
+        return Ok((searched, None));
+    };
+    let path = read_path(alloc, query, &searched, end)?;
+    Ok((searched, Some(path)))
 }
 
 /// An agent's own path; none is looked for where its goal is forbidden at the limit or later.

@@ -7,14 +7,11 @@ use mapf_grid::{Cell, NoMemory};
 use std::alloc::Global;
 
 /// The time of a constraint that forbids to be on the cell.
-pub(crate) fn time_at(constraint: Constraint, cell: Cell) -> Option<u32>
-    ensures { (t : ℕ) → (result ≡ Some t) ↔ (constraint ≡ Constraint.Vertex cell t) }
+pub(crate) fn time_at(constraint: Constraint, place: Cell) -> Option<u32>
+    ensures { (t : ℕ) → (result ≡ Some t) ↔ (constraint ≡ Constraint.Vertex place t) }
 {
     match constraint {
-        Constraint::Vertex {
-            cell: forbidden,
-            time,
-        } if forbidden.number() == cell.number() => Some(time),
+        Constraint::Vertex { cell, time } if cell.number() == place.number() => Some(time),
         _ => None,
     }
 }
@@ -23,11 +20,7 @@ pub(crate) fn time_at(constraint: Constraint, cell: Cell) -> Option<u32>
 pub(crate) fn later(one: Option<u32>, other: Option<u32>) -> Option<u32>
     ensures { result ≡ later_of one other }
 {
-    match (one, other) {
-        (Some(x), Some(y)) => Some(x.max(y)),
-        (None, y) => y,
-        (x, None) => x,
-    }
+    one.max(other)
 }
 
 /// Whether the time is after the last one, where there is a last one.

@@ -57,7 +57,7 @@ returns-then-time-end-clause-dead c =
     dead_more query c.loop-time.dead.states t c.index-cell.result.now (omega (arith, c.loop-time.invariant.inside, c.requires.end)) c.requires.earliest c.loop-time.invariant.dead
     (subst (IsSmallest (ComesFrom query (t + 1) (IsLeft query c.loop-time.dead.states t) c.index-cell.result.now)) c.in-None.is c.smallest_before.ensures)
     c.add.new.self.states
-    (subst (λ k. IsJoined (c.index-cell.result.now, k) c.loop-time.dead.states c.add.new.self.states) (let up : c.loop-time.time ≡ t + 1 = omega arith in up) c.in_ok-add-in-None.ensures.states)
+    (subst (λ k. IsJoined (c.index-cell.result.now, k) c.loop-time.dead.states c.add.new.self.states) (let up : c.loop-time.time ≡ t + 1 = omega arith in up) c.in_ok-add-in-None-2.ensures.states)
 
 pub loop-time-preserved : goal.loop-time-preserved
 loop-time-preserved c =
@@ -66,11 +66,11 @@ loop-time-preserved c =
     record {
       inside = omega (arith, c.loop-time.invariant.inside);
       placed = placed_fewer query c.args.end c.loop-time.dead.states c.add.new.self.states c.loop-time.cells.items c.loop-time.time c.index-cell.result.now
-          c.loop-time.invariant.placed c.in_ok-add-in-None.ensures.states;
+          c.loop-time.invariant.placed c.in_ok-add-in-None-2.ensures.states;
       dead = dead_more query c.loop-time.dead.states t c.index-cell.result.now (omega (arith, c.loop-time.invariant.inside, c.requires.end)) c.requires.earliest c.loop-time.invariant.dead
           (subst (IsSmallest (ComesFrom query (t + 1) (IsLeft query c.loop-time.dead.states t) c.index-cell.result.now)) c.in-None.is c.smallest_before.ensures)
           c.add.new.self.states
-          (subst (λ k. IsJoined (c.index-cell.result.now, k) c.loop-time.dead.states c.add.new.self.states) (let up : c.loop-time.time ≡ t + 1 = omega arith in up) c.in_ok-add-in-None.ensures.states);
+          (subst (λ k. IsJoined (c.index-cell.result.now, k) c.loop-time.dead.states c.add.new.self.states) (let up : c.loop-time.time ≡ t + 1 = omega arith in up) c.in_ok-add-in-None-2.ensures.states);
     }
 
 pub returns-clause-path : goal.returns-clause-path

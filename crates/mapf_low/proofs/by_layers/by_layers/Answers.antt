@@ -90,7 +90,7 @@ returns-then-can_end c =
     let here : c.index-layer.result.now ≡ layer_at layers time = c.index-layer.ensures ∙ get_or_default layers time c.index-layer.result.now [] inside in
     let met = c.can_end.ensures.0 c.if-can_end.true in
     let set = layers_set c.args.query.now layers c.limit-limit.ensures.posed c.requires c.loop-time.invariant.layers_are in
-    own c.args.query.now c.args.query.now.limit (InLayers layers) (length layers) set time c.in_ok-path.path inside (omega arith)
-    c.in_ok-path.ensures
+    own c.args.query.now c.args.query.now.limit (InLayers layers) (length layers) set time c.in_ok-reconstruct_path.field-0 inside (omega arith)
+    c.in_ok-reconstruct_path.ensures
     (subst (λ layer. Contains layer c.args.query.now.goal) here met.0, met.1)
     c.loop-time.invariant.before

@@ -37,7 +37,7 @@ impl<'p> PathCache<'p> {
         ensures left { IfOk result (λ found. IfKnown found.0 (IsChildOf self.old.problem node.now Side.Left)) }
         ensures right { IfOk result (λ found. IfKnown found.1 (IsChildOf self.old.problem node.now Side.Right)) }
     {
-        if left.is_known() && right.is_known() {
+        if matches!(left, Lookup::Known(_)) && matches!(right, Lookup::Known(_)) {
             return Ok((left, right));
         }
         let at = self.numbers_at(node)?;
@@ -62,7 +62,7 @@ impl<'p> PathCache<'p> {
         ensures same { self.new ≡ self.old }
         ensures child { IfOk result (λ found. IfKnown found (IsChildOf self.old.problem node.now side)) }
     {
-        if given.is_known() {
+        if matches!(given, Lookup::Known(_)) {
             return Ok(given);
         }
         let Some(found) = self.find_path(node, at, side)? else {

@@ -107,7 +107,7 @@ impl<'p> PathCache<'p> {
         requires { query.now.limit ≤ self.now.problem.bound }
     {
         match self.sets.find(query.agent(), query.constraints()) {
-            Some(set) => self.find_own_path(set, query.limit()).is_known(),
+            Some(set) => matches!(self.find_own_path(set, query.limit()), Lookup::Known(_)),
             None => false,
         }
     }

@@ -11,7 +11,7 @@ use crate::own_paths::constraint_sets::{CachedPath, ConstraintSet, Extension};
 use crate::own_paths::path_cache::PathCache;
 use crate::{Node, SideQuery};
 use mapf_grid::NoMemory;
-use mapf_low::Constraints;
+use mapf_low::{Constraints, Lookup};
 use mapf_plan::Path;
 use std::sync::Arc;
 
@@ -82,7 +82,7 @@ impl<'p> PathCache<'p> {
         ensures set { IfOk result (λ set. HasSet self.new.sets set query.now.agent query.now.constraints) }
     {
         if let Some(set) = self.sets.find(query.agent(), query.constraints()) {
-            if self.find_own_path(set, query.limit()).is_known() {
+            if matches!(self.find_own_path(set, query.limit()), Lookup::Known(_)) {
                 return Ok(set);
             }
         }
