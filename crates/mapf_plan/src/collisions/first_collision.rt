@@ -57,6 +57,25 @@ fn first_while_both_move(rule: Rule, one: &Path, other: &Path, from: u32, end: u
     None
 }
 
+/// The same, one time step after another.
+fn first_step_by_step(rule: Rule, one: &Path, other: &Path, from: u32, end: u32) -> Option<u32>
+    requires { DontCollideBefore rule one.now other.now from }
+    ensures { IsFirstCollision rule one.now other.now end result }
+{
+    let before = from.saturating_sub(1);
+    let mut one_was = one.at(before);
+    let mut other_was = other.at(before);
+    for time in from..end {
+        let (one_is, other_is) = (one.at(time), other.at(time));
+        if do_steps_collide(rule, one_was, one_is, other_was, other_is) {
+            return Some(time);
+        }
+        one_was = one_is;
+        other_was = other_is;
+    }
+    None
+}
+
 /// Whether at one of these time steps one of two agents is where the other is or was one time step before.
 fn are_close_within(one: &Path, other: &Path, from: usize, end: usize) -> bool
     requires block { from < end }
@@ -84,25 +103,6 @@ fn are_close(one_was: Cell, one_is: Cell, other_was: Cell, other_is: Cell) -> bo
     ensures other { IsFalse result → other_is ≢ one_was }
 {
     one_is == other_is || one_is == other_was || other_is == one_was
-}
-
-/// The same, one time step after another.
-fn first_step_by_step(rule: Rule, one: &Path, other: &Path, from: u32, end: u32) -> Option<u32>
-    requires { DontCollideBefore rule one.now other.now from }
-    ensures { IsFirstCollision rule one.now other.now end result }
-{
-    let before = from.saturating_sub(1);
-    let mut one_was = one.at(before);
-    let mut other_was = other.at(before);
-    for time in from..end {
-        let (one_is, other_is) = (one.at(time), other.at(time));
-        if do_steps_collide(rule, one_was, one_is, other_was, other_is) {
-            return Some(time);
-        }
-        one_was = one_is;
-        other_was = other_is;
-    }
-    None
 }
 
 /// Whether agents that go from the cells where they were to those where they are collide.

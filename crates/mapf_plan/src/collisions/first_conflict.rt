@@ -149,7 +149,7 @@ fn longest<P: AgentPaths>(plan: &P) -> u32
     longest
 }
 
-/// The same, pair by pair of agents.
+/// The same as [`first_conflict_from`], pair by pair of agents.
 fn first_by_pairs<P: AgentPaths>(plan: &P, rule: Rule, time: u32) -> Option<Conflict>
     requires { HasNoConflictBefore rule (P.paths plan.now) time }
     ensures { MatchOption result (HasNoConflict rule (P.paths plan.now)) (IsFirstConflict rule (P.paths plan.now)) }
