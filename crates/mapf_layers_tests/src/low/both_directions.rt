@@ -128,10 +128,7 @@ fn a_dead_end_over_the_budget_ends_the_search_backwards(rt: HostRuntime) -> Resu
     assert!(rt; map.is_free(goal));
     let from_start = Distances::to(alloc, &map, start)?;
     let free = Constraints::new(alloc);
-    let held = Constraints::new(alloc).with(Constraint::Vertex {
-        cell: between,
-        time: 1,
-    })?;
+    let held = forbidding(alloc, &[1], 1)?;
     let mut lost = Constraints::new(alloc);
     for cell in [start, between, goal] {
         lost = lost.and(Constraint::Vertex { cell, time: 2 })?;
@@ -144,18 +141,8 @@ fn a_dead_end_over_the_budget_ends_the_search_backwards(rt: HostRuntime) -> Resu
         (&held, 1, Some(3)),
         (&lost, 0, None),
     ] {
-        let found = cheapest_backwards(
-            alloc,
-            &map,
-            &from_start,
-            start,
-            goal,
-            set,
-            0,
-            BOUND,
-            budget,
-        )?;
-        let known = match found {
+        let own = cheapest_backwards(alloc, &map, &from_start, start, goal, set, 0, BOUND, budget)?;
+        let known = match own {
             Lookup::Known(path) => Some(path.ok_or("no path")?.cost()),
             Lookup::Unknown => None,
         };
