@@ -60,29 +60,9 @@ impl KnownPaths {
             if other == agent {
                 continue;
             }
-            self.add_pair_conflict(agent, number, other, numbers[other], conflicts)?;
-        }
-        Ok(())
-    }
-
-    /// Adds the pair conflict of two agents, whose paths have these numbers, where they have a conflict.
-    fn add_pair_conflict(
-        &mut self,
-        agent: usize,
-        one: usize,
-        with: usize,
-        other: usize,
-        conflicts: &mut Vec<PairConflict>,
-    ) -> Result<(), NoMemory>
-        requires agents { (agent < most_agents) × (with < most_agents) }
-        requires one { one < length self.old.paths }
-        requires other { other < length self.old.paths }
-        ensures known { self.new ≡ self.old }
-        ensures keeps { OnOk result (HasAllOf conflicts.new.items conflicts.old.items) }
-        ensures pair { OnOk result (AreMet self.old agent one with other conflicts.new.items) }
-    {
-        if let Some(time) = self.first_time(one, other) {
-            conflicts.push(pair_conflict_of(agent, with, time))?;
+            if let Some(time) = self.first_time(number, numbers[other]) {
+                conflicts.push(pair_conflict_of(agent, other, time))?;
+            }
         }
         Ok(())
     }
