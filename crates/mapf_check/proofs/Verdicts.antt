@@ -114,24 +114,24 @@ module _ (rule : Rule) (inst : Instance) (plan : List (List ℕ)) where
   -- a conflict that is the first fault is on cells of the map
   conflict_cells : (stated : ℕ) (c : Conflict) → AllByRecursion (AllByRecursion (λ c. c < cells inst.grid)) plan →
       IsLeast verdict_rank (HasFault rule inst plan stated) (verdict.Conflict c) → IsOnMap inst.grid c
-  conflict_cells stated (Vertex i j v t) all first =
-      let count = counted stated 66 (conflict_rank (Vertex i j v t)) (omega arith) first.least in
+  conflict_cells stated (Vertex t i j v) all first =
+      let count = counted stated 66 (conflict_rank (Vertex t i j v)) (omega arith) first.least in
       let l : i < length plan = omega (arith, first.member.0, first.member.1) in
-      let begin = begun stated 66 (conflict_rank (Vertex i j v t)) (omega arith) first.least i (omega (arith, l, count), l) in
+      let begin = begun stated 66 (conflict_rank (Vertex t i j v)) (omega arith) first.least i (omega (arith, l, count), l) in
       subst (λ c. c < cells inst.grid) first.member.2
       (place_below (cells inst.grid) i t all l (slice_get_within (path_of plan i) 0 (slice_index inst.starts i) begin))
-  conflict_cells stated (Swapping i j u v t) all first =
-      let count = counted stated 66 (conflict_rank (Swapping i j u v t)) (omega arith) first.least in
+  conflict_cells stated (Swapping t i j u v) all first =
+      let count = counted stated 66 (conflict_rank (Swapping t i j u v)) (omega arith) first.least in
       let l : i < length plan = omega (arith, first.member.0, first.member.1) in
-      let begin = begun stated 66 (conflict_rank (Swapping i j u v t)) (omega arith) first.least i (omega (arith, l, count), l) in
+      let begin = begun stated 66 (conflict_rank (Swapping t i j u v)) (omega arith) first.least i (omega (arith, l, count), l) in
       let some = slice_get_within (path_of plan i) 0 (slice_index inst.starts i) begin in (
         subst (λ c. c < cells inst.grid) first.member.4 (place_below (cells inst.grid) i (t - 1) all l some),
         subst (λ c. c < cells inst.grid) first.member.5 (place_below (cells inst.grid) i t all l some),
       )
-  conflict_cells stated (Following i j v t) all first =
-      let count = counted stated 66 (conflict_rank (Following i j v t)) (omega arith) first.least in
+  conflict_cells stated (Following t i j v) all first =
+      let count = counted stated 66 (conflict_rank (Following t i j v)) (omega arith) first.least in
       let l = first.member.2 in
-      let begin = begun stated 66 (conflict_rank (Following i j v t)) (omega arith) first.least i (omega (arith, l, count), l) in
+      let begin = begun stated 66 (conflict_rank (Following t i j v)) (omega arith) first.least i (omega (arith, l, count), l) in
       subst (λ c. c < cells inst.grid) first.member.5
       (place_below (cells inst.grid) i t all l (slice_get_within (path_of plan i) 0 (slice_index inst.starts i) begin))
 

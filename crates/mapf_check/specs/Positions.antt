@@ -8,9 +8,9 @@ use Rattle.mapf_check.specs.declared.verdict.Verdict.TheVariants as verdict
 
 -- the cells of a conflict are cells of the map
 abbrev pub IsOnMap : Grid → Conflict → Type 0
-IsOnMap g (Vertex i j v t) = v < cells g
-IsOnMap g (Swapping i j u v t) = (u < cells g) × (v < cells g)
-IsOnMap g (Following i j v t) = v < cells g
+IsOnMap g (Vertex t i j v) = v < cells g
+IsOnMap g (Swapping t i j u v) = (u < cells g) × (v < cells g)
+IsOnMap g (Following t i j v) = v < cells g
 
 -- a verdict on a conflict names cells of the map
 abbrev pub HasPositions : Grid → Verdict → Type 0

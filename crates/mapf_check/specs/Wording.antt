@@ -9,13 +9,13 @@ use Rattle.mapf_check.specs.declared.verdict.Verdict.TheVariants as verdict
 
 -- a conflict, with its cells as `x,y`; of a following conflict the follower is the first agent
 abbrev pub conflict_words : Grid → Conflict → List ℕ
-conflict_words g (Vertex i j v t) =
+conflict_words g (Vertex t i j v) =
     (codes "66 vertex conflict agents " ++ decimal i) ++ (codes " " ++ decimal j)
     ++ (codes " cell " ++ position g v) ++ (codes " time " ++ decimal t)
-conflict_words g (Swapping i j u v t) =
+conflict_words g (Swapping t i j u v) =
     (codes "66 swapping conflict agents " ++ decimal i) ++ (codes " " ++ decimal j)
     ++ (codes " from " ++ position g u) ++ (codes " to " ++ position g v) ++ (codes " time " ++ decimal t)
-conflict_words g (Following i j v t) =
+conflict_words g (Following t i j v) =
     (codes "66 following conflict agents " ++ decimal i) ++ (codes " " ++ decimal j)
     ++ (codes " cell " ++ position g v) ++ (codes " time " ++ decimal t)
 

@@ -60,16 +60,16 @@ dec_rule NoFollowing = yes refl
 
 -- whether a plan has this conflict can be decided
 dec_conflict : (rule : Rule) (plan : List (List ℕ)) (c : Conflict) → Dec (IsConflict rule plan c)
-dec_conflict rule plan (Vertex i j v t) =
+dec_conflict rule plan (Vertex t i j v) =
     dec_map (λ h. (h.0, h.1.0, h.1.1.0, h.1.1.1)) (λ h. (h.0, (h.1, (h.2, h.3))))
     (dec_and (dec_lt i j) (dec_and (dec_lt j (length plan)) (dec_and (ℕ_discrete (place plan i t) v) (ℕ_discrete (place plan j t) v))))
-dec_conflict rule plan (Swapping i j u v t) =
+dec_conflict rule plan (Swapping t i j u v) =
     dec_map
     (λ h. (h.0, h.1.0, h.1.1.0, h.1.1.1.0, h.1.1.1.1.0, h.1.1.1.1.1.0, h.1.1.1.1.1.1.0, h.1.1.1.1.1.1.1))
     (λ h. (h.0, (h.1, (h.2, (h.3, (h.4, (h.5, (h.6, h.7))))))))
     (dec_and (dec_lt i j) (dec_and (dec_lt j (length plan)) (dec_and (dec_lt 0 t) (dec_and (dec_not (ℕ_discrete u v))
     (dec_and (ℕ_discrete (place plan i (t - 1)) u) (dec_and (ℕ_discrete (place plan i t) v) (dec_and (ℕ_discrete (place plan j (t - 1)) v) (ℕ_discrete (place plan j t) u))))))))
-dec_conflict rule plan (Following i j v t) =
+dec_conflict rule plan (Following t i j v) =
     dec_map
     (λ h. (h.0, h.1.0, h.1.1.0, h.1.1.1.0, h.1.1.1.1.0, h.1.1.1.1.1.0, h.1.1.1.1.1.1))
     (λ h. (h.0, (h.1, (h.2, (h.3, (h.4, (h.5, h.6)))))))
@@ -82,9 +82,9 @@ same_place plan b i s t h k l = at_past (path_of plan i) s (omega (arith, h, k))
 
 -- of a conflict's agents the first is smaller, and both are the plan's
 pub agents_of : (rule : Rule) (plan : List (List ℕ)) (c : Conflict) → IsConflict rule plan c → (first_agent c < second_agent c) × (second_agent c < length plan)
-agents_of rule plan (Vertex i j v t) is = (is.0, is.1)
-agents_of rule plan (Swapping i j u v t) is = (is.0, is.1)
-agents_of rule plan (Following i j v t) is = (omega (arith, is.1), omega (arith, is.2, is.3))
+agents_of rule plan (Vertex t i j v) is = (is.0, is.1)
+agents_of rule plan (Swapping t i j u v) is = (is.0, is.1)
+agents_of rule plan (Following t i j v) is = (omega (arith, is.1), omega (arith, is.2, is.3))
 
 -- a conflict is at most at the bound, or its agents have one at the bound, before it
 abbrev IsEarly : Rule → List (List ℕ) → ℕ → Conflict → Type 0
@@ -94,18 +94,18 @@ IsEarly rule plan b c =
 -- it is, where both paths end by the bound
 early_of : (rule : Rule) (plan : List (List ℕ)) (b : ℕ) (c : Conflict) → cost (path_of plan (first_agent c)) ≤ b → cost (path_of plan (second_agent c)) ≤ b →
     IsConflict rule plan c → IsEarly rule plan b c
-early_of rule plan b (Vertex i j v t) hi hj h =
+early_of rule plan b (Vertex t i j v) hi hj h =
     ⊎_elim
     (λ l. inr (
-      Vertex i j v b,
+      Vertex b i j v,
       ((h.0, h.1, same_place plan b i b t hi (omega arith) (omega (arith, l)) ∙ h.2, same_place plan b j b t hj (omega arith) (omega (arith, l)) ∙ h.3), refl, refl),
       refl,
       l,
     ))
     inl (cases_lt b t)
-early_of rule plan b (Swapping i j u v t) hi hj h =
+early_of rule plan b (Swapping t i j u v) hi hj h =
     ⊎_elim (λ l. absurd (h.3 (sym h.4 ∙ same_place plan b i (t - 1) t hi (omega (arith, l)) (omega (arith, l)) ∙ h.5))) inl (cases_lt b t)
-early_of rule plan b (Following i j v t) hi hj h =
+early_of rule plan b (Following t i j v) hi hj h =
     let costs = of_both (λ k. cost (path_of plan k) ≤ b) i j hi hj in
     ⊎_elim
     (λ l.
@@ -114,8 +114,8 @@ early_of rule plan b (Following i j v t) hi hj h =
       same_place plan b j b (t - 1) costs.1 (omega arith) (omega (arith, l)) ∙ h.6,
     ) in
     let both = both_of (λ k. place plan k b ≡ v) i j there.0 there.1 in
-    let agents = agents_of rule plan (Following i j v t) h in
-    inr (Vertex (min i j) (max i j) v b, ((agents.0, agents.1, both.0, both.1), refl, refl), refl, l))
+    let agents = agents_of rule plan (Following t i j v) h in
+    inr (Vertex b (min i j) (max i j) v, ((agents.0, agents.1, both.0, both.1), refl, refl), refl, l))
     inl (cases_lt b t)
 
 -- and where all paths do
@@ -126,9 +126,9 @@ early rule plan b costs c h =
 
 -- a conflict's rank begins with its time
 pub by_time : (c : Conflict) → conflict_rank c ≡ conflict_time c ∷ drop 1 (conflict_rank c)
-by_time (Vertex i j v t) = refl
-by_time (Swapping i j u v t) = refl
-by_time (Following i j v t) = refl
+by_time (Vertex t i j v) = refl
+by_time (Swapping t i j u v) = refl
+by_time (Following t i j v) = refl
 
 -- of two conflicts at different times the earlier one is first
 pub before : (c d : Conflict) → conflict_time c < conflict_time d → Precedes (conflict_rank c) (conflict_rank d)
@@ -147,7 +147,7 @@ first_early rule plan b costs c first = ⊎_elim (λ h. h) (λ w. absurd (first.
 module _ (plan : List (List ℕ)) where
   -- the conflicts that two agents may have at a time, the first of them as the follower
   of_pair : ℕ → ℕ → ℕ → List Conflict
-  of_pair t i j = Vertex i j (place plan i t) t ∷ Swapping i j (place plan i (t - 1)) (place plan i t) t ∷ Following i j (place plan i t) t ∷ []
+  of_pair t i j = Vertex t i j (place plan i t) ∷ Swapping t i j (place plan i (t - 1)) (place plan i t) ∷ Following t i j (place plan i t) ∷ []
 
   -- those of an agent, and those of all agents
   of_agent : ℕ → ℕ → List Conflict
@@ -171,11 +171,11 @@ module _ (plan : List (List ℕ)) where
   -- so they hold each conflict up to the time
   covers : (rule : Rule) (b : ℕ) (c : Conflict) → IsConflict rule plan c × (conflict_time c ≤ b) → Contains (candidates b) c
   unfolding of_pair
-  covers rule b (Vertex i j v t) h = at_agents b t i j (Vertex i j v t) h.1 (omega (arith, h.0.0, h.0.1)) h.0.1 (0, omega arith, ap (λ v. Vertex i j v t) h.0.2)
-  covers rule b (Swapping i j u v t) h =
-      at_agents b t i j (Swapping i j u v t) h.1 (omega (arith, h.0.0, h.0.1)) h.0.1 (1, omega arith, ap₂ (λ u v. Swapping i j u v t) h.0.4 h.0.5)
-  covers rule b (Following i j v t) h =
-      at_agents b t i j (Following i j v t) h.1 h.0.2 h.0.3 (2, omega arith, ap (λ v. Following i j v t) h.0.5)
+  covers rule b (Vertex t i j v) h = at_agents b t i j (Vertex t i j v) h.1 (omega (arith, h.0.0, h.0.1)) h.0.1 (0, omega arith, ap (λ v. Vertex t i j v) h.0.2)
+  covers rule b (Swapping t i j u v) h =
+      at_agents b t i j (Swapping t i j u v) h.1 (omega (arith, h.0.0, h.0.1)) h.0.1 (1, omega arith, ap₂ (λ u v. Swapping t i j u v) h.0.4 h.0.5)
+  covers rule b (Following t i j v) h =
+      at_agents b t i j (Following t i j v) h.1 h.0.2 h.0.3 (2, omega arith, ap (λ v. Following t i j v) h.0.5)
 
 -- a plan has a first conflict, or none at any time
 pub first_conflict : (rule : Rule) (plan : List (List ℕ)) → ((c : Conflict) × IsFirstConflict rule plan c) ⊎ HasNoConflict rule plan
@@ -198,16 +198,16 @@ first_conflict rule plan =
 
 -- a plan has one conflict of a rank at most
 pub same_conflict_rank : (rule : Rule) (plan : List (List ℕ)) (c d : Conflict) → IsConflict rule plan c → IsConflict rule plan d → conflict_rank c ≡ conflict_rank d → c ≡ d
-same_conflict_rank rule plan (Vertex i j v t) (Vertex i' j' v' t') h k e =
+same_conflict_rank rule plan (Vertex t i j v) (Vertex t' i' j' v') h k e =
     let et : t ≡ t' = cc in let ei : i ≡ i' = cc in let ej : j ≡ j' = cc in
     let ev : v ≡ v' = sym h.2 ∙ ap₂ (λ a b. place plan a b) ei et ∙ k.2 in
     cc
-same_conflict_rank rule plan (Swapping i j u v t) (Swapping i' j' u' v' t') h k e =
+same_conflict_rank rule plan (Swapping t i j u v) (Swapping t' i' j' u' v') h k e =
     let et : t ≡ t' = cc in let ei : i ≡ i' = cc in let ej : j ≡ j' = cc in
     let ev : v ≡ v' = sym h.5 ∙ ap₂ (λ a b. place plan a b) ei et ∙ k.5 in
     let eu : u ≡ u' = sym h.4 ∙ ap₂ (λ a b. place plan a (b - 1)) ei et ∙ k.4 in
     cc
-same_conflict_rank rule plan (Following i j v t) (Following i' j' v' t') h k e =
+same_conflict_rank rule plan (Following t i j v) (Following t' i' j' v') h k e =
     let et : t ≡ t' = cc in let ei : i ≡ i' = cc in let low : min i j ≡ min i' j' = cc in let high : max i j ≡ max i' j' = cc in
     let ej : j ≡ j' = omega (arith, ei, low, high) in
     let ev : v ≡ v' = sym h.5 ∙ ap₂ (λ a b. place plan a b) ei et ∙ k.5 in
@@ -245,8 +245,8 @@ other_place plan agent path k t n = ap (λ p. at p t) (sym (get_or-set_other pla
 pub stands : (rule : Rule) (plan other : List (List ℕ)) (c : Conflict) → length other ≡ length plan
     → ((t : ℕ) → t ≤ conflict_time c → place plan (first_agent c) t ≡ place other (first_agent c) t)
     → ((t : ℕ) → t ≤ conflict_time c → place plan (second_agent c) t ≡ place other (second_agent c) t) → IsConflict rule other c → IsConflict rule plan c
-stands rule plan other (Vertex i j v t) l one two is = (is.0, omega (arith, is.1, l), one t (omega arith) ∙ is.2, two t (omega arith) ∙ is.3)
-stands rule plan other (Swapping i j u v t) l one two is = (
+stands rule plan other (Vertex t i j v) l one two is = (is.0, omega (arith, is.1, l), one t (omega arith) ∙ is.2, two t (omega arith) ∙ is.3)
+stands rule plan other (Swapping t i j u v) l one two is = (
   is.0,
   omega (arith, is.1, l),
   is.2,
@@ -256,7 +256,7 @@ stands rule plan other (Swapping i j u v t) l one two is = (
   two (t - 1) (omega arith) ∙ is.6,
   two t (omega arith) ∙ is.7,
 )
-stands rule plan other (Following i j v t) l one two is =
+stands rule plan other (Following t i j v) l one two is =
     let both = of_both (λ k. (s : ℕ) → s ≤ t → place plan k s ≡ place other k s) i j one two in (
       is.0,
       is.1,

@@ -29,38 +29,38 @@ abbrev pub place : List (List ℕ) → ℕ → ℕ → ℕ
 place plan i t = at (path_of plan i) t
 
 abbrev pub IsConflict : Rule → List (List ℕ) → Conflict → Type 0
-IsConflict rule plan (Vertex i j v t) =
+IsConflict rule plan (Vertex t i j v) =
     (i < j) × (j < length plan) × (place plan i t ≡ v) × (place plan j t ≡ v)
-IsConflict rule plan (Swapping i j u v t) =
+IsConflict rule plan (Swapping t i j u v) =
     (i < j) × (j < length plan) × (0 < t) × (u ≢ v)
     × (place plan i (t - 1) ≡ u) × (place plan i t ≡ v)
     × (place plan j (t - 1) ≡ v) × (place plan j t ≡ u)
-IsConflict rule plan (Following i j v t) =
+IsConflict rule plan (Following t i j v) =
     (rule ≡ NoFollowing) × (i ≢ j) × (i < length plan) × (j < length plan) × (0 < t)
     × (place plan i t ≡ v) × (place plan j (t - 1) ≡ v)
 
 -- by time, vertex before swapping before following, smaller agent, larger agent, the smaller agent as the follower first
 abbrev pub conflict_rank : Conflict → List ℕ
-conflict_rank (Vertex i j v t) = t ∷ 0 ∷ i ∷ j ∷ 0 ∷ []
-conflict_rank (Swapping i j u v t) = t ∷ 1 ∷ i ∷ j ∷ 0 ∷ []
-conflict_rank (Following i j v t) = t ∷ 2 ∷ min i j ∷ max i j ∷ i ∷ []
+conflict_rank (Vertex t i j v) = t ∷ 0 ∷ i ∷ j ∷ 0 ∷ []
+conflict_rank (Swapping t i j u v) = t ∷ 1 ∷ i ∷ j ∷ 0 ∷ []
+conflict_rank (Following t i j v) = t ∷ 2 ∷ min i j ∷ max i j ∷ i ∷ []
 
 -- when a conflict is; a swapping or a following conflict is where the agents have moved
 abbrev pub conflict_time : Conflict → ℕ
-conflict_time (Vertex i j v t) = t
-conflict_time (Swapping i j u v t) = t
-conflict_time (Following i j v t) = t
+conflict_time (Vertex t i j v) = t
+conflict_time (Swapping t i j u v) = t
+conflict_time (Following t i j v) = t
 
 -- the agent with the smaller number, and the one with the larger
 abbrev pub first_agent : Conflict → ℕ
-first_agent (Vertex i j v t) = i
-first_agent (Swapping i j u v t) = i
-first_agent (Following i j v t) = min i j
+first_agent (Vertex t i j v) = i
+first_agent (Swapping t i j u v) = i
+first_agent (Following t i j v) = min i j
 
 abbrev pub second_agent : Conflict → ℕ
-second_agent (Vertex i j v t) = j
-second_agent (Swapping i j u v t) = j
-second_agent (Following i j v t) = max i j
+second_agent (Vertex t i j v) = j
+second_agent (Swapping t i j u v) = j
+second_agent (Following t i j v) = max i j
 
 -- the conflict that a node of the search branches on
 abbrev pub IsFirstConflict : Rule → List (List ℕ) → Conflict → Type 0

@@ -7,30 +7,31 @@ ghost use Rattle.mapf_plan.specs.Plan.{conflict_rank, conflict_time};
 use mapf_grid::Cell;
 
 /// Two agents that collide, as Stern et al. 2019 name it; `first` is the agent with the smaller number.
-/// Vertex and swapping conflicts are collisions by both rules, following conflicts by `Rule::NoFollowing` alone.
+/// Vertex and swapping conflicts are collisions by both rules, following conflicts by `Rule::NoFollowing` alone. The time stands
+/// first, since fields lie in their order: so a conflict is small, and each node that waits keeps one.
 #[derive(Clone, Copy, Debug, PartialEq, Eq)]
 pub enum Conflict {
     /// Both agents are on this cell at this time step.
     Vertex {
+        time: u32,
         first: usize,
         second: usize,
         cell: Cell,
-        time: u32,
     },
     /// Between `time - 1` and `time` the agents change places: `first` goes from `from` to `to`, and `second` back.
     Swapping {
+        time: u32,
         first: usize,
         second: usize,
         from: Cell,
         to: Cell,
-        time: u32,
     },
     /// At this time step `follower` is on the cell on which `leader` was at `time - 1`.
     Following {
+        time: u32,
         follower: usize,
         leader: usize,
         cell: Cell,
-        time: u32,
     },
 }
 

@@ -25,20 +25,20 @@ obeys_side problem node other c s n keeps obeys i lt =
 
 -- a plan in which both agents break what their sides forbid has the conflict
 both_break : (rule : Rule) (plan other : List (List ℕ)) (c : Conflict) → length plan ≡ length other → IsConflict rule plan c → Breaks (path_of other (agent_on c Left)) (constraint_on c Left) → Breaks (path_of other (agent_on c Right)) (constraint_on c Right) → IsConflict rule other c
-both_break rule plan other (Vertex i j v t) n h a b = (h.0, subst (λ k. j < k) n h.1, a, b)
-both_break rule plan other (Swapping i j u v t) n h a b = (h.0, subst (λ k. j < k) n h.1, h.2, h.3, a.1, a.2, b.1, b.2)
-both_break rule plan other (Following i j v t) n h a b =
+both_break rule plan other (Vertex t i j v) n h a b = (h.0, subst (λ k. j < k) n h.1, a, b)
+both_break rule plan other (Swapping t i j u v) n h a b = (h.0, subst (λ k. j < k) n h.1, h.2, h.3, a.1, a.2, b.1, b.2)
+both_break rule plan other (Following t i j v) n h a b =
     let both = of_parts other i j v t h.1 a b in
     (h.0, h.1, subst (λ k. i < k) n h.2, subst (λ k. j < k) n h.3, h.4, both.0, both.1)
 
 -- each side's agent is one of the plan's
 pub agent_below : (rule : Rule) (plan : List (List ℕ)) (c : Conflict) (s : Side) → IsConflict rule plan c → agent_on c s < length plan
-agent_below rule plan (Vertex i j v t) Left h = omega (arith, h.0, h.1)
-agent_below rule plan (Vertex i j v t) Right h = h.1
-agent_below rule plan (Swapping i j u v t) Left h = omega (arith, h.0, h.1)
-agent_below rule plan (Swapping i j u v t) Right h = h.1
-agent_below rule plan (Following i j v t) Left h = omega (arith, h.2, h.3)
-agent_below rule plan (Following i j v t) Right h = omega (arith, h.2, h.3)
+agent_below rule plan (Vertex t i j v) Left h = omega (arith, h.0, h.1)
+agent_below rule plan (Vertex t i j v) Right h = h.1
+agent_below rule plan (Swapping t i j u v) Left h = omega (arith, h.0, h.1)
+agent_below rule plan (Swapping t i j u v) Right h = h.1
+agent_below rule plan (Following t i j v) Left h = omega (arith, h.2, h.3)
+agent_below rule plan (Following t i j v) Right h = omega (arith, h.2, h.3)
 
 -- no valid plan has the conflict, so one of its two agents keeps its side's constraint
 pub obeys_one_side : ObeysOneSide

@@ -146,31 +146,31 @@ may_follow e = cc
 
 -- where they change places, no conflict is earlier
 swap_least : (y : Conflict) → IsConflict Classical two_by_two_plan y → ¬ Precedes (conflict_rank y) (1 ∷ 1 ∷ 0 ∷ 1 ∷ 0 ∷ [])
-swap_least (Vertex zero zero v t) k h = omega (arith, k.0)
-swap_least (Vertex zero (suc zero) v zero) k h = let e = k.2 ∙ sym k.3 in omega (arith, e)
-swap_least (Vertex zero (suc zero) v (suc zero)) k h = let e = k.2 ∙ sym k.3 in omega (arith, e)
-swap_least (Vertex zero (suc zero) v (suc (suc t))) k (inl h) = omega (arith, h)
-swap_least (Vertex zero (suc zero) v (suc (suc t))) k (inr h) = omega (arith, h.0)
-swap_least (Vertex zero (suc (suc j)) v t) k h = omega (arith, k.1)
-swap_least (Vertex (suc i) j v t) k h = omega (arith, k.0, k.1)
-swap_least (Swapping i j u v t) k (inl h) = omega (arith, h, k.2)
-swap_least (Swapping i j u v t) k (inr (e, inl h)) = omega (arith, h)
-swap_least (Swapping i j u v t) k (inr (e, inr h)) = agents_least i j k.0 h.1
-swap_least (Following i j v t) k h = may_follow k.0
+swap_least (Vertex t zero zero v) k h = omega (arith, k.0)
+swap_least (Vertex zero zero (suc zero) v) k h = let e = k.2 ∙ sym k.3 in omega (arith, e)
+swap_least (Vertex (suc zero) zero (suc zero) v) k h = let e = k.2 ∙ sym k.3 in omega (arith, e)
+swap_least (Vertex (suc (suc t)) zero (suc zero) v) k (inl h) = omega (arith, h)
+swap_least (Vertex (suc (suc t)) zero (suc zero) v) k (inr h) = omega (arith, h.0)
+swap_least (Vertex t zero (suc (suc j)) v) k h = omega (arith, k.1)
+swap_least (Vertex t (suc i) j v) k h = omega (arith, k.0, k.1)
+swap_least (Swapping t i j u v) k (inl h) = omega (arith, h, k.2)
+swap_least (Swapping t i j u v) k (inr (e, inl h)) = omega (arith, h)
+swap_least (Swapping t i j u v) k (inr (e, inr h)) = agents_least i j k.0 h.1
+swap_least (Following t i j v) k h = may_follow k.0
 
 -- where one goes through the other, no conflict is earlier
 bay_least : (y : Conflict) → IsConflict Classical corridor_plan y → ¬ Precedes (conflict_rank y) (1 ∷ 0 ∷ 0 ∷ 1 ∷ 0 ∷ [])
-bay_least (Vertex zero zero v t) k h = omega (arith, k.0)
-bay_least (Vertex zero (suc zero) v zero) k h = let e = k.2 ∙ sym k.3 in omega (arith, e)
-bay_least (Vertex zero (suc zero) v (suc zero)) k h = irreflexive (1 ∷ 0 ∷ 0 ∷ 1 ∷ 0 ∷ []) h
-bay_least (Vertex zero (suc zero) v (suc (suc t))) k (inl h) = omega (arith, h)
-bay_least (Vertex zero (suc zero) v (suc (suc t))) k (inr h) = omega (arith, h.0)
-bay_least (Vertex zero (suc (suc j)) v t) k h = omega (arith, k.1)
-bay_least (Vertex (suc i) j v t) k h = omega (arith, k.0, k.1)
-bay_least (Swapping i j u v t) k (inl h) = omega (arith, h, k.2)
-bay_least (Swapping i j u v t) k (inr (e, inl h)) = omega (arith, h)
-bay_least (Swapping i j u v t) k (inr (e, inr h)) = omega (arith, h.0)
-bay_least (Following i j v t) k h = may_follow k.0
+bay_least (Vertex t zero zero v) k h = omega (arith, k.0)
+bay_least (Vertex zero zero (suc zero) v) k h = let e = k.2 ∙ sym k.3 in omega (arith, e)
+bay_least (Vertex (suc zero) zero (suc zero) v) k h = irreflexive (1 ∷ 0 ∷ 0 ∷ 1 ∷ 0 ∷ []) h
+bay_least (Vertex (suc (suc t)) zero (suc zero) v) k (inl h) = omega (arith, h)
+bay_least (Vertex (suc (suc t)) zero (suc zero) v) k (inr h) = omega (arith, h.0)
+bay_least (Vertex t zero (suc (suc j)) v) k h = omega (arith, k.1)
+bay_least (Vertex t (suc i) j v) k h = omega (arith, k.0, k.1)
+bay_least (Swapping t i j u v) k (inl h) = omega (arith, h, k.2)
+bay_least (Swapping t i j u v) k (inr (e, inl h)) = omega (arith, h)
+bay_least (Swapping t i j u v) k (inr (e, inr h)) = omega (arith, h.0)
+bay_least (Following t i j v) k h = may_follow k.0
 
 -- each root by its parts
 pub worked_root : WorkedRoot

@@ -17,7 +17,7 @@ leader_at_start problem node plan other i j v s inside has is leads there =
     obeys.0 (subst (λ t. at (path_of other agent) t ≡ v) (sym time) begins)
   where
     c : Conflict
-    c = Following i j v 1
+    c = Following 1 i j v
 
     agent : ℕ
     agent = agent_on c s

@@ -52,12 +52,12 @@ grown_root problem =
 
 -- the own path broke the side's constraint
 broke : (rule : Rule) (plan : List (List ℕ)) (c : Conflict) (s : Side) → IsConflict rule plan c → Breaks (path_of plan (agent_on c s)) (constraint_on c s)
-broke rule plan (Vertex i j v t) Left h = h.2
-broke rule plan (Vertex i j v t) Right h = h.3
-broke rule plan (Swapping i j u v t) Left h = (h.2, h.4, h.5)
-broke rule plan (Swapping i j u v t) Right h = (h.2, h.6, h.7)
-broke rule plan (Following i j v t) Left h = (parts plan i j v t h.1 h.5 h.6).0
-broke rule plan (Following i j v t) Right h = (parts plan i j v t h.1 h.5 h.6).1
+broke rule plan (Vertex t i j v) Left h = h.2
+broke rule plan (Vertex t i j v) Right h = h.3
+broke rule plan (Swapping t i j u v) Left h = (h.2, h.4, h.5)
+broke rule plan (Swapping t i j u v) Right h = (h.2, h.6, h.7)
+broke rule plan (Following t i j v) Left h = (parts plan i j v t h.1 h.5 h.6).0
+broke rule plan (Following t i j v) Right h = (parts plan i j v t h.1 h.5 h.6).1
 
 -- so it is new to its agent, since the own path obeys the node's constraints
 pub constraint_is_new : ConstraintIsNew
@@ -83,10 +83,10 @@ side_fits problem node plan c s has first = go c s first.member (first_early pro
         subst₂ (λ a b. Next problem.inst.grid a b) eu ev next
 
     go : (c : Conflict) (s : Side) → IsConflict problem.rule plan c → conflict_time c ≤ problem.bound → Fits problem.inst.grid problem.bound (constraint_on c s)
-    go (Vertex i j v t) s h l = (cell j t v h.1 h.3, l)
-    go (Swapping i j u v t) Left h l = (edge i t u v (omega (arith, h.0, h.1)) h.2 h.4 h.5 h.3, h.3, l)
-    go (Swapping i j u v t) Right h l = (edge j t v u h.1 h.2 h.6 h.7 (λ e. h.3 (sym e)), (λ e. h.3 (sym e)), l)
-    go (Following i j v t) s h l = (cell i t v h.2 h.5, part_early _ t problem.bound l)
+    go (Vertex t i j v) s h l = (cell j t v h.1 h.3, l)
+    go (Swapping t i j u v) Left h l = (edge i t u v (omega (arith, h.0, h.1)) h.2 h.4 h.5 h.3, h.3, l)
+    go (Swapping t i j u v) Right h l = (edge j t v u h.1 h.2 h.6 h.7 (λ e. h.3 (sym e)), (λ e. h.3 (sym e)), l)
+    go (Following t i j v) s h l = (cell i t v h.2 h.5, part_early _ t problem.bound l)
 
 -- a side has one constraint more, and all that held of the node holds of it
 grown_side : (problem : Problem) (node : TreeNode) (plan : List (List ℕ)) (c : Conflict) (s : Side) → Grown problem node → HasPlan problem node plan → IsFirstConflict problem.rule plan c → Grown problem (side_of node c s)

@@ -15,9 +15,9 @@ use Rattle.mapf_tree.proofs.RootNodes.{free_at_root}
 
 -- a conflict is of two agents
 no_conflict : (rule : Rule) (plan : List (List ℕ)) → length plan ≡ 1 → HasNoConflict rule plan
-no_conflict rule plan one (Vertex i j v t) h = omega (arith, one, h.0, h.1)
-no_conflict rule plan one (Swapping i j u v t) h = omega (arith, one, h.0, h.1)
-no_conflict rule plan one (Following i j v t) h = omega (arith, one, h.1, h.2, h.3)
+no_conflict rule plan one (Vertex t i j v) h = omega (arith, one, h.0, h.1)
+no_conflict rule plan one (Swapping t i j u v) h = omega (arith, one, h.0, h.1)
+no_conflict rule plan one (Following t i j v) h = omega (arith, one, h.1, h.2, h.3)
 
 -- so no node of the tree has a side
 only_root : (problem : Problem) → length problem.inst.starts ≡ 1 → (node : TreeNode) → InTree problem node → node ≡ root_of problem

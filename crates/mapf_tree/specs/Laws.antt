@@ -57,8 +57,8 @@ ConstraintIsEarly =
 abbrev pub LeaderAtStart : Type 0
 LeaderAtStart =
     (problem : Problem) (node : TreeNode) (plan other : List (List ℕ)) (i j v : ℕ) (s : Side) →
-    InTree problem node → HasPlan problem node plan → IsConflict problem.rule plan (Following i j v 1) → agent_on (Following i j v 1) s ≡ j →
-    ¬ HasPlan problem (side_of node (Following i j v 1) s) other
+    InTree problem node → HasPlan problem node plan → IsConflict problem.rule plan (Following 1 i j v) → agent_on (Following 1 i j v) s ≡ j →
+    ¬ HasPlan problem (side_of node (Following 1 i j v) s) other
 
 -- every free cell, and every two neighbouring free cells
 pub record HoldsGrid (g : Grid) (cells : List ℕ) (edges : List (ℕ × ℕ)) : Type 0 where

@@ -3,7 +3,7 @@ use Rattle.std.specs.Prelude.{List, [], map}
 use Rattle.std.specs.Arc.{arc_value}
 use Rattle.mapf_tree.specs.Nodes.{Changed}
 use Rattle.mapf_tree.specs.declared.node.own_changes.Held.{Held}
-use Rattle.mapf_tree.specs.declared.node.own_changes.Held.TheVariants.{Nothing, One, Two, Three, Four}
+use Rattle.mapf_tree.specs.declared.node.own_changes.Held.TheVariants.{Nothing, One, Two, Three}
 
 -- the changes, in their order
 abbrev pub held_in : Held → List Changed
@@ -11,4 +11,3 @@ held_in Nothing = []
 held_in (One changes) = map arc_value changes
 held_in (Two changes) = map arc_value changes
 held_in (Three changes) = map arc_value changes
-held_in (Four changes) = map arc_value changes

@@ -37,20 +37,20 @@ pub record HasPlan (problem : Problem) (node : TreeNode) (plan : List (List ℕ)
   pub within : plan_cost plan ≤ problem.bound
 
 abbrev pub agent_on : Conflict → Side → ℕ
-agent_on (conflict.Vertex i j v t) Left = i
-agent_on (conflict.Vertex i j v t) Right = j
-agent_on (conflict.Swapping i j u v t) Left = i
-agent_on (conflict.Swapping i j u v t) Right = j
-agent_on (conflict.Following i j v t) Left = min i j
-agent_on (conflict.Following i j v t) Right = max i j
+agent_on (conflict.Vertex t i j v) Left = i
+agent_on (conflict.Vertex t i j v) Right = j
+agent_on (conflict.Swapping t i j u v) Left = i
+agent_on (conflict.Swapping t i j u v) Right = j
+agent_on (conflict.Following t i j v) Left = min i j
+agent_on (conflict.Following t i j v) Right = max i j
 
 -- the agent's part in the conflict: a follower is on the cell at that time, and the leader was one time step before
 abbrev pub constraint_on : Conflict → Side → Constraint
-constraint_on (conflict.Vertex i j v t) side = constraint.Vertex v t
-constraint_on (conflict.Swapping i j u v t) Left = constraint.Edge u v t
-constraint_on (conflict.Swapping i j u v t) Right = constraint.Edge v u t
-constraint_on (conflict.Following i j v t) side =
-    constraint.Vertex v (if agent_on (conflict.Following i j v t) side == i then t else t - 1)
+constraint_on (conflict.Vertex t i j v) side = constraint.Vertex v t
+constraint_on (conflict.Swapping t i j u v) Left = constraint.Edge u v t
+constraint_on (conflict.Swapping t i j u v) Right = constraint.Edge v u t
+constraint_on (conflict.Following t i j v) side =
+    constraint.Vertex v (if agent_on (conflict.Following t i j v) side == i then t else t - 1)
 
 -- one turn more in the name, and one constraint more for the agent on that side
 abbrev pub side_of : TreeNode → Conflict → Side → TreeNode

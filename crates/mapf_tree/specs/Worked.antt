@@ -38,14 +38,14 @@ corridor_plan = (1 ∷ []) ∷ (0 ∷ 1 ∷ 2 ∷ []) ∷ []
 -- do: the follower is forbidden the cell then, and the leader one time step before
 pub record WorkedRoot : Type 0 where
   pub swap_plan : HasPlan two_by_two (root_of two_by_two) two_by_two_plan
-  pub swap_conflict : IsFirstConflict Classical two_by_two_plan (Swapping 0 1 0 1 1)
-  pub swap_left : (side_of (root_of two_by_two) (Swapping 0 1 0 1 1) Left).constraints ≡ (constraint.Edge 0 1 1 ∷ []) ∷ [] ∷ []
-  pub swap_right : (side_of (root_of two_by_two) (Swapping 0 1 0 1 1) Right).constraints ≡ [] ∷ (constraint.Edge 1 0 1 ∷ []) ∷ []
+  pub swap_conflict : IsFirstConflict Classical two_by_two_plan (Swapping 1 0 1 0 1)
+  pub swap_left : (side_of (root_of two_by_two) (Swapping 1 0 1 0 1) Left).constraints ≡ (constraint.Edge 0 1 1 ∷ []) ∷ [] ∷ []
+  pub swap_right : (side_of (root_of two_by_two) (Swapping 1 0 1 0 1) Right).constraints ≡ [] ∷ (constraint.Edge 1 0 1 ∷ []) ∷ []
   pub bay_plan : HasPlan corridor_with_bay (root_of corridor_with_bay) corridor_plan
-  pub bay_conflict : IsFirstConflict Classical corridor_plan (Vertex 0 1 1 1)
-  pub bay_left : (side_of (root_of corridor_with_bay) (Vertex 0 1 1 1) Left).constraints ≡ (constraint.Vertex 1 1 ∷ []) ∷ [] ∷ []
-  pub bay_right : (side_of (root_of corridor_with_bay) (Vertex 0 1 1 1) Right).constraints ≡ [] ∷ (constraint.Vertex 1 1 ∷ []) ∷ []
-  pub follower_first_left : (side_of (root_of two_by_two) (Following 0 1 1 1) Left).constraints ≡ (constraint.Vertex 1 1 ∷ []) ∷ [] ∷ []
-  pub follower_first_right : (side_of (root_of two_by_two) (Following 0 1 1 1) Right).constraints ≡ [] ∷ (constraint.Vertex 1 0 ∷ []) ∷ []
-  pub leader_first_left : (side_of (root_of two_by_two) (Following 1 0 0 1) Left).constraints ≡ (constraint.Vertex 0 0 ∷ []) ∷ [] ∷ []
-  pub leader_first_right : (side_of (root_of two_by_two) (Following 1 0 0 1) Right).constraints ≡ [] ∷ (constraint.Vertex 0 1 ∷ []) ∷ []
+  pub bay_conflict : IsFirstConflict Classical corridor_plan (Vertex 1 0 1 1)
+  pub bay_left : (side_of (root_of corridor_with_bay) (Vertex 1 0 1 1) Left).constraints ≡ (constraint.Vertex 1 1 ∷ []) ∷ [] ∷ []
+  pub bay_right : (side_of (root_of corridor_with_bay) (Vertex 1 0 1 1) Right).constraints ≡ [] ∷ (constraint.Vertex 1 1 ∷ []) ∷ []
+  pub follower_first_left : (side_of (root_of two_by_two) (Following 1 0 1 1) Left).constraints ≡ (constraint.Vertex 1 1 ∷ []) ∷ [] ∷ []
+  pub follower_first_right : (side_of (root_of two_by_two) (Following 1 0 1 1) Right).constraints ≡ [] ∷ (constraint.Vertex 1 0 ∷ []) ∷ []
+  pub leader_first_left : (side_of (root_of two_by_two) (Following 1 1 0 0) Left).constraints ≡ (constraint.Vertex 0 0 ∷ []) ∷ [] ∷ []
+  pub leader_first_right : (side_of (root_of two_by_two) (Following 1 1 0 0) Right).constraints ≡ [] ∷ (constraint.Vertex 0 1 ∷ []) ∷ []

@@ -37,19 +37,19 @@ either_order rule p q (Some time) none = λ t l h. none t l (turned rule q p t h
 -- two agents collide at the time of each conflict that they have
 pub collides : (rule : Rule) (plan : List (List ℕ)) (i j : ℕ) (c : Conflict) → IsConflictOfPair rule plan i j c
     → DoCollide rule (path_of plan i) (path_of plan j) (conflict_time c)
-collides rule plan i j (Vertex a b v t) is =
+collides rule plan i j (Vertex t a b v) is =
     together rule (path_of plan i) (path_of plan j) t (ap (λ k. place plan k t) (sym is.1) ∙ is.0.2 ∙ sym is.0.3 ∙ ap (λ k. place plan k t) is.2)
-collides Classical plan i j (Swapping a b u v t) is = inr (
+collides Classical plan i j (Swapping t a b u v) is = inr (
   ap (λ k. place plan k t) (sym is.1) ∙ is.0.5 ∙ sym is.0.6 ∙ ap (λ k. place plan k (t - 1)) is.2,
   ap (λ k. place plan k t) (sym is.2) ∙ is.0.7 ∙ sym is.0.4 ∙ ap (λ k. place plan k (t - 1)) is.1,
 )
-collides NoFollowing plan i j (Swapping a b u v t) is =
+collides NoFollowing plan i j (Swapping t a b u v) is =
     inr (inl (ap (λ k. place plan k t) (sym is.1) ∙ is.0.5 ∙ sym is.0.6 ∙ ap (λ k. place plan k (t - 1)) is.2))
-collides Classical plan i j (Following a b v t) is = absurd (never is.0.0)
+collides Classical plan i j (Following t a b v) is = absurd (never is.0.0)
   where
     never : ¬ (Classical ≡ NoFollowing)
     never e = cc
-collides NoFollowing plan i j (Following a b v t) is =
+collides NoFollowing plan i j (Following t a b v) is =
     ⊎_elim
     (λ h.
     let ea : a ≡ i = omega (arith, h, is.1) in let eb : b ≡ j = omega (arith, h, is.2) in
@@ -73,7 +73,7 @@ ConflictAt rule plan i j t = (c : Conflict) × IsConflictOfPair rule plan i j c 
 
 -- they have one where they are on one cell
 vertex_at : (rule : Rule) (plan : List (List ℕ)) (i j t : ℕ) → i < j → j < length plan → place plan i t ≡ place plan j t → ConflictAt rule plan i j t
-vertex_at rule plan i j t l m e = (Vertex i j (place plan i t) t, ((l, m, refl, sym e), refl, refl), refl)
+vertex_at rule plan i j t l m e = (Vertex t i j (place plan i t), ((l, m, refl, sym e), refl, refl), refl)
 
 -- and where they swap
 swapping_at : (rule : Rule) (plan : List (List ℕ)) (i j t : ℕ) → i < j → j < length plan → place plan i t ≡ place plan j (t - 1) → place plan j t ≡ place plan i (t - 1)
@@ -84,7 +84,7 @@ swapping_at rule plan i j t l m one other = go (ℕ_discrete (place plan i (t - 
     go (yes e) = vertex_at rule plan i j t l m (sym e ∙ sym other)
     go (no n) =
         let later : 0 < t = ⊎_elim (λ h. h) (λ h. absurd (n (ap (λ s. place plan i s) (omega (arith, h))))) (cases_lt 0 t) in
-        (Swapping i j (place plan i (t - 1)) (place plan i t) t, ((l, m, later, n, refl, refl, sym one, other), refl, refl), refl)
+        (Swapping t i j (place plan i (t - 1)) (place plan i t), ((l, m, later, n, refl, refl, sym one, other), refl, refl), refl)
 
 -- and where one follows the other and that is forbidden
 following_at : (plan : List (List ℕ)) (i j t : ℕ) → i < j → j < length plan
@@ -96,12 +96,12 @@ following_at plan i j t l m follows = ⊎_elim one other follows
 
     one : place plan i t ≡ place plan j (t - 1) → ConflictAt NoFollowing plan i j t
     one e =
-        ⊎_elim (λ h. (Following i j (place plan i t) t, ((refl, (λ k. omega (arith, k, l)), inside, m, h, refl, sym e), omega (arith, l), omega (arith, l)), refl))
+        ⊎_elim (λ h. (Following t i j (place plan i t), ((refl, (λ k. omega (arith, k, l)), inside, m, h, refl, sym e), omega (arith, l), omega (arith, l)), refl))
         (λ h. vertex_at NoFollowing plan i j t l m (e ∙ ap (λ s. place plan j s) (omega (arith, h)))) (cases_lt 0 t)
 
     other : place plan j t ≡ place plan i (t - 1) → ConflictAt NoFollowing plan i j t
     other e =
-        ⊎_elim (λ h. (Following j i (place plan j t) t, ((refl, (λ k. omega (arith, k, l)), m, inside, h, refl, sym e), omega (arith, l), omega (arith, l)), refl))
+        ⊎_elim (λ h. (Following t j i (place plan j t), ((refl, (λ k. omega (arith, k, l)), m, inside, h, refl, sym e), omega (arith, l), omega (arith, l)), refl))
         (λ h. vertex_at NoFollowing plan i j t l m (sym (e ∙ ap (λ s. place plan i s) (omega (arith, h))))) (cases_lt 0 t)
 
 -- so they have one where they collide

@@ -30,17 +30,17 @@ pub meets : (rule : Rule) (plan : List (List ℕ)) (M : ℕ → Type 0) (c : Con
     → M (beside rule (place plan (first_agent c) (conflict_time c - 1)) (place plan (first_agent c) (conflict_time c)))
     → M (place plan (second_agent c) (conflict_time c))
     ⊎ M (beside rule (place plan (second_agent c) (conflict_time c - 1)) (place plan (second_agent c) (conflict_time c)))
-meets rule plan M (Vertex i j v t) is to other = inl (subst M (is.2 ∙ sym is.3) to)
-meets Classical plan M (Swapping i j u v t) is to other = inr (subst M sums other)
+meets rule plan M (Vertex t i j v) is to other = inl (subst M (is.2 ∙ sym is.3) to)
+meets Classical plan M (Swapping t i j u v) is to other = inr (subst M sums other)
   where
     sums : place plan i (t - 1) + place plan i t + 2048 ≡ place plan j (t - 1) + place plan j t + 2048
     sums = omega (arith, is.4, is.5, is.6, is.7)
-meets NoFollowing plan M (Swapping i j u v t) is to other = inr (subst M (is.5 ∙ sym is.6) to)
-meets Classical plan M (Following i j v t) is to other = absurd (never is.0)
+meets NoFollowing plan M (Swapping t i j u v) is to other = inr (subst M (is.5 ∙ sym is.6) to)
+meets Classical plan M (Following t i j v) is to other = absurd (never is.0)
   where
     never : ¬ (Classical ≡ NoFollowing)
     never e = cc
-meets NoFollowing plan M (Following i j v t) is to other =
+meets NoFollowing plan M (Following t i j v) is to other =
     ⊎_elim
     (λ h.
     let ea : min i j ≡ i = omega (arith, h) in let eb : j ≡ max i j = omega (arith, h) in

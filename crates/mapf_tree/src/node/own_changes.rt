@@ -9,17 +9,16 @@ use std::alloc::Global;
 use std::marker::Model;
 use std::sync::Arc;
 
-/// Up to four changes, in their order.
+/// Up to three changes, in their order.
 #[derive(Drop)]
 enum Held {
     Nothing,
     One([Arc<Change>; 1]),
     Two([Arc<Change>; 2]),
     Three([Arc<Change>; 3]),
-    Four([Arc<Change>; 4]),
 }
 
-/// The changes of a chain that a node has by itself, at most four.
+/// The changes of a chain that a node has by itself, at most three.
 ///
 /// They stand in the node, so a node that waits takes no memory apart for them.
 pub(crate) struct OwnChanges {
@@ -62,32 +61,25 @@ impl OwnChanges {
             Held::One(changes) => changes,
             Held::Two(changes) => changes,
             Held::Three(changes) => changes,
-            Held::Four(changes) => changes,
         }
     }
 
     /// Whether there are as many as may be.
     pub(crate) fn is_full(&self) -> bool
-        ensures { IsTrue result ↔ (4 ≤ length self.now) }
+        ensures { IsTrue result ↔ (3 ≤ length self.now) }
     {
-        self.as_slice().len() >= 4
+        self.as_slice().len() >= 3
     }
 
     /// The same changes, shared once more, and another one, for which there is room.
     pub(crate) fn with(&self, change: Arc<Change>) -> Result<OwnChanges, NoMemory>
-        requires { length self.now < 4 }
+        requires { length self.now < 3 }
         ensures { IfOk result (λ own. own ≡ self.now ++ change.value ∷ []) }
     {
         let held = match self.as_slice() {
             [] => Held::One([change]),
             [a] => Held::Two([Arc::try_clone(a)?, change]),
             [a, b] => Held::Three([Arc::try_clone(a)?, Arc::try_clone(b)?, change]),
-            [a, b, c] => Held::Four([
-                Arc::try_clone(a)?,
-                Arc::try_clone(b)?,
-                Arc::try_clone(c)?,
-                change,
-            ]),
             _ => unreachable!(),
         };
         Ok(OwnChanges { held })
@@ -102,7 +94,6 @@ impl OwnChanges {
             Held::One(changes) => number(alloc, &mut changes[0], extension),
             Held::Two(changes) => number(alloc, &mut changes[1], extension),
             Held::Three(changes) => number(alloc, &mut changes[2], extension),
-            Held::Four(changes) => number(alloc, &mut changes[3], extension),
         }
     }
 
@@ -117,12 +108,6 @@ impl OwnChanges {
             Held::Three([a, b, c]) => {
                 Held::Three([Arc::try_clone(a)?, Arc::try_clone(b)?, Arc::try_clone(c)?])
             }
-            Held::Four([a, b, c, d]) => Held::Four([
-                Arc::try_clone(a)?,
-                Arc::try_clone(b)?,
-                Arc::try_clone(c)?,
-                Arc::try_clone(d)?,
-            ]),
         };
         Ok(OwnChanges { held })
     }
