@@ -8,6 +8,7 @@ pub mod laws;
 mod means;
 mod pace;
 mod refusal;
+mod rest;
 mod rounds;
 mod run_fault;
 mod runs;

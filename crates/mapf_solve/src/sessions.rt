@@ -4,7 +4,6 @@ mod brands;
 mod child_stage;
 mod desk;
 mod lookahead;
-mod rest;
 mod session;
 mod side_job;
 mod source;

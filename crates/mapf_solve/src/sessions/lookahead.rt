@@ -1,21 +1,21 @@
 //! What sessions of a search hand on: own paths, and what is known of children of nodes that wait.
 
-ghost use Rattle.std.specs.Prelude.{◌≡◌, ◌<◌, ◌≤◌, All, IfErr, IfOk, IfSome, None, Ok, vec_len};
+ghost use Rattle.std.specs.Prelude.{◌≡◌, ◌<◌, ◌≤◌, All, IfErr, IfOk, IfSome, vec_len};
 ghost use Rattle.mapf_board.specs.declared.limits.TheConstants.{MOST_WORKERS};
 ghost use Rattle.mapf_tree.specs.Family.{IsBranching, IsChildOf};
 ghost use Rattle.mapf_low.specs.Lookup.{IfKnown};
 ghost use Rattle.mapf_tree.specs.SideQuery.{IsQueryOf};
-ghost use Rattle.mapf_solve.specs.Sessions.{HasTaken, IsGivenOf};
+ghost use Rattle.mapf_solve.specs.Sessions.{IsGivenOf};
 
+use crate::rest::Rest;
 use crate::sessions::brands::OneProblem;
 use crate::sessions::child_stage::{ChildOfJob, ChildStage, Entry};
 use crate::sessions::desk::{Given, Slot};
-use crate::sessions::rest::Rest;
 use crate::sessions::side_job::{SideJob, SideWork};
 use mapf_board::{Left, Pair, Work};
 use mapf_grid::NoMemory;
 use mapf_low::Lookup;
-use mapf_tree::{Key, Node, OwnPaths, Problem, Progress, Search, Side, SideQuery};
+use mapf_tree::{Key, Node, OwnPaths, Problem, Side, SideQuery};
 use std::alloc::Global;
 use std::cmp::Ordering;
 
@@ -162,10 +162,11 @@ impl<'p, P: OneProblem> Lookahead<'p, P> {
         }
     }
 
-    /// Keeps what a board leaves that is closed: the children that were found, and no job.
-    pub(crate) fn keep_all(&mut self, left: Vec<(usize, Given<'p>)>)
+    /// A session of so many nodes ended: keeps what its board leaves, the children that were found, and no job.
+    pub(crate) fn end_session(&mut self, left: Vec<(usize, Given<'p>)>, nodes: u64)
         requires { All (λ x. IsGivenOf P.problem x.1) left.items }
     {
+        self.rest.judge(nodes);
         for (_slot, given) in left {
             match given {
                 Left::Answer(pair) => self.learn(pair),
@@ -199,29 +200,9 @@ impl<'p, P: OneProblem> Lookahead<'p, P> {
         }
     }
 
-    /// Whether the session that begins is one without workers.
-    pub(crate) fn rests(&mut self) -> bool {
-        self.rest.take()
-    }
-
-    /// A session with workers ended, in which at most so many nodes were taken: whether workers are worth it is judged by it.
-    pub(crate) fn judge(&mut self, nodes: u64) {
-        self.rest.judge(nodes);
-    }
-
-    /// A search goes on by so many nodes, and nothing is worked ahead for it.
-    pub(crate) fn lead_alone(
-        &mut self,
-        search: &mut Search<'p>,
-        nodes: u64,
-    ) -> Result<Progress, NoMemory>
-        requires problem { search.old.problem ≡ P.problem }
-        requires open_yet { search.old.outcome ≡ Ok None }
-        ensures problem { search.new.problem ≡ P.problem }
-        ensures went { HasTaken P.problem nodes search.old.last search.new result }
-    {
-        self.entries.clear();
-        search.go(&mut self.own_paths, nodes)
+    /// Whether workers rest in the session that begins.
+    pub(crate) fn rests(&self) -> bool {
+        self.rest.is_due()
     }
 
     /// The children of the node whose turn it is, of which what was worked ahead is used.

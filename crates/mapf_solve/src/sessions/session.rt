@@ -31,32 +31,14 @@ pub(crate) struct SessionSearch<'p, P: OneProblem> {
 /// A search and its source of children.
 ///
 /// They are one value, so that a closure that has both has one lifetime of the problem, and not one for each of them.
+#[derive(Drop)]
 struct Led<'p, 's, P: OneProblem, B: OneBoard, G> {
     search: Search<'p>,
     source: SessionSource<'p, 's, P, B, G>,
     ghost of_problem: { search.problem ≡ P.problem },
 }
 
-// By hand, so that a proof about what holds both sees a call where they are dropped, and not their fields.
-impl<'p, 's, P: OneProblem, B: OneBoard, G> Drop for Led<'p, 's, P, B, G> {
-    fn drop(self) {
-        let Led {
-            search: _,
-            source: _,
-        } = self;
-    }
-}
-
 impl<'p, 's, P: OneProblem, B: OneBoard, G: Gate> Led<'p, 's, P, B, G> {
-    /// The search and its source.
-    fn into_parts(self) -> (Search<'p>, SessionSource<'p, 's, P, B, G>)
-        ensures search { result.0 ≡ self.entry.search }
-        ensures problem { result.0.problem ≡ P.problem }
-    {
-        let Led { search, source } = self;
-        (search, source)
-    }
-
     /// The owner's part of a session: so many nodes are taken, then the board is shut.
     fn lead(self, nodes: u64) -> (Led<'p, 's, P, B, G>, Result<Progress, NoMemory>)
         requires { self.search.outcome ≡ Ok None }
@@ -68,19 +50,6 @@ impl<'p, 's, P: OneProblem, B: OneBoard, G: Gate> Led<'p, 's, P, B, G> {
         } = self;
         let progress = search.go(&mut source, nodes);
         source.desk.shut();
-        (Led { search, source }, progress)
-    }
-
-    /// The same where no worker is beside, and nothing is worked ahead.
-    fn lead_alone(self, nodes: u64) -> (Led<'p, 's, P, B, G>, Result<Progress, NoMemory>)
-        requires { self.search.outcome ≡ Ok None }
-        ensures { HasTaken P.problem nodes self.entry.search.last result.0.search result.1 }
-    {
-        let Led {
-            mut search,
-            mut source,
-        } = self;
-        let progress = source.lookahead.lead_alone(&mut search, nodes);
         (Led { search, source }, progress)
     }
 }
@@ -109,7 +78,7 @@ fn lead_with_workers<
 {
     let nodes = means.pace.session_nodes;
     if !led.source.desk.has_jobs() {
-        return (led.lead_alone(nodes), Ok(crew));
+        return (led.lead(nodes), Ok(crew));
     }
     let (crew, led) = work_beside(
         means.rt,
@@ -166,14 +135,15 @@ fn session_at<
     let source = SessionSource::begin(lookahead, desk, means.gate, search.waiting());
     let led = Led { search, source };
     let ((led, progress), crew) = lead_with_workers(means, Crew::of(live, seats), led);
-    let (search, source) = led.into_parts();
+    let Led { search, source } = led;
     let (lookahead, owner) = source.into_parts();
     let sessions = SessionSearch { search, lookahead };
     (sessions, progress, owner, seats_of(live, crew))
 }
 
-/// A session at a board of its own, which is closed behind it.
-fn session_with_board<'p, P: OneProblem + Send + Sync, R: Threads + Sync, G: Gate, S: Supply>(
+/// One session: nodes are taken, and workers beside work out children of those that wait, unless they rest. How the search went
+/// on, for as many nodes as a session takes.
+pub(crate) fn session<'p, P: OneProblem + Send + Sync, R: Threads + Sync, G: Gate, S: Supply>(
     means: &Means<'_, R, G, S>,
     sessions: SessionSearch<'p, P>,
 ) -> (SessionSearch<'p, P>, Result<Progress, NoMemory>)
@@ -190,45 +160,11 @@ fn session_with_board<'p, P: OneProblem + Send + Sync, R: Threads + Sync, G: Gat
     );
     match close_behind(means.alloc, live, owner, seats) {
         Ok(left) => {
-            sessions.lookahead.keep_all(left);
+            sessions
+                .lookahead
+                .end_session(left, means.pace.session_nodes);
             (sessions, progress)
         }
         Err(_) => (sessions, Err(NoMemory)),
     }
-}
-
-/// A session without a board.
-fn session_alone<'p, P: OneProblem>(
-    sessions: SessionSearch<'p, P>,
-    nodes: u64,
-) -> (SessionSearch<'p, P>, Result<Progress, NoMemory>)
-    requires { sessions.search.outcome ≡ Ok None }
-    ensures { HasTaken P.problem nodes sessions.entry.search.last result.0.search result.1 }
-{
-    let SessionSearch {
-        mut search,
-        mut lookahead,
-    } = sessions;
-    let progress = lookahead.lead_alone(&mut search, nodes);
-    (SessionSearch { search, lookahead }, progress)
-}
-
-/// One session: nodes are taken, and workers beside work out children of those that wait, unless they rest. How the search went
-/// on, for as many nodes as a session takes.
-pub(crate) fn session<'p, P: OneProblem + Send + Sync, R: Threads + Sync, G: Gate, S: Supply>(
-    means: &Means<'_, R, G, S>,
-    sessions: SessionSearch<'p, P>,
-) -> (SessionSearch<'p, P>, Result<Progress, NoMemory>)
-    requires { sessions.search.outcome ≡ Ok None }
-    ensures { HasTaken P.problem means.now.pace.session_nodes sessions.entry.search.last
-        result.0.search result.1 }
-{
-    let nodes = means.pace.session_nodes;
-    let mut sessions = sessions;
-    if sessions.lookahead.rests() {
-        return session_alone(sessions, nodes);
-    }
-    let (mut sessions, progress) = session_with_board(means, sessions);
-    sessions.lookahead.judge(nodes);
-    (sessions, progress)
 }

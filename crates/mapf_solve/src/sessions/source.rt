@@ -18,28 +18,18 @@ use mapf_tree::{Children, Node, OpenList, Problem, Side};
 /// The owner's part of a session: the search's source of children, of which some are worked ahead on a board.
 ///
 /// Its methods know nothing of the gate: only as a source of children it calls it.
+#[derive(Drop)]
 pub(crate) struct SessionSource<'p, 's, P: OneProblem, B: OneBoard, G> {
-    pub(crate) lookahead: Lookahead<'p, P>,
+    lookahead: Lookahead<'p, P>,
     pub(crate) desk: Desk<'p, 's, P, B>,
     gate: &'s G,
     /// For so many nodes the waiting ones aren't looked at again.
     looked: usize,
 }
 
-// By hand, so that a proof about what holds a source sees a call where it is dropped, and not its fields.
-impl<'p, 's, P: OneProblem, B: OneBoard, G> Drop for SessionSource<'p, 's, P, B, G> {
-    fn drop(self) {
-        let SessionSource {
-            lookahead: _,
-            desk: _,
-            gate: _,
-            looked: _,
-        } = self;
-    }
-}
-
 impl<'p, 's, P: OneProblem, B: OneBoard, G> SessionSource<'p, 's, P, B, G> {
-    /// The source of a session that begins with jobs for these nodes.
+    /// The source of a session that begins with jobs for these nodes, unless workers rest. Where there is none, nothing is worked
+    /// ahead in the session.
     pub(crate) fn begin(
         lookahead: Lookahead<'p, P>,
         desk: Desk<'p, 's, P, B>,
@@ -54,7 +44,12 @@ impl<'p, 's, P: OneProblem, B: OneBoard, G> SessionSource<'p, 's, P, B, G> {
             gate,
             looked: 0,
         };
-        source.post_all(waiting);
+        if !source.lookahead.rests() {
+            source.post_all(waiting);
+        }
+        if !source.desk.has_jobs() {
+            source.looked = usize::MAX;
+        }
         source
     }
 
@@ -66,8 +61,7 @@ impl<'p, 's, P: OneProblem, B: OneBoard, G> SessionSource<'p, 's, P, B, G> {
         let SessionSource {
             lookahead,
             desk,
-            gate: _,
-            looked: _,
+            ..
         } = self;
         (lookahead, desk.into_owner())
     }

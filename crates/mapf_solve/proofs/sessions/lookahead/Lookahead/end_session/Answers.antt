@@ -1,7 +1,7 @@
 use Rattle.std.proofs.Common.{subst}
 use Rattle.mapf_board.proofs.Sums.{All_first, All_rest}
 use Rattle.mapf_solve.specs.Sessions.{IsGivenOf}
-use Rattle.mapf_solve.proofs.sessions.lookahead.Lookahead.keep_all.Goals as goal
+use Rattle.mapf_solve.proofs.sessions.lookahead.Lookahead.end_session.Goals as goal
 
 pub learn-requires : goal.learn-requires
 learn-requires g c =

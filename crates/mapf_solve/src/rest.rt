@@ -38,18 +38,16 @@ impl Rest {
         self.children = self.children.saturating_add(1);
     }
 
-    /// Whether the session that begins is one without workers.
-    pub(crate) fn take(&mut self) -> bool {
-        if self.sessions == 0 {
-            return false;
-        }
-        self.sessions -= 1;
-        true
+    /// Whether workers rest in the session that begins.
+    pub(crate) fn is_due(&self) -> bool {
+        self.sessions > 0
     }
 
-    /// A session with workers ended, in which at most so many nodes were taken.
+    /// A session of so many nodes ended.
     pub(crate) fn judge(&mut self, nodes: u64) {
-        if self.children < nodes / NODES_A_CHILD {
+        if self.sessions > 0 {
+            self.sessions -= 1;
+        } else if self.children < nodes / NODES_A_CHILD {
             self.sessions = self.next;
             self.next = self.next.saturating_mul(FIRST).min(LONGEST);
         } else {
