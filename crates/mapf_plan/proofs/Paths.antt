@@ -1,7 +1,6 @@
 -- Facts of one path, and that it can be decided whether a list is one.
-use Rattle.std.proofs.Common.{◌≡◌, ◌≢◌, ℕ, zero, suc, ◌<◌, ◌≤◌, ◌+◌, ◌-◌, min, true, List, length, get_or, slice_index, subst, sym, ap, ◌∙◌, ⊎_elim, arith}
-use Rattle.std.specs.List.{AllByRecursion, between}
-use Rattle.std.proofs.lemmas.List.Edits.{length-between, get_or-between}
+use Rattle.std.proofs.Common.{◌≡◌, ◌≢◌, ℕ, zero, suc, ◌<◌, ◌≤◌, ◌+◌, min, true, List, length, get_or, slice_index, subst, sym, ap, ◌∙◌, ⊎_elim, arith}
+use Rattle.std.specs.List.{AllByRecursion}
 use Rattle.std.proofs.lemmas.List.Elements.{recursion_from_All}
 use Rattle.std.proofs.lemmas.List.{get_or_default}
 use Rattle.std.proofs.lemmas.Option.{slice_get_within}
@@ -40,16 +39,6 @@ at_inside p t h = let e : min t (cost p) ≡ t = omega (arith, h) in ap (λ k. s
 -- past its end it stays
 pub at_past : (p : List ℕ) (t : ℕ) → cost p ≤ t → at p t ≡ at p (cost p)
 at_past p t h = let e : min t (cost p) ≡ min (cost p) (cost p) = omega (arith, h) in ap (λ k. slice_index p k) e
-
--- where a cell is none of so many from a time on, the path isn't on it at these times
-pub not_within : (p : List ℕ) (v s e : ℕ) → e ≤ length p → ((k : ℕ) → k < length (between s e p) → ¬ (slice_index (between s e p) k ≡ v))
-    → (t : ℕ) → s ≤ t → t < e → ¬ (at p t ≡ v)
-not_within p v s e l none t low high same =
-    none (t - s) (omega (arith, length-between p s e l, low, high))
-    (get_or-between p s e (t - s) 0 (omega (arith, low, high)) ∙ ap (λ k. slice_index p k) there ∙ sym (at_inside p t (omega (arith, l, high))) ∙ same)
-  where
-    there : s + (t - s) ≡ t
-    there = omega (arith, low)
 
 -- up to its end it is on free cells
 cell_free : (g : Grid) (s e : ℕ) (p : List ℕ) → IsPath g s e p → (t : ℕ) → t < length p → IsFree g (at p t)

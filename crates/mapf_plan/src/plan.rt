@@ -9,7 +9,6 @@ use crate::collisions::first_conflict_from;
 use crate::{Conflict, Rule};
 pub use agent_paths::AgentPaths;
 use mapf_grid::Cell;
-pub(crate) use path::BLOCK;
 pub use path::Path;
 use std::marker::Model;
 

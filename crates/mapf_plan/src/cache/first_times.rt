@@ -14,9 +14,6 @@ use std::marker::Model;
 /// Of paths of this number or a larger one no times are kept, so that a table has a bound.
 const MOST_KEPT: usize = 2_048;
 
-/// A row has room for so many paths from the first one on: the agents of a usual instance have about so many at the root.
-const FIRST_ROOM: usize = 32;
-
 /// What is known of when agents on two paths have their first conflict.
 #[derive(Clone, Copy)]
 pub(crate) enum FirstTime {
@@ -115,9 +112,6 @@ fn keep_in_row(row: &mut Vec<FirstTime>, other: usize, time: FirstTime) -> Resul
     requires { other < MOST_KEPT }
     ensures { IsSetTime row.old.items row.new.items other time }
 {
-    if row.is_empty() {
-        row.reserve(FIRST_ROOM)?;
-    }
     for _entry in row.len()..other + 1 {
         row.push(FirstTime::Unknown)?;
     }

@@ -4,9 +4,11 @@ ghost use Rattle.std.specs.Prelude.{◌≡◌, ◌≢◌, ℕ, ◌+◌, ◌<◌,
 ghost use Rattle.mapf_plan.specs.Path.{at, cost, AreApart, IsFirstTime};
 ghost use Rattle.mapf_plan.specs.Collisions.{DoStepsCollide, DontCollideBefore, HaveNoneBefore, IsFirstCollision};
 
-use crate::plan::BLOCK;
 use crate::{Path, Rule};
 use mapf_grid::Cell;
+
+/// How many time steps are looked at together, without an early end among them: a processor can do so with several at once.
+const BLOCK: u32 = 64;
 
 /// A time step before which two agents on these paths don't collide; none where they never do.
 pub(crate) fn first_time_of_two(rule: Rule, one: &Path, other: &Path) -> Option<u32>

@@ -6,9 +6,6 @@ use mapf_grid::{Cell, NoMemory};
 use std::alloc::Global;
 use std::marker::Model;
 
-/// How many time steps are looked at together, without an early end among them: a processor can do so with several at once.
-pub(crate) const BLOCK: u32 = 64;
-
 /// One agent's cells at the time steps 0, 1, 2 and so on: at least one, at most 1,000,001.
 #[derive(Debug, Drop)]
 pub struct Path {
@@ -76,8 +73,7 @@ impl Path {
     pub(crate) fn is_same(&self, other: &Path) -> bool
         ensures { IsTrue result → self.now ≡ other.now }
     {
-        let (one, two) = (self.cells(), other.cells());
-        one.len() == two.len() && !differ(one, two)
+        self.cells() == other.cells()
     }
 
     /// For how many time steps from the first on the two paths are on the same cells, as far as the shorter one goes.
@@ -98,51 +94,11 @@ impl Path {
         requires { end ≤ cost self.now + 1 }
         ensures { IsFirstTime (λ t. at self.now t ≡ cell) from end result }
     {
-        for time in self.first_block_with(cell, from, end)..end {
+        for time in from..end {
             if self.at(time) == cell {
                 return Some(time);
             }
         }
         None
     }
-
-    /// Where the first block of these time steps begins in which the agent is on a cell; their end, if it is in none.
-    fn first_block_with(&self, cell: Cell, from: u32, end: u32) -> u32
-        requires { end ≤ cost self.now + 1 }
-        ensures from { from ≤ result }
-        ensures none { (t : ℕ) → from ≤ t → t < result → at self.now t ≢ cell }
-    {
-        let mut start = from;
-        while start < end {
-            let next = start + BLOCK.min(end - start);
-            if is_among(cell, &self.cells[start as usize..next as usize]) {
-                return start;
-            }
-            start = next;
-        }
-        start
-    }
-}
-
-/// Whether two lists of as many cells differ. All of them are looked at: a processor can do so with several at once.
-fn differ(one: &[Cell], other: &[Cell]) -> bool
-    requires { length one.now ≡ length other.now }
-    ensures { IsFalse result → (k : ℕ) → k < length one.now → slice_index one.now k ≡ slice_index other.now k }
-{
-    let mut found = false;
-    for place in 0..one.len() {
-        found |= one[place] != other[place];
-    }
-    found
-}
-
-/// Whether a cell is one of these.
-fn is_among(cell: Cell, cells: &[Cell]) -> bool
-    ensures { IsFalse result → (k : ℕ) → k < length cells.now → slice_index cells.now k ≢ cell }
-{
-    let mut found = false;
-    for other in cells {
-        found |= *other == cell;
-    }
-    found
 }
