@@ -15,7 +15,7 @@ mod earliest;
 
 use crate::backwards::dead_ends::DeadEnds;
 use crate::backwards::earliest::earliest_arrivals;
-use crate::query::{Query, Trip};
+use crate::query::Query;
 use crate::{Constraints, Distances, Lookup};
 use mapf_grid::{Cell, Map, NoMemory};
 use mapf_plan::Path;
@@ -115,29 +115,34 @@ fn own_path(
     }
 }
 
+/// What a search backwards is given beside what one forwards is.
+#[derive(Drop)]
+pub struct Backwards<'a> {
+    /// The distances to the start.
+    pub from_start: &'a Distances,
+    /// No path that the agent may take costs less.
+    pub least: u32,
+    /// How many dead ends the search may meet: cells at a time step from which it had to turn back.
+    pub budget: usize,
+}
+
 /// An agent's own path, as [`crate::cheapest`] gives it, by a search backwards: for a rising cost, from the goal at that time
-/// step to the start at time 0. Where it meets no dead end it visits one state a time step.
-///
-/// `from_start` are the distances to the start on this map, and no path that the agent may take costs less than `least`. A
-/// dead end is a cell at a time step from which the search had to turn back. Where it meets more than `budget` of them it
-/// begins again, by when the agent can be on each cell at the earliest under its constraints, in place of the distances.
-/// It is unknown where it met too many dead ends then, too; known to be none where there is no path that the agent may take;
-/// or its own path. Only `NoMemory` is an error.
+/// step to the start at time 0. Where it meets more dead ends than its budget it begins again, by when the agent can be on each
+/// cell at the earliest under its constraints, in place of the distances. It is unknown where it met too many then, too; known to
+/// be none where there is no path that the agent may take; or its own path. Only `NoMemory` is an error.
 pub fn cheapest_backwards(
     alloc: Global,
     map: &Map,
-    from_start: &Distances,
     start: Cell,
     goal: Cell,
     constraints: &Constraints,
-    least: u32,
     bound: u32,
-    budget: usize,
+    by: &Backwards<'_>,
 ) -> Result<Lookup<Option<Path>>, NoMemory>
     requires start { IsFree map.now start }
     requires goal { IsFree map.now goal }
-    requires from_start { AreDistances map.now start from_start.now }
-    requires least { (p : List ℕ) → IsAllowed map.now start goal bound constraints.now p → least ≤ cost p }
+    requires from_start { AreDistances map.now start by.now.from_start.now }
+    requires least { (p : List ℕ) → IsAllowed map.now start goal bound constraints.now p → by.now.least ≤ cost p }
     requires bound { bound ≤ most_bound }
     ensures { IfOk result (λ answer. IfKnown answer (λ found. MatchOption found
         ((p : List ℕ) → ¬ IsAllowed map.now start goal bound constraints.now p)
@@ -145,12 +150,12 @@ pub fn cheapest_backwards(
 {
     // A map's sizes are known from a call alone.
     let _width = map.width();
-    let trip = Trip { start, goal };
-    let by_distance = Query::new(alloc, map, from_start.table(), &trip, constraints, bound)?;
-    if let Lookup::Known(answer) = own_path(alloc, &by_distance, least, budget)? {
+    let table = by.from_start.table();
+    let by_distance = Query::new(alloc, map, table, start, goal, constraints, bound)?;
+    if let Lookup::Known(answer) = own_path(alloc, &by_distance, by.least, by.budget)? {
         return Ok(Lookup::Known(answer));
     }
     let arrivals = earliest_arrivals(alloc, &by_distance)?;
-    let by_arrival = Query::new(alloc, map, &arrivals, &trip, constraints, bound)?;
-    own_path(alloc, &by_arrival, least, budget)
+    let by_arrival = Query::new(alloc, map, &arrivals, start, goal, constraints, bound)?;
+    own_path(alloc, &by_arrival, by.least, by.budget)
 }

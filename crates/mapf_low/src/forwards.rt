@@ -20,7 +20,7 @@ use crate::cell_set::CellSet;
 use crate::forwards::expansion::is_at;
 use crate::forwards::searched::{Searched, search};
 use crate::forwards::states::States;
-use crate::query::{Query, Trip};
+use crate::query::Query;
 use crate::reconstruction::reconstruct_path;
 use crate::{Constraints, Distances};
 use mapf_grid::{Cell, Map, NoMemory};
@@ -110,7 +110,7 @@ pub fn cheapest(
         ((p : List ℕ) → ¬ IsAllowed map.now start goal bound constraints.now p)
         (IsOwnPath map.now start goal bound constraints.now)) }
 {
-    let trip = Trip { start, goal };
-    let query = Query::new(alloc, map, distances.table(), &trip, constraints, bound)?;
+    let table = distances.table();
+    let query = Query::new(alloc, map, table, start, goal, constraints, bound)?;
     own_path_of(alloc, &query)
 }

@@ -11,7 +11,7 @@ ghost use Rattle.mapf_plan.specs.Plan.{most_bound};
 
 use crate::by_layers::by_layers;
 use crate::forwards::taken::list_states;
-use crate::query::{Query, Trip};
+use crate::query::Query;
 use crate::{Constraints, Distances};
 use mapf_grid::{Cell, Map, NoMemory};
 use mapf_plan::Path;
@@ -46,8 +46,8 @@ pub fn cheapest_by_layers(
         ((p : List ℕ) → ¬ IsAllowed map.now start goal bound constraints.now p)
         (IsOwnPath map.now start goal bound constraints.now)) }
 {
-    let trip = Trip { start, goal };
-    let query = Query::new(alloc, map, distances.table(), &trip, constraints, bound)?;
+    let table = distances.table();
+    let query = Query::new(alloc, map, table, start, goal, constraints, bound)?;
     by_layers(alloc, &query)
 }
 
@@ -69,7 +69,7 @@ pub fn taken(
     requires bound { bound ≤ most_bound }
     ensures { IfOk result (λ states. AreTaken map.now distances.now start goal bound constraints.now states.items) }
 {
-    let trip = Trip { start, goal };
-    let query = Query::new(alloc, map, distances.table(), &trip, constraints, bound)?;
+    let table = distances.table();
+    let query = Query::new(alloc, map, table, start, goal, constraints, bound)?;
     list_states(alloc, &query)
 }

@@ -13,7 +13,7 @@ mod lookup;
 mod query;
 mod reconstruction;
 
-pub use backwards::cheapest_backwards;
+pub use backwards::{Backwards, cheapest_backwards};
 pub use constraint::Constraint;
 pub use constraints::Constraints;
 pub use distances::Distances;

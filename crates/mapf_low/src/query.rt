@@ -15,13 +15,6 @@ use smallvec::SmallVec;
 use std::alloc::Global;
 use std::marker::Model;
 
-/// Where an agent begins, and where it ends.
-#[derive(Drop)]
-pub(crate) struct Trip {
-    pub(crate) start: Cell,
-    pub(crate) goal: Cell,
-}
-
 /// What the low-level search is asked: one agent's own path from its start to its goal on a map, under constraints, at a
 /// cost of at most a limit. It goes by a table of a number for each cell: the search forwards by the distances to the goal, the
 /// search backwards by a time step before which the agent can't be there.
@@ -62,26 +55,27 @@ impl<'a> Query<'a> {
         alloc: Global,
         map: &'a Map,
         table: &'a Table,
-        trip: &Trip,
+        start: Cell,
+        goal: Cell,
         constraints: &'a Constraints,
         limit: u32,
     ) -> Result<Query<'a>, NoMemory>
-        requires start { IsFree map.now trip.now.start }
-        requires goal { IsFree map.now trip.now.goal }
+        requires start { IsFree map.now start }
+        requires goal { IsFree map.now goal }
         requires limit { limit ≤ most_bound }
         ensures { IfOk result
-            (λ q. q ≡ query_of map.now table.now constraints.now trip.now.start trip.now.goal limit) }
+            (λ q. q ≡ query_of map.now table.now constraints.now start goal limit) }
     {
         // A map's sizes are known from a call alone.
         let _width = map.width();
-        let last = constraints.last_time_at(trip.goal);
+        let last = constraints.last_time_at(goal);
         let busy_times = busy_times(alloc, constraints, limit + 1)?;
         Ok(Query {
             map,
             table,
             constraints,
-            start: trip.start,
-            goal: trip.goal,
+            start,
+            goal,
             limit,
             busy_times,
             last,

@@ -5,7 +5,9 @@ use super::agreement::{free_places, is_same};
 use super::map_files::{LINE, OPEN, RING, ROOM, SQUARE, cell_at};
 use super::single_constraints::{at_most_one, set_of};
 use mapf_grid::{Cell, Map};
-use mapf_low::{Constraint, Constraints, Distances, Lookup, cheapest, cheapest_backwards};
+use mapf_low::{
+    Backwards, Constraint, Constraints, Distances, Lookup, cheapest, cheapest_backwards,
+};
 use std::alloc::Global;
 use std::process::Abort;
 use std::test::Fail;
@@ -31,7 +33,12 @@ fn assert_same(
     let distances = Distances::to(alloc, map, goal)?;
     let from_start = Distances::to(alloc, map, start)?;
     let one = cheapest(alloc, map, &distances, start, goal, set, BOUND)?;
-    let other = cheapest_backwards(alloc, map, &from_start, start, goal, set, 0, BOUND, budget)?;
+    let by = Backwards {
+        from_start: &from_start,
+        least: 0,
+        budget,
+    };
+    let other = cheapest_backwards(alloc, map, start, goal, set, BOUND, &by)?;
     let cells = one.as_ref().map(|path| path.cells());
     let Lookup::Known(back) = other else {
         return Err(Fail::from("too many dead ends"));
@@ -141,7 +148,12 @@ fn a_dead_end_over_the_budget_ends_the_search_backwards(rt: HostRuntime) -> Resu
         (&held, 1, Some(3)),
         (&lost, 0, None),
     ] {
-        let own = cheapest_backwards(alloc, &map, &from_start, start, goal, set, 0, BOUND, budget)?;
+        let by = Backwards {
+            from_start: &from_start,
+            least: 0,
+            budget,
+        };
+        let own = cheapest_backwards(alloc, &map, start, goal, set, BOUND, &by)?;
         let known = match own {
             Lookup::Known(path) => Some(path.ok_or("no path")?.cost()),
             Lookup::Unknown => None,

@@ -6,7 +6,7 @@ use crate::FromStart;
 use crate::tree::family::own_path;
 use crate::tree::side_query::SideQuery;
 use mapf_grid::NoMemory;
-use mapf_low::{Constraint, Lookup, cheapest_backwards};
+use mapf_low::{Backwards, Constraint, Lookup, cheapest_backwards};
 use mapf_plan::Path;
 use std::alloc::Global;
 
@@ -80,18 +80,20 @@ impl<'p> SideQuery<'p> {
         requires { IsFromStart self.now.problem from_start.now }
         ensures { IfOk result (IsFoundBy self.now) }
     {
-        if let Some(distances) = from_start.distances_of(self.agent) {
+        if let Some(from_start) = from_start.distances_of(self.agent) {
             let instance = self.problem.instance();
             let answer = cheapest_backwards(
                 alloc,
                 instance.map(),
-                distances,
                 instance.start(self.agent),
                 instance.goal(self.agent),
                 &self.constraints,
-                self.least,
                 self.limit,
-                MOST_DEAD_ENDS,
+                &Backwards {
+                    from_start,
+                    least: self.least,
+                    budget: MOST_DEAD_ENDS,
+                },
             )?;
             if let Lookup::Known(found) = answer {
                 return Ok(found);
