@@ -17,21 +17,22 @@ use crate::work::{Pair, Work};
 use std::alloc::{AllocError, Global};
 use std::thread::{Threads, join, map_vec};
 
-/// The seats of all workers of a live board, of whom none has a claim.
+/// The seats of all workers of a live board, of whom none has a claim, and how many turns each takes at most.
 #[derive(Drop)]
 pub struct Crew<'s, W: Work> {
     live: &'s Live<W>,
     seats: Vec<WorkerSeat<W>>,
+    turns: u64,
     ghost crew: { IsCrewOf live.now seats.items },
 }
 
 impl<'s, W: Work> Crew<'s, W> {
     /// These are the seats of all workers of the board.
-    pub fn of(live: &'s Live<W>, seats: Vec<WorkerSeat<W>>) -> Crew<'s, W>
+    pub fn of(live: &'s Live<W>, seats: Vec<WorkerSeat<W>>, turns: u64) -> Crew<'s, W>
         requires { IsCrewOf live.now seats.items }
         ensures { result.live.now ≡ live.now }
     {
-        Crew { live, seats }
+        Crew { live, seats, turns }
     }
 
     /// The seats.
@@ -84,7 +85,6 @@ pub fn work_beside<
     rt: &R,
     crew: Crew<'s, W>,
     work: &W,
-    turns: u64,
     gate: &G,
     supply: &S,
     lead: F,
@@ -97,7 +97,7 @@ pub fn work_beside<
         rt,
         || -> Result<Crew<'_, W>, AllocError>
             ensures { IfOk result (λ back. back.live.now ≡ crew.entry.live.now) }
-        { work_all(rt, crew, work, turns, gate, supply) },
+        { work_all(rt, crew, work, gate, supply) },
         lead,
     );
     (crew.map_err(|_| NoMemory), led)
@@ -108,13 +108,12 @@ fn work_all<'s, R: Threads + Sync, W: Work, G: Gate, S: Supply>(
     rt: &R,
     crew: Crew<'s, W>,
     work: &W,
-    turns: u64,
     gate: &G,
     supply: &S,
 ) -> Result<Crew<'s, W>, AllocError>
     ensures { IfOk result (λ back. back.live.now ≡ crew.entry.live.now) }
 {
-    let Crew { live, seats } = crew;
+    let Crew { live, seats, turns } = crew;
     let seats = map_vec(
         rt,
         seats,
@@ -125,5 +124,5 @@ fn work_all<'s, R: Threads + Sync, W: Work, G: Gate, S: Supply>(
             ensures idle { IsIdle result }
         { live.take_turns(work, gate, supply, seat, turns) },
     )?;
-    Ok(Crew { live, seats })
+    Ok(Crew { live, seats, turns })
 }

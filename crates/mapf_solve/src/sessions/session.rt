@@ -84,7 +84,6 @@ fn lead_with_workers<
         means.rt,
         crew,
         &SideWork::new(means.alloc),
-        means.pace.worker_turns,
         means.gate,
         means.supply,
         ||
@@ -134,7 +133,11 @@ fn session_at<
     let desk = Desk::<P, B>::new(live, owner);
     let source = SessionSource::begin(lookahead, desk, means.gate, search.waiting());
     let led = Led { search, source };
-    let ((led, progress), crew) = lead_with_workers(means, Crew::of(live, seats), led);
+    let ((led, progress), crew) = lead_with_workers(
+        means,
+        Crew::of(live, seats, means.pace.worker_turns),
+        led,
+    );
     let Led { search, source } = led;
     let (lookahead, owner) = source.into_parts();
     let sessions = SessionSearch { search, lookahead };
