@@ -1,10 +1,11 @@
 //! Own paths that were searched before.
 
-ghost use Rattle.std.specs.Prelude.{◌≡◌, IfOk, IfSome};
+ghost use Rattle.std.specs.Prelude.{◌≡◌, IfOk, IfSome, option_map};
+ghost use Rattle.std.specs.Arc.{arc_value};
 ghost use Rattle.mapf_tree.specs.Problem.{Problem};
 ghost use Rattle.mapf_tree.specs.Family.{IsBranching, IsChildOf};
 ghost use Rattle.mapf_low.specs.Lookup.{IfKnown};
-ghost use Rattle.mapf_tree.specs.SideQuery.{IsFromStart, IsQueryOf};
+ghost use Rattle.mapf_tree.specs.SideQuery.{IsFoundBy, IsFromStart, IsQueryOf};
 
 mod agent_distances;
 mod constraint_sets;
@@ -16,6 +17,7 @@ use crate::own_paths::path_cache::PathCache;
 use crate::{Children, FromStart, Node, OpenList, Problem, Side, SideQuery};
 use mapf_grid::NoMemory;
 use mapf_low::Lookup;
+use mapf_plan::Path;
 use std::alloc::Global;
 use std::marker::Model;
 use std::sync::Arc;
@@ -93,8 +95,7 @@ impl<'p> OwnPaths<'p> {
         Ok((left, right))
     }
 
-    /// The child on one side, which is known or searched now.
-    #[inline(always)]
+    /// The child on one side, which is known, or whose path is searched now.
     fn child_from(
         &mut self,
         node: &Node,
@@ -106,27 +107,36 @@ impl<'p> OwnPaths<'p> {
         ensures problem { self.new ≡ self.old }
         ensures child { IfOk result (IsChildOf self.old node.now side) }
     {
-        match known {
-            Lookup::Known(child) => Ok(child),
-            Lookup::Unknown => self.child(node, side),
+        if let Lookup::Known(child) = known {
+            return Ok(child);
         }
-    }
-
-    /// The child of a node of the tree on one side of its conflict; none exactly where that isn't in the tree. Its path is
-    /// searched, and remembered unless memory runs out for that.
-    pub fn child(&mut self, node: &Node, side: Side) -> Result<Option<Node>, NoMemory>
-        requires { IsBranching self.old node.now }
-        ensures problem { self.new ≡ self.old }
-        ensures child { IfOk result (IsChildOf self.old node.now side) }
-    {
         let query = SideQuery::of(self.alloc, self.problem, node, side)?;
         let from_start = self.from_start(&query);
-        let path = match query.own_path_with(self.alloc, &from_start)? {
+        let (path, extension) = self.search(node, &query, &from_start)?;
+        query.child(self.alloc, node, path, extension)
+    }
+
+    /// Searches the own path that a side of a node asks for, and remembers it unless memory runs out for that. Beside it the number
+    /// that the extension of its agent's set may have.
+    pub fn search(
+        &mut self,
+        node: &Node,
+        query: &SideQuery<'p>,
+        from_start: &FromStart,
+    ) -> Result<(Option<Arc<Path>>, usize), NoMemory>
+        requires node { IsBranching self.old node.now }
+        requires problem { query.now.problem ≡ self.old }
+        requires query { IsQueryOf node.now query.now }
+        requires start { IsFromStart self.old from_start.now }
+        ensures same { self.new ≡ self.old }
+        ensures path { IfOk result (λ found. IsFoundBy query.now (option_map arc_value found.0)) }
+    {
+        let path = match query.own_path_with(self.alloc, from_start)? {
             Some(path) => Some(Arc::new(self.alloc, path)?),
             None => None,
         };
-        let extension = self.cache.learn(node, &query, path.as_ref());
-        query.child(self.alloc, node, path, extension)
+        let extension = self.cache.learn(node, query, path.as_ref());
+        Ok((path, extension))
     }
 
     /// The own path that a side of a node asks for, where it isn't known. None where it is.

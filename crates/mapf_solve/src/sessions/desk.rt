@@ -32,6 +32,7 @@ pub(crate) type Given<'p> = Left<Pair<SideWork<'p>>, SideJob<'p>>;
 
 /// The owner of a live board of as many slots as a board may have. Each job of the board is for a child of a node of the
 /// problem's tree.
+#[derive(Drop)]
 pub(crate) struct Desk<'p, 's, P: OneProblem, B: OneBoard> {
     live: &'s Live<SideWork<'p>>,
     owner: Owner<SideWork<'p>>,
@@ -42,18 +43,6 @@ pub(crate) struct Desk<'p, 's, P: OneProblem, B: OneBoard> {
     ghost slots: { size_of live.now ≡ MOST_SLOTS },
     ghost owns: { IsOwnerOf live.now owner },
     ghost sides: { AreSidesOf P.problem (currents owner) },
-}
-
-// By hand, so that a proof about what holds a desk sees a call where it is dropped, and not its fields.
-impl<'p, 's, P: OneProblem, B: OneBoard> Drop for Desk<'p, 's, P, B> {
-    fn drop(self) {
-        let Desk {
-            live: _,
-            owner: _,
-            used: _,
-            of: _,
-        } = self;
-    }
 }
 
 impl<'p, 's, P: OneProblem, B: OneBoard> Desk<'p, 's, P, B> {
@@ -80,13 +69,7 @@ impl<'p, 's, P: OneProblem, B: OneBoard> Desk<'p, 's, P, B> {
         ensures owns { IsOwnerAt B.board MOST_SLOTS result }
         ensures sides { AreSidesOf P.problem (currents result) }
     {
-        let Desk {
-            live: _,
-            owner,
-            used: _,
-            of: _,
-        } = self;
-        owner
+        self.owner
     }
 
     /// Whether the slot has a job.

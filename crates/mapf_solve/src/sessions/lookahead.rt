@@ -139,14 +139,13 @@ impl<'p, P: OneProblem> Lookahead<'p, P> {
         }
     }
 
-    /// Performs a job that nobody claimed, and keeps what becomes of it.
-    pub(crate) fn perform(&mut self, job: SideJob<'p>)
-        requires { job.query.problem ≡ P.problem }
+    /// Performs a job that nobody claimed: its path is remembered, unless memory runs out.
+    pub(crate) fn perform(&mut self, job: &SideJob<'p>)
+        requires { job.now.query.problem ≡ P.problem }
     {
-        match SideWork::new(self.alloc).perform(job) {
-            Ok(pair) => self.learn(pair),
-            Err(job) => self.give_up(&job),
-        }
+        let _found = self
+            .own_paths
+            .search(job.node(), job.query(), job.from_start());
     }
 
     /// Keeps what a worker left, where the job's node still waits: the child, or that there was no memory for it.

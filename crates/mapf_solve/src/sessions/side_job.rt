@@ -84,6 +84,13 @@ impl<'p> SideJob<'p> {
         &self.query
     }
 
+    /// The distances from the start of the child's agent, if there is a table.
+    pub(crate) fn from_start(&self) -> &FromStart
+        ensures { IsFromStart self.now.query.problem result.now }
+    {
+        &self.from_start
+    }
+
     /// The job's number.
     pub(crate) fn number(&self) -> u64 {
         self.number

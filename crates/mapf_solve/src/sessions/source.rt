@@ -138,7 +138,7 @@ impl<'p, 's, P: OneProblem, B: OneBoard, G: Gate> Children for SessionSource<'p,
             if let Some(job) = self.fetch(node, side) {
                 let number = job.number();
                 self.gate.enter(number);
-                self.lookahead.perform(job);
+                self.lookahead.perform(&job);
                 self.gate.leave(number);
             }
         }
