@@ -19,6 +19,7 @@ mod watch;
 pub use alone::answer_alone;
 pub use answers::{answer, answer_watched};
 pub use ask::Ask;
+pub use means::Means;
 pub use pace::{MOST_SESSION_NODES, MOST_WORKER_TURNS, Pace};
 pub use refusal::Refusal;
 pub use run_fault::RunFault;

@@ -7,15 +7,21 @@ use crate::Pace;
 use mapf_board::AlwaysGrants;
 use std::alloc::Global;
 
-/// What an answer is worked out with: threads, memory, 1 to 64 workers, a pace, a gate and a supply.
+/// What an answer is worked out with. No answer depends on it.
 #[derive(Drop)]
-pub(crate) struct Means<'a, R, G, S> {
-    pub(crate) rt: &'a R,
-    pub(crate) alloc: Global,
-    pub(crate) workers: usize,
-    pub(crate) pace: Pace,
-    pub(crate) gate: &'a G,
-    pub(crate) supply: &'a S,
+pub struct Means<'a, R, G, S> {
+    /// Starts threads.
+    pub rt: &'a R,
+    /// Where memory is from.
+    pub alloc: Global,
+    /// How many workers may work at once: 1 to 64.
+    pub workers: usize,
+    /// How long a session goes on.
+    pub pace: Pace,
+    /// Is told of each job that a worker does.
+    pub gate: &'a G,
+    /// Grants memory for a worker's jobs.
+    pub supply: &'a S,
     pub ghost few: { (0 < workers) × (workers ≤ MOST_WORKERS) },
     pub ghost paced: { 1 ≤ pace.session_nodes },
 }

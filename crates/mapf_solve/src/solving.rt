@@ -74,37 +74,6 @@ pub fn solve_paced<R: Threads + Sync, G: Gate, S: Supply>(
     ensures answer { IfOk result (IsAnswerOf problem.now) }
     ensures best { IfOk result (IsBestAnswer problem.now) }
 {
-    solve_watched(
-        rt,
-        alloc,
-        problem,
-        workers,
-        pace,
-        gate,
-        supply,
-        &mut NoWatch,
-    )
-}
-
-/// Solves a problem in sessions of this pace, between which a watch is told how far the search has come: first of the root, if that
-/// is in the tree, and last of the end. The answer is that of `solve`.
-pub fn solve_watched<R: Threads + Sync, G: Gate, S: Supply, W: Watch>(
-    rt: &R,
-    alloc: Global,
-    problem: &Problem,
-    workers: usize,
-    pace: Pace,
-    gate: &G,
-    supply: &S,
-    watch: &mut W,
-) -> Result<Answer, NoMemory>
-    requires some { 0 < workers }
-    requires few { workers ≤ MOST_WORKERS }
-    requires turns { pace.worker_turns ≤ MOST_WORKER_TURNS }
-    requires nodes { (1 ≤ pace.session_nodes) × (pace.session_nodes ≤ MOST_SESSION_NODES) }
-    ensures answer { IfOk result (IsAnswerOf problem.now) }
-    ensures best { IfOk result (IsBestAnswer problem.now) }
-{
     let means = Means {
         rt,
         alloc,
@@ -113,7 +82,20 @@ pub fn solve_watched<R: Threads + Sync, G: Gate, S: Supply, W: Watch>(
         gate,
         supply,
     };
-    solve_from(&means, problem, 0, watch)
+    solve_watched(&means, problem, &mut NoWatch)
+}
+
+/// Solves a problem by these means, and between sessions a watch is told how far the search has come: first of the root, if that is
+/// in the tree, and last of the end. The answer is that of `solve`.
+pub fn solve_watched<R: Threads + Sync, G: Gate, S: Supply, W: Watch>(
+    means: &Means<'_, R, G, S>,
+    problem: &Problem,
+    watch: &mut W,
+) -> Result<Answer, NoMemory>
+    ensures answer { IfOk result (IsAnswerOf problem.now) }
+    ensures best { IfOk result (IsBestAnswer problem.now) }
+{
+    solve_from(means, problem, 0, watch)
 }
 
 /// The answer, where the jobs are numbered from `first` on.

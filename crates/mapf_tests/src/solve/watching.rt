@@ -6,7 +6,7 @@ use crate::worked::{ALONG, BAY, CHANGE, Worked};
 use mapf_board::{AlwaysGrants, NoGate};
 use mapf_grid::instance_of;
 use mapf_plan::Answer;
-use mapf_solve::{MOST_WORKER_TURNS, OneProblem, Pace, Watch, solve_watched};
+use mapf_solve::{MOST_WORKER_TURNS, Means, OneProblem, Pace, Watch, solve_watched};
 use mapf_tree::{Problem, solve_alone};
 use std::alloc::Global;
 use std::thread::Threads;
@@ -92,17 +92,15 @@ fn watched<R: Threads + Sync>(
     let mut notes = Notes {
         told: Vec::new(alloc),
     };
-    let answer = solve_watched(
+    let means = Means {
         rt,
         alloc,
-        &problem,
         workers,
         pace,
-        &NoGate,
-        &AlwaysGrants,
-        &mut notes,
-    )
-    .ok()?;
+        gate: &NoGate,
+        supply: &AlwaysGrants,
+    };
+    let answer = solve_watched(&means, &problem, &mut notes).ok()?;
     Some((notes.told, answer))
 }
 
