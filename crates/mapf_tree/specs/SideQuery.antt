@@ -38,21 +38,16 @@ abbrev pub CostsAtLeast : SideQuery → ℕ → Type 0
 CostsAtLeast query least =
     (path : List ℕ) → IsAllowedFor (record query.problem { bound = query.limit }) query.agent query.constraints path → least ≤ cost path
 
+-- the table, if there is one, has the distances from an agent's start
+abbrev pub AreFromStart : Problem → ℕ → Option (List (Option ℕ)) → Type 0
+AreFromStart problem agent table = IfSome table (AreDistances problem.inst.grid (slice_index problem.inst.starts agent))
+
 -- what always holds of a query: its agent is one of the problem's, the limit is no larger than bounds are, a swap that it forbids
--- is between two cells, and its path costs at least so much
-pub record IsAsked (query : SideQuery) (least : ℕ) : Type 0 where
+-- is between two cells, its path costs at least so much, and the table, if there is one, has the distances from the agent's start
+pub record IsAsked (query : SideQuery) (least : ℕ) (table : Option (List (Option ℕ))) : Type 0 where
   pub inside : query.agent < length query.problem.inst.starts
   pub bound : query.problem.bound ≤ most_bound
   pub limit : query.limit ≤ most_bound
   pub ends : HasTwoEnds query.constraint
   pub costs : CostsAtLeast query least
-
--- an agent, and a table of how far each cell of a map is from its start, if there is one
-pub record FromStart : Type 0 where
-  pub agent : ℕ
-  pub table : Option (List (Option ℕ))
-
--- it is an agent of the problem, and the table, if there is one, has the distances from the agent's start
-pub record IsFromStart (problem : Problem) (from : FromStart) : Type 0 where
-  pub inside : from.agent < length problem.inst.starts
-  pub distances : IfSome from.table (AreDistances problem.inst.grid (slice_index problem.inst.starts from.agent))
+  pub from_start : AreFromStart query.problem query.agent table

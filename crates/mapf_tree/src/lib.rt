@@ -13,5 +13,5 @@ pub use open_list::{First, OpenList};
 pub use own_paths::OwnPaths;
 pub use search::{ByChild, Children, Progress, Search, solve_alone};
 pub use tree::{
-    FromStart, Key, Name, Problem, Side, SideQuery, child, child_with, root, root_path, root_with,
+    Key, Name, Problem, Side, SideQuery, child, child_with, root, root_path, root_with,
 };

@@ -5,7 +5,7 @@ ghost use Rattle.std.specs.Arc.{arc_value};
 ghost use Rattle.mapf_tree.specs.Problem.{Problem};
 ghost use Rattle.mapf_tree.specs.Family.{IsBranching, IsChildOf};
 ghost use Rattle.mapf_low.specs.Lookup.{IfKnown};
-ghost use Rattle.mapf_tree.specs.SideQuery.{IsFoundBy, IsFromStart, IsQueryOf};
+ghost use Rattle.mapf_tree.specs.SideQuery.{IsFoundBy, IsQueryOf};
 
 mod agent_distances;
 mod constraint_sets;
@@ -14,7 +14,7 @@ mod shared_changes;
 
 use crate::own_paths::agent_distances::AgentDistances;
 use crate::own_paths::path_cache::PathCache;
-use crate::{Children, FromStart, Node, OpenList, Problem, Side, SideQuery};
+use crate::{Children, Node, OpenList, Problem, Side, SideQuery};
 use mapf_grid::NoMemory;
 use mapf_low::Lookup;
 use mapf_plan::Path;
@@ -63,8 +63,8 @@ impl<'p> OwnPaths<'p> {
     {
         let count = problem.instance().agents();
         let mut agents = Vec::with_capacity(alloc, count)?;
-        for _agent in 0..count {
-            agents.push(AgentDistances::new(problem))?;
+        for agent in 0..count {
+            agents.push(AgentDistances::new(problem, agent))?;
         }
         Ok(OwnPaths {
             alloc,
@@ -111,8 +111,8 @@ impl<'p> OwnPaths<'p> {
             return Ok(child);
         }
         let query = SideQuery::of(self.alloc, self.problem, node, side)?;
-        let from_start = self.from_start(&query);
-        let (path, extension) = self.search(node, &query, &from_start)?;
+        let query = self.with_from_start(query);
+        let (path, extension) = self.search(node, &query)?;
         query.child(self.alloc, node, path, extension)
     }
 
@@ -122,19 +122,14 @@ impl<'p> OwnPaths<'p> {
         &mut self,
         node: &Node,
         query: &SideQuery<'p>,
-        from_start: &FromStart,
     ) -> Result<(Option<Arc<Path>>, usize), NoMemory>
         requires node { IsBranching self.old node.now }
         requires problem { query.now.problem ≡ self.old }
         requires query { IsQueryOf node.now query.now }
-        requires start { IsFromStart self.old from_start.now }
         ensures same { self.new ≡ self.old }
         ensures path { IfOk result (λ found. IsFoundBy query.now (option_map arc_value found.0)) }
     {
-        let path = match query.own_path_with(self.alloc, from_start)? {
-            Some(path) => Some(Arc::new(self.alloc, path)?),
-            None => None,
-        };
+        let path = query.own_path(self.alloc)?;
         let extension = self.cache.learn(node, query, path.as_ref());
         Ok((path, extension))
     }
@@ -156,22 +151,22 @@ impl<'p> OwnPaths<'p> {
         if self.cache.has_answer_to(&query) {
             return Ok(None);
         }
-        Ok(Some(query))
+        Ok(Some(self.with_from_start(query)))
     }
 
-    /// The distances from the start of a query's agent, which are made where a search for it first wants them: on a map of at most
+    /// A query with the distances from its agent's start, which are made where a search for it first wants them: on a map of at most
     /// 65,536 cells each does, but for an agent's first ones where there are at most 4,096, and on a larger one where the agent's
-    /// goal is forbidden late, or the agent comes late by many time steps. Without a table before, or where memory ran out.
-    pub fn from_start(&mut self, query: &SideQuery<'p>) -> FromStart
-        requires { query.now.problem ≡ self.old }
+    /// goal is forbidden late, or the agent comes late by many time steps.
+    fn with_from_start(&mut self, query: SideQuery<'p>) -> SideQuery<'p>
+        requires { query.problem ≡ self.old }
         ensures problem { self.new ≡ self.old }
-        ensures start { IsFromStart self.old result }
+        ensures query { result ≡ query.entry }
     {
         let agent = query.agent();
         if agent < self.agents.len() {
-            self.agents[agent].from_start(self.alloc, query)
+            self.agents[agent].give(self.alloc, query)
         } else {
-            FromStart::none(agent)
+            query
         }
     }
 

@@ -1,7 +1,6 @@
 //! The constraint tree: a problem, names and keys of its nodes, the sides of a conflict, the root and the children of a node.
 
 mod family;
-mod from_start;
 mod key;
 mod name;
 mod problem;
@@ -10,7 +9,6 @@ pub(crate) mod side_query;
 pub(crate) mod sides;
 
 pub use family::{child, child_with, root, root_path, root_with};
-pub use from_start::FromStart;
 pub use key::Key;
 pub use name::Name;
 pub use problem::Problem;

@@ -77,12 +77,11 @@ impl<'p, P: OneProblem> Lookahead<'p, P> {
         ensures { IfSome result (λ job. job.query.problem ≡ P.problem) }
     {
         let query = self.unknown_query(node, side)?;
-        let from_start = self.own_paths.from_start(&query);
         let copy = node.copy(self.alloc).ok()?;
         self.add(node, side, ChildStage::Posted(slot));
         let number = self.next;
         self.next = number.saturating_add(1);
-        Some(SideJob::of(copy, query, from_start, number))
+        Some(SideJob::of(copy, query, number))
     }
 
     /// The own path that a side of a node asks for, where nothing is known of that child. None where memory runs out, too.
@@ -143,9 +142,7 @@ impl<'p, P: OneProblem> Lookahead<'p, P> {
     pub(crate) fn perform(&mut self, job: &SideJob<'p>)
         requires { job.now.query.problem ≡ P.problem }
     {
-        let _found = self
-            .own_paths
-            .search(job.node(), job.query(), job.from_start());
+        let _found = self.own_paths.search(job.node(), job.query());
     }
 
     /// Keeps what a worker left, where the job's node still waits: the child, or that there was no memory for it.

@@ -2,12 +2,12 @@
 
 ghost use Rattle.std.specs.Prelude.{◌≡◌, IfOk, IsTrue};
 ghost use Rattle.mapf_tree.specs.Family.{IsBranching};
-ghost use Rattle.mapf_tree.specs.SideQuery.{IsFromStart, IsQueryOf};
+ghost use Rattle.mapf_tree.specs.SideQuery.{IsQueryOf};
 ghost use Rattle.mapf_solve.specs.Rounds.{FitsSide};
 
 use mapf_board::{Pair, Task, Work};
 use mapf_grid::NoMemory;
-use mapf_tree::{FromStart, Node, Problem, Side, SideQuery, child_with};
+use mapf_tree::{Node, Problem, Side, SideQuery, child_with};
 use std::alloc::Global;
 use std::marker::{Model, PhantomData};
 
@@ -16,8 +16,6 @@ pub(crate) struct SideJob<'p> {
     node: Node,
     /// The own path that the side asks for.
     query: SideQuery<'p>,
-    /// The distances from the start of the child's agent, if there is a table.
-    from_start: FromStart,
     number: u64,
 }
 
@@ -27,14 +25,13 @@ impl<'p> Drop for SideJob<'p> {
         let SideJob {
             node: _,
             query: _,
-            from_start: _,
             number: _,
         } = self;
     }
 }
 
 impl<'p> Model for SideJob<'p> {
-    ghost use Rattle.mapf_tree.specs.SideQuery.{IsFromStart, IsQueryOf};
+    ghost use Rattle.mapf_tree.specs.SideQuery.{IsQueryOf};
     ghost use Rattle.mapf_tree.specs.Family.{IsBranching};
     ghost use Rattle.mapf_solve.specs.Rounds.{WantedChild};
 
@@ -42,28 +39,19 @@ impl<'p> Model for SideJob<'p> {
 
     ghost view = { λ j. record { query = j.query; node = j.node; number = j.number } };
 
-    ghost invariant = { λ j. IsBranching j.query.problem j.node × IsQueryOf j.node j.query
-        × IsFromStart j.query.problem j.from_start };
+    ghost invariant = { λ j. IsBranching j.query.problem j.node × IsQueryOf j.node j.query };
 }
 
 impl<'p> SideJob<'p> {
-    /// The job for the side of a node that this query is of, with the distances from the start of the query's agent, if there
-    /// is a table.
-    pub(crate) fn of(
-        node: Node,
-        query: SideQuery<'p>,
-        from_start: FromStart,
-        number: u64,
-    ) -> SideJob<'p>
+    /// The job for the side of a node that this query is of.
+    pub(crate) fn of(node: Node, query: SideQuery<'p>, number: u64) -> SideJob<'p>
         requires node { IsBranching query.problem node }
         requires query { IsQueryOf node query }
-        requires start { IsFromStart query.problem from_start }
         ensures { result ≡ record { query = query.entry; node = node; number = number } }
     {
         SideJob {
             node,
             query,
-            from_start,
             number,
         }
     }
@@ -84,13 +72,6 @@ impl<'p> SideJob<'p> {
         &self.query
     }
 
-    /// The distances from the start of the child's agent, if there is a table.
-    pub(crate) fn from_start(&self) -> &FromStart
-        ensures { IsFromStart self.now.query.problem result.now }
-    {
-        &self.from_start
-    }
-
     /// The job's number.
     pub(crate) fn number(&self) -> u64 {
         self.number
@@ -107,7 +88,7 @@ impl<'p> SideJob<'p> {
     fn child(&self, alloc: Global) -> Result<Option<Node>, NoMemory>
         ensures { IfOk result (FitsSide self.now) }
     {
-        child_with(alloc, &self.node, &self.query, &self.from_start)
+        child_with(alloc, &self.node, &self.query)
     }
 }
 

@@ -2,15 +2,14 @@
 
 ghost use Rattle.std.specs.Prelude.{◌<◌, ◌≤◌, [], length, IfOk, None, MatchOption};
 ghost use Rattle.mapf_plan.specs.Plan.{most_bound};
-ghost use Rattle.mapf_tree.specs.SideQuery.{IsFromStart, IsQueryOf};
+ghost use Rattle.mapf_tree.specs.SideQuery.{IsQueryOf};
 ghost use Rattle.mapf_tree.specs.Family.{AreRootPaths, IsBranching, IsChildOf, IsOwn, IsOwnWithin, IsRoot};
 
-use crate::{FromStart, Node, Problem, Side, SideQuery};
+use crate::{Node, Problem, Side, SideQuery};
 use mapf_grid::NoMemory;
 use mapf_low::{Constraints, cheapest};
 use mapf_plan::{Path, Plan};
 use std::alloc::Global;
-use std::sync::Arc;
 
 /// The root: no constraint, and every agent's own path; none exactly where that isn't in the tree.
 pub fn root(alloc: Global, problem: &Problem) -> Result<Option<Node>, NoMemory>
@@ -51,27 +50,20 @@ pub fn child(
     ensures { IfOk result (IsChildOf problem.now node.now side) }
 {
     let query = SideQuery::of(alloc, problem, node, side)?;
-    child_with(alloc, node, &query, &FromStart::none(query.agent()))
+    child_with(alloc, node, &query)
 }
 
-/// The child of a node of the tree on the side that a query is of. Its path is looked for backwards first if there is a table
-/// of distances from its agent's start.
+/// The child of a node of the tree on the side that a query is of; none exactly where it isn't in the tree.
 pub fn child_with(
     alloc: Global,
     node: &Node,
     query: &SideQuery<'_>,
-    from_start: &FromStart,
 ) -> Result<Option<Node>, NoMemory>
     requires node { IsBranching query.now.problem node.now }
     requires query { IsQueryOf node.now query.now }
-    requires from_start { IsFromStart query.now.problem from_start.now }
     ensures { IfOk result (IsChildOf query.now.problem node.now query.now.side) }
 {
-    let path = match query.own_path_with(alloc, from_start)? {
-        Some(path) => Some(Arc::new(alloc, path)?),
-        None => None,
-    };
-    query.child(alloc, node, path, 0)
+    query.child(alloc, node, query.own_path(alloc)?, 0)
 }
 
 /// An agent's own path under no constraints; none exactly where it may take no path.

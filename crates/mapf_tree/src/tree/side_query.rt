@@ -13,7 +13,7 @@ use crate::node::change::Change;
 use crate::tree::sides::{agent_of, constraint_of};
 use crate::{Node, Problem, Side};
 use mapf_grid::NoMemory;
-use mapf_low::{Constraint, Constraints, Lookup};
+use mapf_low::{Constraint, Constraints, Distances, Lookup};
 use mapf_plan::Path;
 use std::alloc::Global;
 use std::marker::Model;
@@ -31,9 +31,13 @@ pub struct SideQuery<'p> {
     limit: u32,
     /// What its path costs at least: what it costs at the node, where the agent is forbidden less.
     least: u32,
+    /// The distances from the agent's start, if there is a table: by them its path is looked for backwards.
+    from_start: Option<Arc<Distances>>,
 }
 
 impl<'p> Model for SideQuery<'p> {
+    ghost use Rattle.std.specs.Prelude.{option_map};
+    ghost use Rattle.std.specs.Arc.{arc_value};
     ghost use Rattle.mapf_tree.specs.SideQuery.{SideQuery, IsAsked};
 
     ghost Value = { SideQuery };
@@ -54,11 +58,11 @@ impl<'p> Model for SideQuery<'p> {
       constraint = q.constraint;
       constraints = q.constraints;
       limit = q.limit;
-    }) q.least };
+    }) q.least (option_map arc_value q.from_start) };
 }
 
 impl<'p> SideQuery<'p> {
-    ghost use Rattle.mapf_tree.specs.SideQuery.{IsQueryOf, IsFoundBy};
+    ghost use Rattle.mapf_tree.specs.SideQuery.{AreFromStart, IsQueryOf, IsFoundBy};
 
     /// The query of a side of a node of the tree.
     pub fn of(
@@ -84,7 +88,18 @@ impl<'p> SideQuery<'p> {
             constraints: node.constraints(alloc, agent)?.and(constraint)?,
             limit: left_for(problem, node, agent, least),
             least,
+            from_start: None,
         })
+    }
+
+    /// The same, with these distances from its agent's start.
+    pub(crate) fn with_from_start(self, distances: Arc<Distances>) -> SideQuery<'p>
+        requires { AreFromStart self.problem self.agent (Some (arc_value distances)) }
+        ensures { result ≡ self.entry }
+    {
+        let mut query = self;
+        query.from_start = Some(distances);
+        query
     }
 
     /// The side.

@@ -1,14 +1,16 @@
 //! The low-level search for the own path that a side asks for: forwards, or backwards by distances from its agent's start.
 
-ghost use Rattle.std.specs.Prelude.{IfOk};
+ghost use Rattle.std.specs.Prelude.{IfOk, option_map};
+ghost use Rattle.std.specs.Arc.{arc_value};
+ghost use Rattle.mapf_low.specs.Lookup.{IfKnown};
 
-use crate::FromStart;
 use crate::tree::family::own_path;
 use crate::tree::side_query::SideQuery;
 use mapf_grid::NoMemory;
 use mapf_low::{Backwards, Constraint, Lookup, cheapest_backwards};
 use mapf_plan::Path;
 use std::alloc::Global;
+use std::sync::Arc;
 
 /// The most cells of a map on which an agent's first paths are looked for forwards: many agents are searched for but once or twice.
 const FEW_CELLS: u32 = 4_096;
@@ -24,7 +26,7 @@ const MOST_CELLS: u32 = 65_536;
 const MOST_DEAD_ENDS: usize = 1_000;
 
 impl<'p> SideQuery<'p> {
-    ghost use Rattle.mapf_tree.specs.SideQuery.{IsFoundBy, IsFromStart};
+    ghost use Rattle.mapf_tree.specs.SideQuery.{IsFoundBy};
 
     /// Whether a table of the distances from its agent's start is worth its cost, after so many searches for that agent without one:
     /// on a map of at most 65,536 cells, but where there are at most 4,096 only once those searches cost as much; and on each that
@@ -57,48 +59,44 @@ impl<'p> SideQuery<'p> {
         (until_forbidden * until_forbidden / 2).max(late * u64::from(nearest) / 2)
     }
 
-    /// The own path that it asks for; none where there is none.
-    pub fn own_path(&self, alloc: Global) -> Result<Option<Path>, NoMemory>
-        ensures { IfOk result (IsFoundBy self.now) }
+    /// The own path that it asks for; none where there is none. It is looked for backwards first if there is a table of distances
+    /// from the agent's start, until too many dead ends were met.
+    pub fn own_path(&self, alloc: Global) -> Result<Option<Arc<Path>>, NoMemory>
+        ensures { IfOk result (λ found. IsFoundBy self.now (option_map arc_value found)) }
     {
-        own_path(
-            alloc,
-            self.problem,
-            self.agent,
-            &self.constraints,
-            self.limit,
-        )
+        let found = match self.backwards(alloc)? {
+            Lookup::Known(found) => found,
+            Lookup::Unknown => {
+                let agent = self.agent;
+                own_path(alloc, self.problem, agent, &self.constraints, self.limit)?
+            }
+        };
+        match found {
+            Some(path) => Ok(Some(Arc::new(alloc, path)?)),
+            None => Ok(None),
+        }
     }
 
-    /// The same, which is looked for backwards first if there is a table of distances from the agent's start, until too many dead
-    /// ends were met.
-    pub fn own_path_with(
-        &self,
-        alloc: Global,
-        from_start: &FromStart,
-    ) -> Result<Option<Path>, NoMemory>
-        requires { IsFromStart self.now.problem from_start.now }
-        ensures { IfOk result (IsFoundBy self.now) }
+    /// The same, looked for backwards. Unknown where there is no table, or too many dead ends were met.
+    fn backwards(&self, alloc: Global) -> Result<Lookup<Option<Path>>, NoMemory>
+        ensures { IfOk result (λ answer. IfKnown answer (IsFoundBy self.now)) }
     {
-        if let Some(from_start) = from_start.distances_of(self.agent) {
-            let instance = self.problem.instance();
-            let answer = cheapest_backwards(
-                alloc,
-                instance.map(),
-                instance.start(self.agent),
-                instance.goal(self.agent),
-                &self.constraints,
-                self.limit,
-                &Backwards {
-                    from_start,
-                    least: self.least,
-                    budget: MOST_DEAD_ENDS,
-                },
-            )?;
-            if let Lookup::Known(found) = answer {
-                return Ok(found);
-            }
-        }
-        self.own_path(alloc)
+        let Some(from_start) = self.from_start.as_deref() else {
+            return Ok(Lookup::Unknown);
+        };
+        let instance = self.problem.instance();
+        cheapest_backwards(
+            alloc,
+            instance.map(),
+            instance.start(self.agent),
+            instance.goal(self.agent),
+            &self.constraints,
+            self.limit,
+            &Backwards {
+                from_start,
+                least: self.least,
+                budget: MOST_DEAD_ENDS,
+            },
+        )
     }
 }

@@ -22,6 +22,7 @@ invariant_of-result c =
       bound = c.left_for.ensures.bounded;
       limit = c.left_for.ensures.small;
       ends = search rules;
+      from_start = search rules;
       costs = λ path allowed. subst (λ n. n ≤ cost path) (sym (c.cost-least.ensures.cost ∙ ap cost c.path.ensures))
           (costs_no_less c.args.problem.now c.args.node.now c.requires.of c.agent_of-agent.result c.left_for.result c.constraint_of-constraint.result c.in_ok-and.field-0 c.requires.stands inside c.left_for.ensures.leaves
           (with_same c.constraint_of-constraint.result c.in_ok-constraints.field-0 (get_or c.args.node.now.constraints c.agent_of-agent.result []) c.in_ok-and.field-0 c.in_ok-constraints.ensures c.in_ok-and.ensures) path allowed);
