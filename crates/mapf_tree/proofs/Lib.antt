@@ -19,6 +19,7 @@ pub mod NameTurns
 pub mod NameOrder
 pub mod Examples
 pub mod Tables
+pub mod StartTables
 pub mod RootNodes
 pub mod Chains
 pub mod LeastCosts

@@ -1,6 +1,6 @@
 -- What the child on a side of a node's conflict asks of the low level (Sharon et al. 2015): the agent on that side has one
 -- constraint more, and the other agents keep their paths.
-use Rattle.std.specs.Prelude.{◌≡◌, ℕ, ◌<◌, ◌≤◌, ◌↔◌, ◌⊎◌, List, [], length, slice_index, slice_index_or, Option, Some, IfSome, Contains}
+use Rattle.std.specs.Prelude.{◌≡◌, ℕ, ◌<◌, ◌≤◌, ◌↔◌, ◌⊎◌, List, [], length, slice_index, slice_index_or, Option, Some, None, IfSome, Contains}
 use Rattle.mapf_plan.specs.Path.{cost}
 use Rattle.mapf_plan.specs.declared.conflict.Conflict.{Conflict}
 use Rattle.mapf_low.specs.declared.constraint.Constraint.{Constraint}
@@ -41,6 +41,10 @@ CostsAtLeast query least =
 -- the table, if there is one, has the distances from an agent's start
 abbrev pub AreFromStart : Problem → ℕ → Option (List (Option ℕ)) → Type 0
 AreFromStart problem agent table = IfSome table (AreDistances problem.inst.grid (slice_index problem.inst.starts agent))
+
+-- and each agent's table those from that agent's start
+abbrev pub AreTables : Problem → List (Option (List (Option ℕ))) → Type 0
+AreTables problem tables = (agent : ℕ) → AreFromStart problem agent (slice_index_or tables agent None)
 
 -- what always holds of a query: its agent is one of the problem's, the limit is no larger than bounds are, a swap that it forbids
 -- is between two cells, its path costs at least so much, and the table, if there is one, has the distances from the agent's start

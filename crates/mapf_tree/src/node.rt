@@ -104,15 +104,6 @@ impl Node {
         }
     }
 
-    /// The same node, whose last change has this number for its extension, unless memory runs out; nothing rests on it.
-    pub(crate) fn with_extension(self, alloc: Global, extension: usize) -> Node
-        ensures { result ≡ self }
-    {
-        let Node { mut body } = self;
-        body.changes.number(alloc, extension);
-        Node { body }
-    }
-
     /// The same node, whose changes stand in one list for the nodes below it, where it has as many of its own as may be.
     pub(crate) fn share_changes(self) -> Node
         ensures { result ≡ self }

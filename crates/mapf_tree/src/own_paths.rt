@@ -1,22 +1,20 @@
 //! Own paths that were searched before.
 
-ghost use Rattle.std.specs.Prelude.{◌≡◌, IfOk, IfSome, option_map};
+ghost use Rattle.std.specs.Prelude.{◌≡◌, ℕ, ◌<◌, length, IfOk, IfSome, option_map};
 ghost use Rattle.std.specs.Arc.{arc_value};
 ghost use Rattle.mapf_tree.specs.Problem.{Problem};
 ghost use Rattle.mapf_tree.specs.Family.{IsBranching, IsChildOf};
 ghost use Rattle.mapf_low.specs.Lookup.{IfKnown};
-ghost use Rattle.mapf_tree.specs.SideQuery.{IsFoundBy, IsQueryOf};
+ghost use Rattle.mapf_tree.specs.SideQuery.{AreFromStart, IsFoundBy, IsQueryOf};
 
-mod agent_distances;
 mod constraint_sets;
 mod path_cache;
 mod shared_changes;
 
-use crate::own_paths::agent_distances::AgentDistances;
 use crate::own_paths::path_cache::PathCache;
 use crate::{Children, Node, OpenList, Problem, Side, SideQuery};
 use mapf_grid::NoMemory;
-use mapf_low::Lookup;
+use mapf_low::{Distances, Lookup};
 use mapf_plan::Path;
 use std::alloc::Global;
 use std::marker::Model;
@@ -29,7 +27,8 @@ use std::sync::Arc;
 pub struct OwnPaths<'p> {
     alloc: Global,
     problem: &'p Problem,
-    agents: Vec<AgentDistances<'p>>,
+    /// The distances from each agent's start, once they were made.
+    from_start: Vec<Option<Arc<Distances>>>,
     cache: PathCache<'p>,
 }
 
@@ -39,21 +38,23 @@ impl<'p> Drop for OwnPaths<'p> {
         let OwnPaths {
             alloc: _,
             problem: _,
-            agents: _,
+            from_start: _,
             cache: _,
         } = self;
     }
 }
 
 impl<'p> Model for OwnPaths<'p> {
-    ghost use Rattle.std.specs.Prelude.{◌≡◌, All};
+    ghost use Rattle.std.specs.Prelude.{◌≡◌, map, option_map};
+    ghost use Rattle.std.specs.Arc.{arc_value};
     ghost use Rattle.mapf_tree.specs.Problem.{Problem};
+    ghost use Rattle.mapf_tree.specs.SideQuery.{AreTables};
 
     ghost Value = { Problem };
 
     ghost view = { λ o. o.problem.now };
 
-    ghost invariant = { λ o. All (λ a. a ≡ o.problem.now) o.agents.items × (o.cache.problem ≡ o.problem.now) };
+    ghost invariant = { λ o. AreTables o.problem.now (map (option_map arc_value) o.from_start.items) × (o.cache.problem ≡ o.problem.now) };
 }
 
 impl<'p> OwnPaths<'p> {
@@ -61,15 +62,15 @@ impl<'p> OwnPaths<'p> {
     pub fn new(alloc: Global, problem: &'p Problem) -> Result<OwnPaths<'p>, NoMemory>
         ensures { IfOk result (λ o. o ≡ problem.now) }
     {
-        let count = problem.instance().agents();
-        let mut agents = Vec::with_capacity(alloc, count)?;
-        for agent in 0..count {
-            agents.push(AgentDistances::new(problem, agent))?;
+        let agents = problem.instance().agents();
+        let mut from_start = Vec::with_capacity(alloc, agents)?;
+        for _agent in 0..agents {
+            from_start.push(None)?;
         }
         Ok(OwnPaths {
             alloc,
             problem,
-            agents,
+            from_start,
             cache: PathCache::new(alloc, problem),
         })
     }
@@ -154,37 +155,53 @@ impl<'p> OwnPaths<'p> {
         Ok(Some(self.with_from_start(query)))
     }
 
-    /// A query with the distances from its agent's start, which are made where a search for it first wants them: on a map of at most
-    /// 65,536 cells each does, but for an agent's first ones where there are at most 4,096, and on a larger one where the agent's
-    /// goal is forbidden late, or the agent comes late by many time steps.
+    /// A query with the distances from its agent's start; without them where memory runs out.
     fn with_from_start(&mut self, query: SideQuery<'p>) -> SideQuery<'p>
         requires { query.problem ≡ self.old }
         ensures problem { self.new ≡ self.old }
         ensures query { result ≡ query.entry }
     {
-        let agent = query.agent();
-        if agent < self.agents.len() {
-            self.agents[agent].give(self.alloc, query)
-        } else {
-            query
+        match self.table(query.agent()) {
+            Some(distances) => query.with_from_start(distances),
+            None => query,
         }
     }
 
-    /// Remembers the path of a node's child, or that there is no such child, where that was worked out elsewhere, and gives the
-    /// child back. It is forgotten where memory runs out.
-    pub fn learn(&mut self, node: &Node, query: &SideQuery<'p>, child: Option<Node>) -> Option<Node>
+    /// The distances from an agent's start, which are made where they are asked for first. None where memory runs out.
+    fn table(&mut self, agent: usize) -> Option<Arc<Distances>>
+        requires { agent < length self.old.inst.starts }
+        ensures same { self.new ≡ self.old }
+        ensures table { AreFromStart self.old agent (option_map arc_value result) }
+    {
+        if self.from_start.get(agent)?.is_none() {
+            self.make_table(agent);
+        }
+        share(self.from_start.get(agent)?)
+    }
+
+    /// Makes the distances from an agent's start, unless memory runs out.
+    fn make_table(&mut self, agent: usize)
+        requires { agent < length self.old.inst.starts }
+        ensures { self.new ≡ self.old }
+    {
+        if agent >= self.from_start.len() {
+            return;
+        }
+        self.from_start[agent] = table_of(self.alloc, self.problem, agent);
+    }
+
+    /// Remembers the path of a node's child, or that there is no such child, where that was worked out elsewhere, unless memory runs
+    /// out.
+    pub fn learn(&mut self, node: &Node, query: &SideQuery<'p>, child: &Option<Node>)
         requires node { IsBranching self.old node.now }
         requires problem { query.now.problem ≡ self.old }
         requires query { IsQueryOf node.now query.now }
-        requires child { IsChildOf self.old node.now query.now.side child }
-        ensures same { self.new ≡ self.old }
-        ensures child { result ≡ child }
+        requires child { IsChildOf self.old node.now query.now.side child.now }
+        ensures { self.new ≡ self.old }
     {
-        let Lookup::Known(path) = query.answer_in(node, &child) else {
-            return child;
-        };
-        let extension = self.cache.learn(node, query, path);
-        Some(child?.with_extension(self.alloc, extension))
+        if let Lookup::Known(path) = query.answer_in(node, child) {
+            let _extension = self.cache.learn(node, query, path);
+        }
     }
 }
 
@@ -202,4 +219,22 @@ impl<'p> Children for OwnPaths<'p> {
     }
 
     fn ahead(&mut self, _problem: &Problem, _waiting: &OpenList) {}
+}
+
+/// A table of the distances from the start of an agent of a problem. None where memory runs out.
+fn table_of(alloc: Global, problem: &Problem, agent: usize) -> Option<Arc<Distances>>
+    requires { agent < length problem.now.inst.starts }
+    ensures { AreFromStart problem.now agent (option_map arc_value result) }
+{
+    let instance = problem.instance();
+    let distances = Distances::to(alloc, instance.map(), instance.start(agent)).ok()?;
+    Arc::new(alloc, distances).ok()
+}
+
+/// The same table, if there is one, shared once more. None where it can't be shared more often.
+fn share(table: &Option<Arc<Distances>>) -> Option<Arc<Distances>>
+    ensures { (p : Problem) (agent : ℕ) → AreFromStart p agent (option_map arc_value table.now)
+        → AreFromStart p agent (option_map arc_value result) }
+{
+    Arc::try_clone(table.as_ref()?).ok()
 }

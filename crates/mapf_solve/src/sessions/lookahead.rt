@@ -176,7 +176,7 @@ impl<'p, P: OneProblem> Lookahead<'p, P> {
         requires { pair.0.query.problem ≡ P.problem }
     {
         let (job, child) = pair.parts();
-        let child = self.own_paths.learn(job.node(), job.query(), child);
+        self.own_paths.learn(job.node(), job.query(), &child);
         if let Ok(place) = self.place_of(job.node(), job.side()) {
             self.entries[place].stage = ChildStage::WorkedOut(ChildOfJob::of(job, child));
         }

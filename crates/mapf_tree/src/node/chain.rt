@@ -120,13 +120,6 @@ impl Chain {
         Ok(Arc::new(alloc, all)?)
     }
 
-    /// The last of the changes that it has by itself has this number for its extension, unless memory runs out.
-    pub(crate) fn number(&mut self, alloc: Global, extension: usize)
-        ensures { self.new ≡ self.old }
-    {
-        self.own.number(alloc, extension);
-    }
-
     /// An agent's path: that of its last change, or the root's.
     pub(crate) fn path<'a>(&'a self, root: &'a Plan, agent: usize) -> &'a Path
         requires { agent < length root.now }

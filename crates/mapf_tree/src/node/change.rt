@@ -1,8 +1,5 @@
-ghost use Rattle.std.specs.Prelude.{◌≡◌};
-
 use mapf_low::Constraint;
 use mapf_plan::Path;
-use std::alloc::Global;
 use std::marker::Model;
 use std::sync::Arc;
 
@@ -25,21 +22,4 @@ impl Model for Change {
     ghost view = { λ c. record { agent = c.agent; constraint = c.constraint; path = c.path.value } };
 
     ghost invariant = { λ c. HasTwoEnds c.constraint };
-}
-
-/// The change has this number for its extension, unless memory runs out.
-pub(crate) fn number(alloc: Global, change: &mut Arc<Change>, extension: usize)
-    ensures { change.new.value ≡ change.old.value }
-{
-    if let Ok(path) = Arc::try_clone(&change.path) {
-        let numbered = Change {
-            agent: change.agent,
-            constraint: change.constraint,
-            path,
-            extension,
-        };
-        if let Ok(numbered) = Arc::new(alloc, numbered) {
-            *change = numbered;
-        }
-    }
 }

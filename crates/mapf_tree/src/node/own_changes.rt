@@ -3,9 +3,8 @@
 ghost use Rattle.std.specs.Prelude.{◌≡◌, ◌<◌, ◌≤◌, ◌↔◌, [], ◌∷◌, ◌++◌, length, map, IfOk, IsTrue};
 ghost use Rattle.std.specs.Arc.{arc_value};
 
-use crate::node::change::{Change, number};
+use crate::node::change::Change;
 use mapf_grid::NoMemory;
-use std::alloc::Global;
 use std::marker::Model;
 use std::sync::Arc;
 
@@ -83,18 +82,6 @@ impl OwnChanges {
             _ => unreachable!(),
         };
         Ok(OwnChanges { held })
-    }
-
-    /// The last change has this number for its extension, unless memory runs out.
-    pub(crate) fn number(&mut self, alloc: Global, extension: usize)
-        ensures { self.new ≡ self.old }
-    {
-        match &mut self.held {
-            Held::Nothing => {}
-            Held::One(changes) => number(alloc, &mut changes[0], extension),
-            Held::Two(changes) => number(alloc, &mut changes[1], extension),
-            Held::Three(changes) => number(alloc, &mut changes[2], extension),
-        }
     }
 
     /// The same changes, shared once more.

@@ -6,7 +6,7 @@ use crate::{Node, Side};
 /// them.
 ///
 /// They are kept short, since each node that waits has them.
-#[derive(Clone, Copy, Debug, PartialEq, Eq)]
+#[derive(Clone, Copy)]
 pub(crate) struct SideExtensions {
     left: u32,
     right: u32,

@@ -13,7 +13,7 @@ use std::marker::Model;
 const MIXER: u64 = 11_400_714_819_323_198_485;
 
 /// What is known of an agent's own path under a set of constraints.
-#[derive(Clone, Copy, Debug, PartialEq, Eq)]
+#[derive(Clone, Copy)]
 pub(crate) enum CachedPath {
     /// It is the path of this number.
     Path(usize),

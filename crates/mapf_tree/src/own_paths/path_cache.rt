@@ -23,8 +23,6 @@ pub(crate) struct PathCache<'p> {
     paths: KnownPaths,
     /// The number of each agent's empty set, once the root was met.
     firsts: Vec<usize>,
-    /// How many nodes were looked at.
-    looked: usize,
     /// The numbers at the node that was looked at last: the next one has the same paths but for a few.
     latest: Option<NodeNumbers>,
     /// The changes that nodes share, by the numbers of their extensions.
@@ -40,7 +38,6 @@ impl<'p> Drop for PathCache<'p> {
             sets: _,
             paths: _,
             firsts: _,
-            looked: _,
             latest: _,
             changes: _,
         } = self;
@@ -68,7 +65,6 @@ impl<'p> PathCache<'p> {
             sets: ConstraintSets::new(alloc),
             paths: KnownPaths::new(alloc, problem.rule()),
             firsts: Vec::new(alloc),
-            looked: 0,
             latest: None,
             changes: Vec::new(alloc),
         }

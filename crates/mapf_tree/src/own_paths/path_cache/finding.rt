@@ -15,7 +15,7 @@ use mapf_grid::NoMemory;
 use mapf_low::Lookup;
 
 /// What is known of the own path that a side of a node asks for.
-#[derive(Clone, Copy, Debug, PartialEq, Eq)]
+#[derive(Clone, Copy)]
 pub(crate) struct SidePath {
     /// The number that the extension of its agent's set may have; nothing rests on it.
     pub(crate) extension: usize,

@@ -16,15 +16,8 @@ use mapf_grid::NoMemory;
 use mapf_plan::KnownPlan;
 use std::mem::replace;
 
-/// Pairs of so many agents are kept by node from the start.
-const MOST_PAIRED: usize = 64;
-
 /// Of more agents than these nothing is kept by node, as there are too many pairs of them.
-const MOST_PAIRED_LATER: usize = 256;
-
-/// Of more than are paired from the start so many nodes for each agent are looked at before: in a short search all their pairs
-/// cost more than they save.
-const NODES_BEFORE: usize = 12;
+const MOST_PAIRED: usize = 256;
 
 /// What agents have at a node, by numbers.
 #[derive(Drop)]
@@ -43,14 +36,10 @@ impl<'p> PathCache<'p> {
         ensures problem { self.new.problem ≡ self.old.problem }
         ensures numbers { IfOk result (λ found. IfSome found (IsAt self.new node.now)) }
     {
-        if node.agents() > MOST_PAIRED_LATER {
+        if node.agents() > MOST_PAIRED {
             return Ok(None);
         }
         self.number_first_sets(node)?;
-        self.looked = self.looked.saturating_add(1);
-        if !are_paired(node.agents(), self.looked) {
-            return Ok(None);
-        }
         if let Some(latest) = replace(&mut self.latest, None) {
             if latest.plan.numbers.len() == node.agents() {
                 return self.numbers_from(node, latest);
@@ -167,11 +156,6 @@ impl<'p> PathCache<'p> {
         }
         Ok(Some(sets))
     }
-}
-
-/// Whether pairs of so many agents, which are at most 256, are kept once so many nodes were looked at.
-fn are_paired(agents: usize, looked: usize) -> bool {
-    agents <= MOST_PAIRED || looked / NODES_BEFORE >= agents
 }
 
 /// Each agent's set after some changes more; false where one isn't known.

@@ -1,8 +1,13 @@
-use Rattle.std.proofs.Common.{◌≡◌, All, subst, sym}
-use Rattle.std.proofs.lemmas.List.Elements.{All-push}
+use Rattle.std.proofs.Common.{map, None, subst, sym, ap, ◌∙◌}
+use Rattle.std.specs.Prelude.{option_map}
+use Rattle.std.specs.Arc.{arc_value}
+use Rattle.std.proofs.lemmas.List.{map_push}
+use Rattle.mapf_tree.specs.SideQuery.{AreFromStart, AreTables}
+use Rattle.mapf_tree.proofs.StartTables.{right_with_none}
 use Rattle.mapf_tree.proofs.own_paths.OwnPaths.new.Goals as goal
 
 pub loop-agent-preserved : goal.loop-agent-preserved
 loop-agent-preserved c =
-    subst (All (λ a. a ≡ c.args.problem.now)) (sym c.in_ok-push.ensures.items)
-    (All-push (λ a. a ≡ c.args.problem.now) c.loop-agent.agents.items c.new.result c.loop-agent.invariant c.new.ensures)
+    let f = option_map arc_value in let tables = c.loop-agent.from_start.items in
+    subst (AreTables c.args.problem.now) (sym (ap (map f) c.in_ok-push.ensures.items ∙ map_push f tables None))
+    (right_with_none (AreFromStart c.args.problem.now) (map f tables) c.loop-agent.invariant)
