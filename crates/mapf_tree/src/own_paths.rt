@@ -54,7 +54,8 @@ impl<'p> Model for OwnPaths<'p> {
 
     ghost view = { λ o. o.problem.now };
 
-    ghost invariant = { λ o. AreTables o.problem.now (map (option_map arc_value) o.from_start.items) × (o.cache.problem ≡ o.problem.now) };
+    ghost invariant = { λ o. AreTables o.problem.now (map (option_map arc_value) o.from_start.items)
+        × (o.cache.problem ≡ o.problem.now) };
 }
 
 impl<'p> OwnPaths<'p> {
