@@ -5,10 +5,7 @@ use std::alloc::Global;
 use std::process::Abort;
 use std::test::Fail;
 
-/// Two agents on
-///     ...
-///     @.@
-/// whose cells are 0 1 2 and 3 4 5: agent 0 stays on cell 1, and agent 1 goes from cell 0 to cell 2.
+/// On the cells 0 1 2 and 3 4 5, of which 3 and 5 are blocked, agent 0 stays on 1, and agent 1 goes from 0 to 2.
 fn two_agents(alloc: Global) -> Result<Instance, Fail> {
     let map = Map::read(alloc, b"type octile\nheight 2\nwidth 3\nmap\n...\n@.@\n")?;
     let rows = Scenario::read(
