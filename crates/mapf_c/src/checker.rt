@@ -34,14 +34,14 @@ pub extern "C" fn mapf_check(
 ) -> i32
     ensures { Checks (rule_of no_following) map.now scen.now plan.now agents out.old out.new needed.new result }
 {
-    match judged(alloc, map, scen, plan, agents, rule_of(no_following)) {
+    match line_and_status(alloc, map, scen, plan, agents, rule_of(no_following)) {
         Ok((status, line)) => put(status, line.as_bytes(), out, needed),
         Err(fault) => put_fault(alloc, &fault, out, needed),
     }
 }
 
 /// The line of the verdict by this rule, and its status, where no file is too long.
-fn judged(
+fn line_and_status(
     alloc: Global,
     map: &[u8],
     scen: &[u8],

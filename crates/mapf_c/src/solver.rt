@@ -44,14 +44,14 @@ pub extern "C" fn mapf_solve(
         nodes: if nodes == 0 { None } else { Some(nodes) },
         rule: rule_of(no_following),
     };
-    match solved(alloc, map, scen, ask) {
+    match text_and_status(alloc, map, scen, ask) {
         Ok((status, text)) => put(status, &text, out, needed),
         Err(fault) => put_fault(alloc, &fault, out, needed),
     }
 }
 
 /// The text of the answer, and its status.
-fn solved(alloc: Global, map: &[u8], scen: &[u8], ask: Ask) -> Result<(u8, Vec<u8>), Fault>
+fn text_and_status(alloc: Global, map: &[u8], scen: &[u8], ask: Ask) -> Result<(u8, Vec<u8>), Fault>
     requires { ask.workers ≡ 1 }
     ensures answered { IfOk result (λ r. IsAnswered map.now scen.now ask r.0 r.1.items) }
     ensures fault { IfErr result (IsSolveFault map.now scen.now ask) }

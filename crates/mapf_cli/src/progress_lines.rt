@@ -77,7 +77,7 @@ impl<'a, R: Clock, E: Sink> ProgressLines<'a, R, E> {
 }
 
 impl<R: Clock, E: Sink> Watch for ProgressLines<'_, R, E> {
-    fn taken<P: OneProblem>(&mut self, nodes: u64, least: u64) {
+    fn nodes_taken<P: OneProblem>(&mut self, nodes: u64, least: u64) {
         let standing = Standing { nodes, least };
         self.told = Some(standing);
         if self.is_due(nodes) {

@@ -1,4 +1,4 @@
--- The list of a cell's free sides, side by side.
+-- The list of a cell's free neighbours, side by side.
 use Rattle.std.proofs.Common.{◌≡◌, ◌≢◌, ◌⊎◌, ◌↔◌, ℕ, ◌+◌, ◌<◌, ◌≤◌, ◌/◌, List, [], ◌∷◌, ◌++◌, length, Option, Some, inl, inr, subst, sym, ◌∙◌, ap, ⊎_elim, arith, div-one, get_or, length-append}
 use Rattle.std.specs.List.{Contains}
 use Rattle.std.specs.List.Sorted.{IsStrictlyIncreasing}
@@ -6,7 +6,7 @@ use Rattle.std.proofs.lemmas.Bool.{cases_order, cases_lt}
 use Rattle.std.proofs.lemmas.List.{get_or_append_left, get_or_at}
 use Rattle.std.proofs.lemmas.List.Elements.{Contains-append_left, Contains-push, Contains-push_cases, Contains-get_or}
 use Rattle.mapf_grid.specs.Grid.{Grid, IsFree, IsBeside, Next}
-use Rattle.mapf_grid.specs.Sides.{PushesFree}
+use Rattle.mapf_grid.specs.FreeNeighbours.{PushesFree}
 
 -- a rising list that is pushed something larger
 increasing_push : (xs : List ℕ) (c : ℕ) → IsStrictlyIncreasing xs → ((v : ℕ) → Contains xs v → v < c) → IsStrictlyIncreasing (xs ++ c ∷ [])
@@ -30,30 +30,30 @@ pub record Holds (P : ℕ → Type 0) (items : List ℕ) : Type 0 where
 pub holds_none : Holds (λ _. ⊥) []
 holds_none = record { cells = λ v. ((λ h. omega (arith, h.1)), λ h. absurd h); rising = λ k h. absurd (omega (arith, h)) }
 
--- a side that lies behind all others joins them, if it is free
-pub holds_push : (g : Grid) (P : ℕ → Type 0) (side : Option ℕ) (old new : List ℕ) → Holds P old → PushesFree g side old new →
-    ((v c : ℕ) → P v → side ≡ Some c → v < c) → Holds (λ v. P v ⊎ ((side ≡ Some v) × IsFree g v)) new
-holds_push g P side old new h (inl (c, is, free, e)) larger =
-    subst (Holds (λ v. P v ⊎ ((side ≡ Some v) × IsFree g v))) (sym e) (record {
+-- a neighbour that lies behind all others joins them, if it is free
+pub holds_push : (g : Grid) (P : ℕ → Type 0) (near : Option ℕ) (old new : List ℕ) → Holds P old → PushesFree g near old new →
+    ((v c : ℕ) → P v → near ≡ Some c → v < c) → Holds (λ v. P v ⊎ ((near ≡ Some v) × IsFree g v)) new
+holds_push g P near old new h (inl (c, is, free, e)) larger =
+    subst (Holds (λ v. P v ⊎ ((near ≡ Some v) × IsFree g v))) (sym e) (record {
       cells = λ v. (to v, from v);
       rising = increasing_push old c h.rising (λ v i. larger v c ((h.cells v).0 i) is);
     })
   where
-    to : (v : ℕ) → Contains (old ++ c ∷ []) v → P v ⊎ ((side ≡ Some v) × IsFree g v)
+    to : (v : ℕ) → Contains (old ++ c ∷ []) v → P v ⊎ ((near ≡ Some v) × IsFree g v)
     to v i = ⊎_elim (λ i. inl ((h.cells v).0 i)) (λ e. inr (is ∙ ap Some e, subst (IsFree g) e free)) (Contains-push_cases old c v i)
 
-    from : (v : ℕ) → P v ⊎ ((side ≡ Some v) × IsFree g v) → Contains (old ++ c ∷ []) v
+    from : (v : ℕ) → P v ⊎ ((near ≡ Some v) × IsFree g v) → Contains (old ++ c ∷ []) v
     from v (inl p) = Contains-append_left old (c ∷ []) v ((h.cells v).1 p)
     from v (inr p) =
         let same : c ≡ v = cc (is, p.0) in
         subst (Contains (old ++ c ∷ [])) same (Contains-push old c)
-holds_push g P side old new h (inr (blocked, e)) larger =
-    subst (Holds (λ v. P v ⊎ ((side ≡ Some v) × IsFree g v))) (sym e) (record { cells = λ v. (to v, from v); rising = h.rising })
+holds_push g P near old new h (inr (blocked, e)) larger =
+    subst (Holds (λ v. P v ⊎ ((near ≡ Some v) × IsFree g v))) (sym e) (record { cells = λ v. (to v, from v); rising = h.rising })
   where
-    to : (v : ℕ) → Contains old v → P v ⊎ ((side ≡ Some v) × IsFree g v)
+    to : (v : ℕ) → Contains old v → P v ⊎ ((near ≡ Some v) × IsFree g v)
     to v i = inl ((h.cells v).0 i)
 
-    from : (v : ℕ) → P v ⊎ ((side ≡ Some v) × IsFree g v) → Contains old v
+    from : (v : ℕ) → P v ⊎ ((near ≡ Some v) × IsFree g v) → Contains old v
     from v (inl p) = (h.cells v).1 p
     from v (inr p) = absurd (blocked v p.0 p.1)
 
@@ -70,7 +70,7 @@ wide w u some same = go (cases_order w 1)
     go (inr (inr h)) = h
 
 module _ (g : Grid) (cell : ℕ) (above left right below : Option ℕ) (a b c d : List ℕ) where
-  -- what the four sides are, and how they were pushed, one after another
+  -- what the four neighbours are, and how they were pushed, one after another
   pub record FourSides : Type 0 where
     pub width : 0 < g.width
     pub is_above : (v : ℕ) → (above ≡ Some v) ↔ (cell ≡ v + g.width)
@@ -82,7 +82,7 @@ module _ (g : Grid) (cell : ℕ) (above left right below : Option ℕ) (a b c d 
     pub three : PushesFree g right b c
     pub four : PushesFree g below c d
 
-  -- the sides pushed so far
+  -- the neighbours pushed so far
   abbrev Above : ℕ → Type 0
   Above v = ⊥ ⊎ ((above ≡ Some v) × IsFree g v)
 
@@ -92,9 +92,9 @@ module _ (g : Grid) (cell : ℕ) (above left right below : Option ℕ) (a b c d 
   abbrev Right : ℕ → Type 0
   Right v = Left v ⊎ ((right ≡ Some v) × IsFree g v)
 
-  -- the list of the four sides has the free cells beside the cell, and rises
-  pub sides_of_cell : FourSides → Holds (λ v. IsFree g v × IsBeside g cell v) d
-  sides_of_cell s = record { cells = λ v. ((λ i. to v ((all.cells v).0 i)), λ p. (all.cells v).1 (from v p)); rising = all.rising }
+  -- the list of the four neighbours has the free cells beside the cell, and rises
+  pub neighbours_of_cell : FourSides → Holds (λ v. IsFree g v × IsBeside g cell v) d
+  neighbours_of_cell s = record { cells = λ v. ((λ i. to v ((all.cells v).0 i)), λ p. (all.cells v).1 (from v p)); rising = all.rising }
     where
       far : (v : ℕ) → (cell ≡ v + 1) × (cell / g.width ≡ v / g.width) → 1 < g.width
       far v h = wide g.width v s.width (subst (λ n. n / g.width ≡ v / g.width) h.0 h.1)
@@ -150,10 +150,10 @@ beside_differs g u v some (inl (inr h)) e = omega (arith, h, e, some)
 beside_differs g u v some (inr (inl h)) e = omega (arith, h.0, e)
 beside_differs g u v some (inr (inr h)) e = omega (arith, h, e, some)
 
--- from a free cell the free sides are the steps to another cell
-pub sides_are_steps : (g : Grid) (u : ℕ) (items : List ℕ) → 0 < g.width → IsFree g u → Holds (λ v. IsFree g v × IsBeside g u v) items →
+-- from a free cell the free neighbours are the steps to another cell
+pub neighbours_are_steps : (g : Grid) (u : ℕ) (items : List ℕ) → 0 < g.width → IsFree g u → Holds (λ v. IsFree g v × IsBeside g u v) items →
     (v : ℕ) → Contains items v ↔ (Next g u v × (u ≢ v))
-sides_are_steps g u items some free h v = (to, from)
+neighbours_are_steps g u items some free h v = (to, from)
   where
     to : Contains items v → Next g u v × (u ≢ v)
     to i = let p = (h.cells v).0 i in ((free, p.0, inr p.1), beside_differs g u v some p.1)
@@ -162,8 +162,8 @@ sides_are_steps g u items some free h v = (to, from)
     from ((f, fv, inl e), ne) = absurd (ne e)
     from ((f, fv, inr b), ne) = (h.cells v).1 (fv, b)
 
--- a side that counts only if it is free
-pub free_side : (side kept : Option ℕ) (P F : ℕ → Type 0) → ((v : ℕ) → (side ≡ Some v) ↔ P v) →
-    ((v : ℕ) → (kept ≡ Some v) ↔ ((side ≡ Some v) × F v)) → (v : ℕ) → (kept ≡ Some v) ↔ (P v × F v)
-free_side side kept P F is free v =
+-- a neighbour that counts only if it is free
+pub free_neighbour : (near kept : Option ℕ) (P F : ℕ → Type 0) → ((v : ℕ) → (near ≡ Some v) ↔ P v) →
+    ((v : ℕ) → (kept ≡ Some v) ↔ ((near ≡ Some v) × F v)) → (v : ℕ) → (kept ≡ Some v) ↔ (P v × F v)
+free_neighbour near kept P F is free v =
     (λ e. let f = (free v).0 e in ((is v).0 f.0, f.1), λ h. (free v).1 ((is v).1 h.0, h.1))

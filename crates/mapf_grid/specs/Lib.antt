@@ -1,6 +1,6 @@
 pub mod Least
 pub mod Grid
-pub mod Sides
+pub mod FreeNeighbours
 pub mod RowStarts
 pub mod Lines
 pub mod Cuts

@@ -2,10 +2,10 @@ ghost use Rattle.std.specs.Prelude.{◌≡◌, ◌≢◌, ℕ, ◌+◌, ◌*◌,
 ghost use Rattle.std.specs.List.Sorted.{IsStrictlyIncreasing};
 ghost use Rattle.smallvec.specs.SmallVec.{HasRoomFor};
 
+mod free_neighbours;
 mod header;
 mod reader;
 mod row_starts;
-mod sides;
 mod steps;
 
 use crate::Cell;
@@ -47,7 +47,7 @@ impl Model for Map {
 
 impl Map {
     ghost use Rattle.mapf_grid.specs.Grid.{Grid, cells, IsFree, IsBeside, Next, HasSizes};
-    ghost use Rattle.mapf_grid.specs.Sides.{PushesFree};
+    ghost use Rattle.mapf_grid.specs.FreeNeighbours.{PushesFree};
 
     /// How many columns there are: 1 to 2,048.
     pub fn width(&self) -> u32
@@ -108,20 +108,20 @@ impl Map {
     /// The free cells at the four sides of a cell of the map, numbers rising. No memory is taken.
     pub fn neighbours(&self, cell: Cell) -> SmallVec<Cell, 4>
         requires { cell < cells self.now }
-        ensures sides { (v : ℕ) → Contains result.items v ↔ (IsFree self.now v × IsBeside self.now cell v) }
+        ensures neighbours { (v : ℕ) → Contains result.items v ↔ (IsFree self.now v × IsBeside self.now cell v) }
         ensures steps { IsFree self.now cell → (v : ℕ) → Contains result.items v ↔ (Next self.now cell v × (cell ≢ v)) }
         ensures rising { IsStrictlyIncreasing result.items }
     {
-        let mut sides = SmallVec::new(*self.free.allocator());
-        self.push_free(self.above(cell), &mut sides);
-        self.push_free(self.at_left(cell), &mut sides);
-        self.push_free(self.at_right(cell), &mut sides);
-        self.push_free(self.below(cell), &mut sides);
-        sides
+        let mut neighbours = SmallVec::new(*self.free.allocator());
+        self.push_free(self.cell_above(cell), &mut neighbours);
+        self.push_free(self.cell_at_left(cell), &mut neighbours);
+        self.push_free(self.cell_at_right(cell), &mut neighbours);
+        self.push_free(self.cell_below(cell), &mut neighbours);
+        neighbours
     }
 
     /// The cell above, where there is one.
-    pub fn above(&self, cell: Cell) -> Option<Cell>
+    pub fn cell_above(&self, cell: Cell) -> Option<Cell>
         ensures { (v : ℕ) → (result ≡ Some v) ↔ (cell ≡ v + self.now.width) }
     {
         let number = cell.number();
@@ -133,7 +133,7 @@ impl Map {
     }
 
     /// The cell at the left in the same row, where there is one.
-    pub fn at_left(&self, cell: Cell) -> Option<Cell>
+    pub fn cell_at_left(&self, cell: Cell) -> Option<Cell>
         ensures { (v : ℕ) → (result ≡ Some v) ↔ ((cell ≡ v + 1) × (cell / self.now.width ≡ v / self.now.width)) }
     {
         let number = cell.number();
@@ -145,7 +145,7 @@ impl Map {
     }
 
     /// The cell at the right in the same row, where there is one.
-    pub fn at_right(&self, cell: Cell) -> Option<Cell>
+    pub fn cell_at_right(&self, cell: Cell) -> Option<Cell>
         requires { cell < cells self.now }
         ensures { (v : ℕ) → (result ≡ Some v) ↔ ((v ≡ cell + 1) × (v / self.now.width ≡ cell / self.now.width)) }
     {
@@ -159,7 +159,7 @@ impl Map {
     }
 
     /// The number of the cell below, which may lie outside the map.
-    pub fn below(&self, cell: Cell) -> Option<Cell>
+    pub fn cell_below(&self, cell: Cell) -> Option<Cell>
         requires { cell < cells self.now }
         ensures { (v : ℕ) → (result ≡ Some v) ↔ (v ≡ cell + self.now.width) }
     {
@@ -167,14 +167,14 @@ impl Map {
     }
 
     /// Adds a cell to the list, if there is one and it is free.
-    fn push_free(&self, side: Option<Cell>, sides: &mut SmallVec<Cell, 4>)
-        requires { HasRoomFor sides.old 1 }
-        ensures pushes { PushesFree self.now side sides.old.items sides.new.items }
-        ensures capacity { sides.new.capacity ≡ sides.old.capacity }
+    fn push_free(&self, cell: Option<Cell>, neighbours: &mut SmallVec<Cell, 4>)
+        requires { HasRoomFor neighbours.old 1 }
+        ensures pushes { PushesFree self.now cell neighbours.old.items neighbours.new.items }
+        ensures capacity { neighbours.new.capacity ≡ neighbours.old.capacity }
     {
-        if let Some(cell) = side {
+        if let Some(cell) = cell {
             if self.is_free(cell) {
-                sides.push_reserved(cell);
+                neighbours.push_reserved(cell);
             }
         }
     }

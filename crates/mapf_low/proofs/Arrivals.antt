@@ -19,10 +19,10 @@ use Rattle.mapf_low.proofs.ByLast.{order_is_by_last}
 use Rattle.mapf_low.proofs.Places.{obeys_each, obeys_from_each}
 
 -- for so many time steps: each place of each allowed path is reached, at time 0 the start alone, and nothing that is forbidden
-pub record IsCovering (query : Query) (limit : ℕ) (At : ℕ → ℕ → Type 0) (count : ℕ) : Type 0 where
+pub record IsCovering (query : Query) (bound : ℕ) (At : ℕ → ℕ → Type 0) (count : ℕ) : Type 0 where
   pub start : IsFree query.grid query.start
   pub ends : All HasTwoEnds query.constraints
-  pub covers : (p : List ℕ) → IsAllowed query.grid query.start query.goal limit query.constraints p → (t : ℕ) → t ≤ cost p → t < count → At t (at p t)
+  pub covers : (p : List ℕ) → IsAllowed query.grid query.start query.goal bound query.constraints p → (t : ℕ) → t ≤ cost p → t < count → At t (at p t)
   pub first : (v : ℕ) → At 0 v → v ≡ query.start
   pub allowed : (t v : ℕ) → t < count → At t v → ¬ Contains query.constraints (Vertex v t)
 
@@ -33,19 +33,19 @@ pub record IsTrail (query : Query) (At : ℕ → ℕ → Type 0) (q : List ℕ) 
   pub back : (t : ℕ) → t < end → ComesFrom query (t + 1) (At t) (slice_index q (t + 1)) (slice_index q t)
 
 -- each step of an allowed path may be made
-pub step_at : (query : Query) (limit : ℕ) (p : List ℕ) → IsAllowed query.grid query.start query.goal limit query.constraints p → (t : ℕ) → t < cost p → MayStep query (t + 1) (at p t) (at p (t + 1))
-step_at query limit p a t l = (
+pub step_at : (query : Query) (bound : ℕ) (p : List ℕ) → IsAllowed query.grid query.start query.goal bound query.constraints p → (t : ℕ) → t < cost p → MayStep query (t + 1) (at p t) (at p (t + 1))
+step_at query bound p a t l = (
   a.path.steps t l,
   λ i. obeys_each query.constraints p a.obeys (Edge (at p t) (at p (t + 1)) (t + 1)) i (omega arith, ap (λ k. at p k) (let back : t + 1 - 1 ≡ t = omega arith in back), refl),
 )
 
 -- and the path may end when it does
-may_end : (query : Query) (limit : ℕ) (p : List ℕ) → IsAllowed query.grid query.start query.goal limit query.constraints p → MayEnd query (cost p)
-may_end query limit p a s l i = obeys_each query.constraints p a.obeys (Vertex query.goal s) i (at_past p s l ∙ a.path.ends)
+may_end : (query : Query) (bound : ℕ) (p : List ℕ) → IsAllowed query.grid query.start query.goal bound query.constraints p → MayEnd query (cost p)
+may_end query bound p a s l i = obeys_each query.constraints p a.obeys (Vertex query.goal s) i (at_past p s l ∙ a.path.ends)
 
-module _ (query : Query) (limit : ℕ) (At : ℕ → ℕ → Type 0) (count : ℕ) (set : IsCovering query limit At count) where
+module _ (query : Query) (bound : ℕ) (At : ℕ → ℕ → Type 0) (count : ℕ) (set : IsCovering query bound At count) where
   abbrev Allowed : List ℕ → Type 0
-  Allowed p = IsAllowed query.grid query.start query.goal limit query.constraints p
+  Allowed p = IsAllowed query.grid query.start query.goal bound query.constraints p
 
   -- no allowed path costs less than the first arrival
   pub no_cheaper : (end : ℕ) → ((t : ℕ) → t < end → ¬ EndsAt query At t) → end ≤ count → (p : List ℕ) → Allowed p → end ≤ cost p
@@ -53,10 +53,10 @@ module _ (query : Query) (limit : ℕ) (At : ℕ → ℕ → Type 0) (count : �
       ⊎_elim
       (λ l.
       let here : At (cost p) (at p (cost p)) = set.covers p a (cost p) (omega arith) (omega (arith, l, long)) in
-      absurd (none (cost p) l (subst (λ c. At (cost p) c) a.path.ends here, may_end query limit p a)))
+      absurd (none (cost p) l (subst (λ c. At (cost p) c) a.path.ends here, may_end query bound p a)))
       (λ l. l) (cases_lt (cost p) end)
 
-  module _ (end : ℕ) (q : List ℕ) (long : end < count) (within : end ≤ limit) (read : IsTrail query At q end) (arrives : EndsAt query At end) (first : (t : ℕ) → t < end → ¬ EndsAt query At t) where
+  module _ (end : ℕ) (q : List ℕ) (long : end < count) (within : end ≤ bound) (read : IsTrail query At q end) (arrives : EndsAt query At end) (first : (t : ℕ) → t < end → ¬ EndsAt query At t) where
     costs : cost q ≡ end
     costs = omega (arith, read.long)
 
@@ -143,7 +143,7 @@ module _ (query : Query) (limit : ℕ) (At : ℕ → ℕ → Type 0) (count : �
               let t : ℕ = s.last in
               let ahead : slice_index y (t + 1) ≡ slice_index q (t + 1) = s.same_later (t + 1) (omega arith) in
               let inside : At t (at y t) = set.covers y a t (omega (arith, l, same, costs)) (omega (arith, l, long)) in
-              let step : MayStep query (t + 1) (at y t) (at y (t + 1)) = step_at query limit y a t (omega (arith, l, same, costs)) in
+              let step : MayStep query (t + 1) (at y t) (at y (t + 1)) = step_at query bound y a t (omega (arith, l, same, costs)) in
               let comes : ComesFrom query (t + 1) (At t) (at y (t + 1)) (at y t) = (inside, step) in
               let also : ComesFrom query (t + 1) (At t) (slice_index q (t + 1)) (slice_index y t) =
               subst₂ (λ v u. ComesFrom query (t + 1) (At t) v u) (at_y (t + 1) (omega (arith, l)) ∙ ahead) (at_y t (omega (arith, l))) comes in
@@ -151,7 +151,7 @@ module _ (query : Query) (limit : ℕ) (At : ℕ → ℕ → Type 0) (count : �
               omega (arith, least, s.smaller)
 
       -- and no allowed path comes before it
-      least_own : IsOwnPath query.grid query.start query.goal limit query.constraints q
+      least_own : IsOwnPath query.grid query.start query.goal bound query.constraints q
       least_own = record { member = is_allowed; least = least }
         where
           least : (y : List ℕ) → Allowed y → ¬ Precedes (path_rank y) (path_rank q)
@@ -159,11 +159,11 @@ module _ (query : Query) (limit : ℕ) (At : ℕ → ℕ → Type 0) (count : �
           least y a (inr h) = none_smaller y a h.0 ((order_is_by_last y q (omega (arith, h.0, a.path.some, is_path.some))).0 h.1)
 
   -- a list that is read back by the smallest earlier cell is the own path
-  pub own_path : (end : ℕ) (q : List ℕ) → end < count → end ≤ limit → IsReconstructed query At q 0 end → EndsAt query At end → ((t : ℕ) → t < end → ¬ EndsAt query At t) →
-      IsOwnPath query.grid query.start query.goal limit query.constraints q
+  pub own_path : (end : ℕ) (q : List ℕ) → end < count → end ≤ bound → IsReconstructed query At q 0 end → EndsAt query At end → ((t : ℕ) → t < end → ¬ EndsAt query At t) →
+      IsOwnPath query.grid query.start query.goal bound query.constraints q
   own_path end q long within read arrives first =
       least_own end q long within (record { long = read.long; ends = read.ends; back = λ t l. (read.back t (omega arith) l).comes }) arrives first (λ t l. (read.back t (omega arith) l).smallest)
 
-  -- where nothing arrives by the limit, no path is allowed
-  pub none_arrives : limit < count → ((t : ℕ) → t < limit + 1 → ¬ EndsAt query At t) → (p : List ℕ) → ¬ Allowed p
-  none_arrives long first p a = omega (arith, no_cheaper (limit + 1) first (omega (arith, long)) p a, a.within)
+  -- where nothing arrives by the bound, no path is allowed
+  pub none_arrives : bound < count → ((t : ℕ) → t < bound + 1 → ¬ EndsAt query At t) → (p : List ℕ) → ¬ Allowed p
+  none_arrives long first p a = omega (arith, no_cheaper (bound + 1) first (omega (arith, long)) p a, a.within)

@@ -12,23 +12,23 @@ use Rattle.mapf_low.proofs.Arrivals.{IsCovering, step_at, no_cheaper, own_path, 
 use Rattle.mapf_low.proofs.Places.{free_below, rest_walks, obeys_each}
 
 -- what a search is about
-pub record Setting (query : Query) (limit : ℕ) (At : ℕ → ℕ → Type 0) (count : ℕ) : Type 0 where
+pub record Setting (query : Query) (bound : ℕ) (At : ℕ → ℕ → Type 0) (count : ℕ) : Type 0 where
   pub posed : IsPosed query
   pub distances : HasDistances query
-  pub reached_are : AreReached query limit At count
+  pub reached_are : AreReached query bound At count
 
-module _ (query : Query) (limit : ℕ) (At : ℕ → ℕ → Type 0) (count : ℕ) (set : Setting query limit At count) where
+module _ (query : Query) (bound : ℕ) (At : ℕ → ℕ → Type 0) (count : ℕ) (set : Setting query bound At count) where
   abbrev Allowed : List ℕ → Type 0
-  Allowed p = IsAllowed query.grid query.start query.goal limit query.constraints p
+  Allowed p = IsAllowed query.grid query.start query.goal bound query.constraints p
 
-  near : (p : List ℕ) → Allowed p → (t : ℕ) → t ≤ cost p → (o : Option ℕ) → MatchOption o ((n : ℕ) → ¬ IsWalk query.grid (at p t) query.goal n) (IsDistance query.grid query.goal (at p t)) → MatchOption o ⊥ (λ n. t + n ≤ limit)
+  near : (p : List ℕ) → Allowed p → (t : ℕ) → t ≤ cost p → (o : Option ℕ) → MatchOption o ((n : ℕ) → ¬ IsWalk query.grid (at p t) query.goal n) (IsDistance query.grid query.goal (at p t)) → MatchOption o ⊥ (λ n. t + n ≤ bound)
   near p a t l None h = h (cost p - t) (rest_walks query.grid query.start query.goal p a.path (cost p - t) t (omega (arith, l)))
   near p a t l (Some n) h =
       let shorter : n ≤ cost p - t = h.least (cost p - t) (rest_walks query.grid query.start query.goal p a.path (cost p - t) t (omega (arith, l))) in
       omega (arith, shorter, l, a.within)
 
   -- each place of an allowed path is open at its time
-  open_at : (p : List ℕ) → Allowed p → (t : ℕ) → t ≤ cost p → IsUsable query limit t (at p t)
+  open_at : (p : List ℕ) → Allowed p → (t : ℕ) → t ≤ cost p → IsUsable query bound t (at p t)
   open_at p a t l = (
     (λ i. obeys_each query.constraints p a.obeys (Vertex (at p t) t) i refl),
     near p a t l (slice_index_or query.table (at p t) None) (set.distances.shortest (at p t) (free_below query.grid (at p t) set.posed.sizes (place_free query.grid query.start query.goal p a.path t))),
@@ -41,7 +41,7 @@ module _ (query : Query) (limit : ℕ) (At : ℕ → ℕ → Type 0) (count : �
       let n : t + 1 ≡ suc t = omega arith in
       let earlier : At t (at p t) = reached p a t (omega (arith, l)) (omega (arith, m)) in
       let here : At (t + 1) (at p (t + 1)) =
-      (set.reached_are.next t (omega (arith, m)) (at p (t + 1))).1 (open_at p a (t + 1) (omega (arith, l)), (at p t, (earlier, step_at query limit p a t (omega (arith, l))))) in
+      (set.reached_are.next t (omega (arith, m)) (at p (t + 1))).1 (open_at p a (t + 1) (omega (arith, l)), (at p t, (earlier, step_at query bound p a t (omega (arith, l))))) in
       subst (λ k. At k (at p k)) n here
 
   -- nothing that is reached is forbidden at its time
@@ -52,7 +52,7 @@ module _ (query : Query) (limit : ℕ) (At : ℕ → ℕ → Type 0) (count : �
       let there : At (t + 1) v = subst (λ k. At k v) n i in
       subst (λ k. ¬ Contains query.constraints (Vertex v k)) (sym n) ((set.reached_are.next t (omega (arith, l)) v).0 there).0.0
 
-  covering : IsCovering query limit At count
+  covering : IsCovering query bound At count
   covering = record {
     start = set.posed.start;
     ends = set.posed.ends;
@@ -62,14 +62,14 @@ module _ (query : Query) (limit : ℕ) (At : ℕ → ℕ → Type 0) (count : �
   }
 
   -- the path that is read back is the own path
-  pub own : (end : ℕ) (q : List ℕ) → end < count → end ≤ limit → IsReconstructed query At q 0 end → EndsAt query At end → ((t : ℕ) → t < end → ¬ EndsAt query At t) →
-      IsOwnPath query.grid query.start query.goal limit query.constraints q
-  own = own_path query limit At count covering
+  pub own : (end : ℕ) (q : List ℕ) → end < count → end ≤ bound → IsReconstructed query At q 0 end → EndsAt query At end → ((t : ℕ) → t < end → ¬ EndsAt query At t) →
+      IsOwnPath query.grid query.start query.goal bound query.constraints q
+  own = own_path query bound At count covering
 
   -- where nothing is reached and nothing arrived before, no path is allowed
   pub none_through : (end : ℕ) → end < count → ((t : ℕ) → t < end → ¬ EndsAt query At t) → ((v : ℕ) → ¬ At end v) → (p : List ℕ) → ¬ Allowed p
-  none_through end long first empty p a = empty (at p end) (reached p a end (no_cheaper query limit At count covering end first (omega (arith, long)) p a) long)
+  none_through end long first empty p a = empty (at p end) (reached p a end (no_cheaper query bound At count covering end first (omega (arith, long)) p a) long)
 
-  -- where nothing arrives by the limit, no path is allowed
-  pub none_by_limit : limit < count → ((t : ℕ) → t < limit + 1 → ¬ EndsAt query At t) → (p : List ℕ) → ¬ Allowed p
-  none_by_limit = none_arrives query limit At count covering
+  -- where nothing arrives by the bound, no path is allowed
+  pub none_by_limit : bound < count → ((t : ℕ) → t < bound + 1 → ¬ EndsAt query At t) → (p : List ℕ) → ¬ Allowed p
+  none_by_limit = none_arrives query bound At count covering

@@ -1,9 +1,9 @@
-pub mod ByLast
+mod ByLast
 pub mod OwnPaths
 mod Places
 mod Arrivals
 mod FirstArrival
-pub mod Limits
+pub mod HigherBounds
 mod Growing
 mod Bests
 mod Reading

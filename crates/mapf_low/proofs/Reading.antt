@@ -9,8 +9,8 @@ use Rattle.mapf_low.specs.Reached.{AreLinked, ComesFrom, IsSmallestBefore, IsRec
 use Rattle.mapf_low.proofs.FirstArrival.{Setting}
 
 -- each cell that is reached is free, and was entered from one that was reached before
-pub are_linked : (query : Query) (limit : ℕ) (At : ℕ → ℕ → Type 0) (count end : ℕ) → Setting query limit At count → end < count → AreLinked query At end
-are_linked query limit At count end s inside = record {
+pub are_linked : (query : Query) (bound : ℕ) (At : ℕ → ℕ → Type 0) (count end : ℕ) → Setting query bound At count → end < count → AreLinked query At end
+are_linked query bound At count end s inside = record {
   free = free;
   linked = λ t v l i. ((s.reached_are.next t (omega (arith, l, inside)) v).0 i).1;
 }

@@ -53,26 +53,26 @@ met_before query time P cell items k o e steps_from h =
 -- what was added from a free cell and its neighbours
 pub expanded_is : (query : Query) (time from : ℕ) (neighbours old mid new : List ℕ) → IsFree query.grid from → ((v : ℕ) → Contains neighbours v ↔ (IsFree query.grid v × IsBeside query.grid from v)) →
     Grows (λ v. (from ≡ v) × MayEnter query time from v) old mid → Grows (λ v. Contains neighbours v × MayEnter query time from v) mid new →
-    Grows (λ v. IsUsable query query.limit time v × MayStep query time from v) old new
+    Grows (λ v. IsUsable query query.bound time v × MayStep query time from v) old new
 expanded_is query time from neighbours old mid new free beside h k =
-    grows_as (λ v. ((from ≡ v) × MayEnter query time from v) ⊎ (Contains neighbours v × MayEnter query time from v)) (λ v. IsUsable query query.limit time v × MayStep query time from v) old new
+    grows_as (λ v. ((from ≡ v) × MayEnter query time from v) ⊎ (Contains neighbours v × MayEnter query time from v)) (λ v. IsUsable query query.bound time v × MayStep query time from v) old new
     (λ v. (to v, λ p. back v p.0 p.1.0 p.1.1))
     (grows_both (λ v. (from ≡ v) × MayEnter query time from v) (λ v. Contains neighbours v × MayEnter query time from v) old mid new h k)
   where
-    to : (v : ℕ) → ((from ≡ v) × MayEnter query time from v) ⊎ (Contains neighbours v × MayEnter query time from v) → IsUsable query query.limit time v × MayStep query time from v
+    to : (v : ℕ) → ((from ≡ v) × MayEnter query time from v) ⊎ (Contains neighbours v × MayEnter query time from v) → IsUsable query query.bound time v × MayStep query time from v
     to v (inl p) = (p.1.0, ((free, subst (IsFree query.grid) p.0 free, inl p.0), p.1.1))
     to v (inr p) = let neighbour = (beside v).0 p.0 in (p.1.0, ((free, neighbour.0, inr neighbour.1), p.1.1))
 
-    back : (v : ℕ) → IsUsable query query.limit time v → Next query.grid from v → (¬ Contains query.constraints (Edge from v time)) →
+    back : (v : ℕ) → IsUsable query query.bound time v → Next query.grid from v → (¬ Contains query.constraints (Edge from v time)) →
         ((from ≡ v) × MayEnter query time from v) ⊎ (Contains neighbours v × MayEnter query time from v)
     back v o (f, fv, inl e) n = inl (e, (o, n))
     back v o (f, fv, inr b) n = inr ((beside v).1 (fv, b), (o, n))
 
 -- what was added from each cell of a layer is the next layer
-pub next_is : (query : Query) (time : ℕ) (layer reached : List ℕ) → Grows (FromSome (λ u v. IsUsable query query.limit time v × MayStep query time u v) layer) [] reached → IsNextLayer query time layer reached
+pub next_is : (query : Query) (time : ℕ) (layer reached : List ℕ) → Grows (FromSome (λ u v. IsUsable query query.bound time v × MayStep query time u v) layer) [] reached → IsNextLayer query time layer reached
 next_is query time layer reached g v = (λ i. to ((g.members v).0 i), λ p. (g.members v).1 (inr (p.1.0, p.1.1.0, (p.0, p.1.1.1))))
   where
-    to : Contains [] v ⊎ FromSome (λ u w. IsUsable query query.limit time w × MayStep query time u w) layer v → IsUsable query query.limit time v × ((u : ℕ) × ComesFrom query time (Contains layer) v u)
+    to : Contains [] v ⊎ FromSome (λ u w. IsUsable query query.bound time w × MayStep query time u w) layer v → IsUsable query query.bound time v × ((u : ℕ) × ComesFrom query time (Contains layer) v u)
     to (inl i) = absurd (nowhere i)
     to (inr (u, i, s)) = (s.0, (u, (i, s.1)))
 

@@ -11,26 +11,26 @@ use Rattle.mapf_low.specs.Times.{AreMarked}
 use Rattle.mapf_low.specs.Walk.{AreDistances}
 use Rattle.mapf_plan.specs.Plan.{most_bound}
 
--- one agent's own path on a map from its start to its goal, under constraints, at a cost of at most the limit
+-- one agent's own path on a map from its start to its goal, under constraints, at a cost of at most the bound
 pub record Query : Type 0 where
   pub grid : Grid
   pub table : List (Option ℕ)
   pub constraints : List Constraint
   pub start : ℕ
   pub goal : ℕ
-  pub limit : ℕ
+  pub bound : ℕ
 
-abbrev pub query_of : Grid → List (Option ℕ) → List Constraint → (start goal limit : ℕ) → Query
-query_of grid table constraints start goal limit =
-    record { grid = grid; table = table; constraints = constraints; start = start; goal = goal; limit = limit }
+abbrev pub query_of : Grid → List (Option ℕ) → List Constraint → (start goal bound : ℕ) → Query
+query_of grid table constraints start goal bound =
+    record { grid = grid; table = table; constraints = constraints; start = start; goal = goal; bound = bound }
 
--- start and goal are free, each edge constraint has two ends, and the limit is not too large
+-- start and goal are free, each edge constraint has two ends, and the bound is not too large
 pub record IsPosed (query : Query) : Type 0 where
   pub sizes : HasSizes query.grid
   pub start : IsFree query.grid query.start
   pub goal : IsFree query.grid query.goal
   pub ends : All HasTwoEnds query.constraints
-  pub limit : query.limit ≤ most_bound
+  pub bound : query.bound ≤ most_bound
 
 -- from this time on nothing forbids the goal
 abbrev pub MayEnd : Query → ℕ → Type 0
@@ -40,7 +40,7 @@ MayEnd query t = (s : ℕ) → t ≤ s → ¬ Contains query.constraints (Vertex
 pub record IsPrepared (query : Query) (last : Option ℕ) (marks : List Bool) : Type 0 where
   pub posed : IsPosed query
   pub last_is : IsGreatest (λ t. Contains query.constraints (Vertex query.goal t)) last
-  pub marked : AreMarked query.constraints (query.limit + 1) marks
+  pub marked : AreMarked query.constraints (query.bound + 1) marks
 
 -- the table has the distances to the goal
 abbrev pub HasDistances : Query → Type 0
@@ -50,5 +50,5 @@ HasDistances query = AreDistances query.grid query.goal query.table
 abbrev pub IsFound : Query → Option (List ℕ) → Type 0
 IsFound query found =
     MatchOption found
-    ((p : List ℕ) → ¬ IsAllowed query.grid query.start query.goal query.limit query.constraints p)
-    (IsOwnPath query.grid query.start query.goal query.limit query.constraints)
+    ((p : List ℕ) → ¬ IsAllowed query.grid query.start query.goal query.bound query.constraints p)
+    (IsOwnPath query.grid query.start query.goal query.bound query.constraints)

@@ -1,4 +1,4 @@
--- Where an agent may be at each time step, as far as it can still reach its goal by a limit; and a path that is read
+-- Where an agent may be at each time step, as far as it can still reach its goal by a bound; and a path that is read
 -- backwards through that.
 use Rattle.std.specs.Prelude.{◌≡◌, ℕ, ◌+◌, ◌<◌, ◌≤◌, ◌↔◌, List, length, slice_index, slice_index_or, None, MatchOption, Contains}
 use Rattle.mapf_grid.specs.Grid.{IsFree, Next}
@@ -7,8 +7,8 @@ use Rattle.mapf_low.specs.Query.{Query, MayEnd}
 
 -- the agent may be on the cell at this time, and the goal is near enough
 abbrev pub IsUsable : Query → ℕ → ℕ → ℕ → Type 0
-IsUsable query limit t v =
-    (¬ Contains query.constraints (Vertex v t)) × MatchOption (slice_index_or query.table v None) ⊥ (λ n. t + n ≤ limit)
+IsUsable query bound t v =
+    (¬ Contains query.constraints (Vertex v t)) × MatchOption (slice_index_or query.table v None) ⊥ (λ n. t + n ≤ bound)
 
 -- the agent may arrive on v from u at this time
 abbrev pub MayStep : Query → ℕ → ℕ → ℕ → Type 0
@@ -19,10 +19,10 @@ abbrev pub ComesFrom : Query → ℕ → (ℕ → Type 0) → ℕ → ℕ → Ty
 ComesFrom query t P v u = P u × MayStep query t u v
 
 -- for each of so many time steps the open cells that an agent from the start may have reached
-pub record AreReached (query : Query) (limit : ℕ) (At : ℕ → ℕ → Type 0) (count : ℕ) : Type 0 where
-  pub first : (v : ℕ) → At 0 v ↔ ((v ≡ query.start) × IsUsable query limit 0 v)
+pub record AreReached (query : Query) (bound : ℕ) (At : ℕ → ℕ → Type 0) (count : ℕ) : Type 0 where
+  pub first : (v : ℕ) → At 0 v ↔ ((v ≡ query.start) × IsUsable query bound 0 v)
   pub next : (t : ℕ) → t + 1 < count → (v : ℕ) →
-      At (t + 1) v ↔ (IsUsable query limit (t + 1) v × ((u : ℕ) × ComesFrom query (t + 1) (At t) v u))
+      At (t + 1) v ↔ (IsUsable query bound (t + 1) v × ((u : ℕ) × ComesFrom query (t + 1) (At t) v u))
 
 -- a path may end at this time
 abbrev pub EndsAt : Query → (ℕ → ℕ → Type 0) → ℕ → Type 0

@@ -26,7 +26,7 @@ use std::mem::replace;
 /// differ: read from its end, where each place before is the smallest cell that nothing rules out. None, if no list of steps
 /// does; unknown, if there was no room for a dead end.
 ///
-/// What turns out to be a dead end is added to `dead`, and holds for every cost. `cells` is room for the list, whatever it has:
+/// What is found to be a dead end is added to `dead`, and holds for every cost. `cells` is room for the list, whatever it has:
 /// it is kept for the next cost, or goes out with the path.
 fn trace(
     alloc: Global,
@@ -35,7 +35,7 @@ fn trace(
     dead: &mut DeadEnds,
     cells: &mut Vec<Cell>,
 ) -> Result<Lookup<Option<Path>>, NoMemory>
-    requires end { end ≤ query.now.limit }
+    requires end { end ≤ query.now.bound }
     requires left { IsLeft query.now dead.old.states end query.now.goal }
     requires dead { AreDead query.now dead.old.states }
     requires earliest { HasEarliest query.now }
@@ -84,7 +84,7 @@ fn trace_first(
     let goal = query.goal();
     let mut dead = DeadEnds::new(alloc, budget);
     let mut cells = Vec::new(alloc);
-    for end in first..query.limit() + 1 {
+    for end in first..query.bound() + 1 {
         if query.may_end(end) && query.is_left(&dead, goal, end) {
             match trace(alloc, query, end, &mut dead, &mut cells)? {
                 Lookup::Unknown => return Ok(Lookup::Unknown),
@@ -104,7 +104,7 @@ fn own_path(
     least: u32,
     budget: usize,
 ) -> Result<Lookup<Option<Path>>, NoMemory>
-    requires least { (p : List ℕ) → IsAllowed query.now.grid query.now.start query.now.goal query.now.limit
+    requires least { (p : List ℕ) → IsAllowed query.now.grid query.now.start query.now.goal query.now.bound
         query.now.constraints p → least ≤ cost p }
     requires earliest { HasEarliest query.now }
     ensures { IfOk result (λ answer. IfKnown answer (IsFound query.now)) }
@@ -122,7 +122,7 @@ pub struct Backwards<'a> {
     pub from_start: &'a Distances,
     /// No path that the agent may take costs less.
     pub least: u32,
-    /// How many dead ends the search may meet: cells at a time step from which it had to turn back.
+    /// How many dead ends the search may meet: cells at a time step from which it had to go back.
     pub budget: usize,
 }
 

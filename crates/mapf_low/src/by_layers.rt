@@ -32,7 +32,7 @@ fn generate(
 fn expand(query: &Query, from: Cell, time: u32, reached: &mut CellSet) -> Result<(), NoMemory>
     requires { IsFree query.now.grid from }
     ensures { OnOk result
-        (Grows (λ v. IsUsable query.now query.now.limit time v × MayStep query.now time from v) reached.old reached.new) }
+        (Grows (λ v. IsUsable query.now query.now.bound time v × MayStep query.now time from v) reached.old reached.new) }
 {
     generate(query, from, from, time, reached)?;
     for to in query.neighbours(from).as_slice() {
@@ -75,14 +75,14 @@ impl Reached for Vec<CellSet> {
 }
 
 /// An agent's own path, found by layers over time and read backwards from the first arrival.
-pub(crate) fn by_layers(alloc: Global, query: &Query) -> Result<Option<Path>, NoMemory>
+pub(crate) fn search_by_layers(alloc: Global, query: &Query) -> Result<Option<Path>, NoMemory>
     requires { HasDistances query.now }
     ensures { IfOk result (IsFound query.now) }
 {
-    let limit = query.limit();
+    let bound = query.bound();
     let mut layers = Vec::new(alloc);
     layers.push(first_layer(alloc, query)?)?;
-    for time in 0..limit + 1 {
+    for time in 0..bound + 1 {
         let layer = &layers[time as usize];
         if layer.is_empty() {
             return Ok(None);

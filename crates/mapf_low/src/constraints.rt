@@ -1,7 +1,7 @@
 pub(crate) mod times;
 
 use crate::Constraint;
-use crate::constraints::times::{later, time_at};
+use crate::constraints::times::{later_of, time_at};
 use mapf_grid::{Cell, NoMemory};
 use std::alloc::Global;
 use std::marker::Model;
@@ -96,7 +96,7 @@ impl Constraints {
     {
         let mut last = None;
         for constraint in &self.sorted {
-            last = later(last, time_at(*constraint, cell));
+            last = later_of(last, time_at(*constraint, cell));
         }
         last
     }

@@ -77,12 +77,12 @@ pub(crate) fn find(alloc: Global, query: &Query) -> Result<(Searched, Option<Pat
     Ok((searched, Some(path)))
 }
 
-/// An agent's own path; none is looked for where its goal is forbidden at the limit or later.
+/// An agent's own path; none is looked for where its goal is forbidden at the bound or later.
 pub(crate) fn own_path_of(alloc: Global, query: &Query) -> Result<Option<Path>, NoMemory>
     requires { HasDistances query.now }
     ensures { IfOk result (IsFound query.now) }
 {
-    if !query.may_end(query.limit()) {
+    if !query.may_end(query.bound()) {
         return Ok(None);
     }
     let (_searched, path) = find(alloc, query)?;

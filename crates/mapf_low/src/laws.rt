@@ -9,7 +9,7 @@ ghost use Rattle.mapf_low.specs.Constraints.{IsAllowed};
 ghost use Rattle.mapf_low.specs.OwnPath.{IsOwnPath, OrderIsByLast, OwnPathExists};
 ghost use Rattle.mapf_plan.specs.Plan.{most_bound};
 
-use crate::by_layers::by_layers;
+use crate::by_layers::search_by_layers;
 use crate::forwards::taken::list_states;
 use crate::query::Query;
 use crate::{Constraints, Distances};
@@ -48,7 +48,7 @@ pub fn cheapest_by_layers(
 {
     let table = distances.table();
     let query = Query::new(alloc, map, table, start, goal, constraints, bound)?;
-    by_layers(alloc, &query)
+    search_by_layers(alloc, &query)
 }
 
 /// The states, cells at time steps, that the search of [`crate::cheapest`] takes, each once and in the order in which it

@@ -16,7 +16,7 @@ use std::alloc::Global;
 use std::marker::Model;
 
 /// What the low-level search is asked: one agent's own path from its start to its goal on a map, under constraints, at a
-/// cost of at most a limit. It goes by a table of a number for each cell: the search forwards by the distances to the goal, the
+/// cost of at most a bound. It goes by a table of a number for each cell: the search forwards by the distances to the goal, the
 /// search backwards by a time step before which the agent can't be there.
 #[derive(Drop)]
 pub(crate) struct Query<'a> {
@@ -25,8 +25,8 @@ pub(crate) struct Query<'a> {
     constraints: &'a Constraints,
     start: Cell,
     goal: Cell,
-    limit: u32,
-    /// Of which time steps, up to the one after the limit, there is a constraint.
+    bound: u32,
+    /// Of which time steps, up to the one after the bound, there is a constraint.
     busy_times: Vec<bool>,
     /// The last time step at which the goal is forbidden.
     last: Option<u32>,
@@ -37,9 +37,9 @@ impl<'a> Model for Query<'a> {
 
     ghost Value = { Query };
 
-    ghost view = { λ q. query_of q.map.now q.table.now q.constraints.now q.start q.goal q.limit };
+    ghost view = { λ q. query_of q.map.now q.table.now q.constraints.now q.start q.goal q.bound };
 
-    ghost invariant = { λ q. IsPrepared (query_of q.map.now q.table.now q.constraints.now q.start q.goal q.limit)
+    ghost invariant = { λ q. IsPrepared (query_of q.map.now q.table.now q.constraints.now q.start q.goal q.bound)
         q.last q.busy_times.items };
 }
 
@@ -58,25 +58,25 @@ impl<'a> Query<'a> {
         start: Cell,
         goal: Cell,
         constraints: &'a Constraints,
-        limit: u32,
+        bound: u32,
     ) -> Result<Query<'a>, NoMemory>
         requires start { IsFree map.now start }
         requires goal { IsFree map.now goal }
-        requires limit { limit ≤ most_bound }
+        requires bound { bound ≤ most_bound }
         ensures { IfOk result
-            (λ q. q ≡ query_of map.now table.now constraints.now start goal limit) }
+            (λ q. q ≡ query_of map.now table.now constraints.now start goal bound) }
     {
         // A map's sizes are known from a call alone.
         let _width = map.width();
         let last = constraints.last_time_at(goal);
-        let busy_times = busy_times(alloc, constraints, limit + 1)?;
+        let busy_times = busy_times(alloc, constraints, bound + 1)?;
         Ok(Query {
             map,
             table,
             constraints,
             start,
             goal,
-            limit,
+            bound,
             busy_times,
             last,
         })
@@ -99,11 +99,11 @@ impl<'a> Query<'a> {
     }
 
     /// What its path may cost at most.
-    pub(crate) fn limit(&self) -> u32
-        ensures limit { result ≡ self.now.limit }
+    pub(crate) fn bound(&self) -> u32
+        ensures bound { result ≡ self.now.bound }
         ensures posed { IsPosed self.now }
     {
-        self.limit
+        self.bound
     }
 
     /// How many cells the map has.
@@ -133,7 +133,7 @@ impl<'a> Query<'a> {
     /// Whether the agent may arrive on `to` from `from` at this time step.
     #[inline]
     pub(crate) fn allows(&self, from: Cell, to: Cell, time: u32) -> bool
-        requires { time ≤ self.now.limit + 1 }
+        requires { time ≤ self.now.bound + 1 }
         ensures { IsTrue result ↔ IsAllowedStep self.now time from to }
     {
         !is_busy(&self.busy_times, time)
@@ -160,16 +160,16 @@ impl<'a> Query<'a> {
     pub(crate) fn is_quiet(&self, time: u32) -> bool
         ensures { IsTrue result → IsQuiet self.now.constraints time }
     {
-        time < self.limit
+        time < self.bound
             && !is_busy(&self.busy_times, time)
             && !is_busy(&self.busy_times, time + 1)
     }
 
-    /// Whether the agent may be on the cell at this time step, and its entry in the table can still be added by the limit.
+    /// Whether the agent may be on the cell at this time step, and its entry in the table can still be added by the bound.
     pub(crate) fn is_usable(&self, cell: Cell, time: u32) -> bool
-        ensures { IsTrue result ↔ IsUsable self.now self.now.limit time cell }
+        ensures { IsTrue result ↔ IsUsable self.now self.now.bound time cell }
     {
-        matches!(self.table.get(cell), Some(entry) if u64::from(time) + u64::from(entry) <= u64::from(self.limit))
+        matches!(self.table.get(cell), Some(entry) if u64::from(time) + u64::from(entry) <= u64::from(self.bound))
             && self.allows_at(cell, time)
     }
 

@@ -8,11 +8,11 @@ pub mod laws;
 mod means;
 mod pace;
 mod refusal;
-mod rest;
 mod rounds;
 mod run_fault;
 mod runs;
 mod sessions;
+mod sessions_alone;
 mod solving;
 mod watch;
 

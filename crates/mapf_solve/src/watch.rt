@@ -14,7 +14,7 @@ pub trait Watch {
     ///
     /// While a node waits and none of those that were taken is a solution, `least` is what the least one costs that waits: what
     /// a search with that limit on nodes states as it gives up.
-    fn taken<P: OneProblem>(&mut self, nodes: u64, least: u64)
+    fn nodes_taken<P: OneProblem>(&mut self, nodes: u64, least: u64)
         requires told { IsTold P.problem nodes least }
         requires below { IsBelowAll P.problem least };
 }
@@ -24,7 +24,7 @@ pub trait Watch {
 pub struct NoWatch;
 
 impl Watch for NoWatch {
-    fn taken<P: OneProblem>(&mut self, _nodes: u64, _least: u64) {}
+    fn nodes_taken<P: OneProblem>(&mut self, _nodes: u64, _least: u64) {}
 }
 
 /// Tells a watch how far a search has come, unless the tree has no root or memory ran out.
@@ -34,8 +34,8 @@ pub(crate) fn tell<P: OneProblem, W: Watch>(watch: &mut W, search: &Search<'_>)
     if search.last().is_none() && search.waiting().is_empty() {
         return;
     }
-    let nodes = search.taken();
+    let nodes = search.taken_nodes();
     if let Some(least) = search.lower_bound() {
-        watch.taken::<P>(nodes, least);
+        watch.nodes_taken::<P>(nodes, least);
     }
 }

@@ -9,7 +9,7 @@ use Rattle.mapf_grid.proofs.Members.{nowhere, here, there, here_or_there}
 use Rattle.mapf_grid.proofs.Ranks.{by_compare, transitive, irreflexive, asymmetric, before_le}
 use Rattle.mapf_tree.specs.Nodes.{Node, node_key}
 use Rattle.mapf_tree.specs.OpenList.{IsRising, IsPut, IsTaken}
-use Rattle.mapf_tree.specs.Buckets.{IsFirst, AllBefore, LacksKey, IsBehind, beyond, HaveOwnKeys, in_order, nodes_of, EachLacksKey, IsFoundAt, IsEndOf, IsLeastTo, ComesFirst}
+use Rattle.mapf_tree.specs.Buckets.{IsFirst, AllBefore, LacksKey, IsBehind, beyond, HaveDistinctKeys, in_order, nodes_of, EachLacksKey, IsFoundAt, IsEndOf, IsLeastTo, ComesFirst}
 use Rattle.mapf_tree.proofs.Rising.{first_before, rises_before, same_rising}
 use Rattle.mapf_tree.proofs.Queues.{keeps, leaves}
 use Rattle.mapf_tree.proofs.InOrder.{in_order_rises, in_order_same, least_first, put_between, put_over, own_middle, IsSplit, split, in_list, of_list}
@@ -155,7 +155,7 @@ around (x ∷ xs) (suc place) node l = let p = around xs place node less in reco
 regroup : (a b : List Node) (n : Node) (c d : List Node) → a ++ ((b ++ n ∷ c) ++ d) ≡ (a ++ b) ++ n ∷ (c ++ d)
 regroup a b n c d = ap (λ ns. a ++ ns) (append_assoc b (n ∷ c) d) ∙ sym (append_assoc a b (n ∷ (c ++ d)))
 
-module _ (queues : List (List Node)) (own : HaveOwnKeys (nodes_of queues)) where
+module _ (queues : List (List Node)) (own : HaveDistinctKeys (nodes_of queues)) where
   -- a node is in one of the queues
   queued : (n : Node) → Contains (in_order (nodes_of queues)) n → (k : ℕ) × (k < length queues) × Contains (slice_index_or queues k []) n
   queued n c = in_list queues n ((in_order_same (nodes_of queues) n).0 c)
@@ -177,9 +177,9 @@ module _ (queues : List (List Node)) (own : HaveOwnKeys (nodes_of queues)) where
 
   -- it is taken out of its queue
   pub least_taken : (number : ℕ) (n : Bor Node) (result : Option Node) (after : List Node) → IsLeastTo None queues (length queues) (Some (number, n)) → IsTaken (slice_index_or queues number []) result after
-      → IsTaken (in_order (nodes_of queues)) result (in_order (nodes_of (slice_set queues number after))) × HaveOwnKeys (nodes_of (slice_set queues number after))
+      → IsTaken (in_order (nodes_of queues)) result (in_order (nodes_of (slice_set queues number after))) × HaveDistinctKeys (nodes_of (slice_set queues number after))
   least_taken number n None after least take = absurd (nowhere (subst (λ ns. Contains ns n.now) take.0 (subst (λ ns. Contains ns n.now) (sym least.1.1) (here least.1.0 refl))))
-  least_taken number n (Some m) after least take = (ap in_order old ∙ least_first s.before (after ++ s.behind) m (subst HaveOwnKeys old own) first ∙ ap (λ ns. m ∷ in_order ns) (sym (s.sets after)), subst HaveOwnKeys (sym (s.sets after)) ((own_middle s.before (after ++ s.behind) m).0 (subst HaveOwnKeys old own)).1)
+  least_taken number n (Some m) after least take = (ap in_order old ∙ least_first s.before (after ++ s.behind) m (subst HaveDistinctKeys old own) first ∙ ap (λ ns. m ∷ in_order ns) (sym (s.sets after)), subst HaveDistinctKeys (sym (s.sets after)) ((own_middle s.before (after ++ s.behind) m).0 (subst HaveDistinctKeys old own)).1)
     where
       s : IsSplit queues number
       s = split queues number least.0
@@ -199,17 +199,17 @@ module _ (queues : List (List Node)) (own : HaveOwnKeys (nodes_of queues)) where
   -- what comes of a node that is put in
   pub record IsPutIn (node : Node) (new : List (List Node)) : Type 0 where
     pub is : IsPut (in_order (nodes_of queues)) node (in_order (nodes_of new))
-    pub own_then : HaveOwnKeys (nodes_of new)
+    pub own_then : HaveDistinctKeys (nodes_of new)
 
   -- one more between the others
   between : (node : Node) (new : List (List Node)) (xs ys : List Node) → nodes_of queues ≡ xs ++ ys → nodes_of new ≡ xs ++ node ∷ ys → EachLacksKey queues (node_key node) (length queues) → IsPutIn node new
   between node new xs ys is is' each = record {
     is = subst (λ ns. IsPut (in_order (nodes_of queues)) node (in_order ns)) (sym is') (subst (λ ns. IsPut (in_order ns) node (in_order (xs ++ node ∷ ys))) (sym is) (put_between xs ys node lacks));
-    own_then = subst HaveOwnKeys (sym is') ((own_middle xs ys node).1 (lacks, there_own));
+    own_then = subst HaveDistinctKeys (sym is') ((own_middle xs ys node).1 (lacks, there_own));
   }
     where
-      there_own : HaveOwnKeys (xs ++ ys)
-      there_own = subst HaveOwnKeys is own
+      there_own : HaveDistinctKeys (xs ++ ys)
+      there_own = subst HaveDistinctKeys is own
 
       lacks : LacksKey (xs ++ ys) (node_key node)
       lacks n c = let q = in_list queues n (subst (λ ns. Contains ns n) (sym is) c) in each q.0 q.1 n q.2
@@ -236,7 +236,7 @@ module _ (queues : List (List Node)) (own : HaveOwnKeys (nodes_of queues)) where
 
   -- the place of a node with its key
   pub replaced : (node : Node) (number place : ℕ) → IsFoundAt queues (node_key node) number place → IsPutIn node (slice_set queues number (slice_set (slice_index_or queues number []) place node))
-  replaced node number place found = record { is = subst (λ ns. IsPut (in_order (nodes_of queues)) node (in_order ns)) (sym new) (subst (λ ns. IsPut (in_order ns) node (in_order (xs ++ node ∷ ys))) (sym old) put.0); own_then = subst HaveOwnKeys (sym new) put.1 }
+  replaced node number place found = record { is = subst (λ ns. IsPut (in_order (nodes_of queues)) node (in_order ns)) (sym new) (subst (λ ns. IsPut (in_order ns) node (in_order (xs ++ node ∷ ys))) (sym old) put.0); own_then = subst HaveDistinctKeys (sym new) put.1 }
     where
       q : List Node
       q = slice_index_or queues number []
@@ -259,11 +259,11 @@ module _ (queues : List (List Node)) (own : HaveOwnKeys (nodes_of queues)) where
       new : nodes_of (slice_set queues number (slice_set q place node)) ≡ xs ++ node ∷ ys
       new = s.sets (slice_set q place node) ∙ ap (λ ns. s.before ++ (ns ++ s.behind)) p.sets ∙ regroup s.before p.left node p.right s.behind
 
-      put : IsPut (in_order (xs ++ slice_index_or q place node ∷ ys)) node (in_order (xs ++ node ∷ ys)) × HaveOwnKeys (xs ++ node ∷ ys)
-      put = put_over xs ys node (slice_index_or q place node) (found.1.1 node) (subst HaveOwnKeys old own)
+      put : IsPut (in_order (xs ++ slice_index_or q place node ∷ ys)) node (in_order (xs ++ node ∷ ys)) × HaveDistinctKeys (xs ++ node ∷ ys)
+      put = put_over xs ys node (slice_index_or q place node) (found.1.1 node) (subst HaveDistinctKeys old own)
 
 -- as the bucket does it: where it is empty
-pub emptiness : (queues qs : List (List Node)) (o : Option (ℕ × Bor Node)) (now : List Node) → HaveOwnKeys (nodes_of queues) → qs ≡ queues → in_order (nodes_of queues) ≡ now → IsLeastTo None qs (length qs) o → (r : Bool) → is_some o ≡ not r → IsTrue r ↔ (now ≡ [])
+pub emptiness : (queues qs : List (List Node)) (o : Option (ℕ × Bor Node)) (now : List Node) → HaveDistinctKeys (nodes_of queues) → qs ≡ queues → in_order (nodes_of queues) ≡ now → IsLeastTo None qs (length qs) o → (r : Bool) → is_some o ≡ not r → IsTrue r ↔ (now ≡ [])
 emptiness queues qs None now own is view least false e = let z : false ≡ true = e in cc
 emptiness queues qs None now own is view least true f = ((λ t. sym view ∙ none_left queues own None (subst (λ ls. IsLeastTo None ls (length ls) None) is least)), (λ e. refl))
 emptiness queues qs (Some (number, n)) now own is view least true e = let z : true ≡ false = e in cc
@@ -271,7 +271,7 @@ emptiness queues qs (Some (number, n)) now own is view least false f =
     let next = least_next queues own None number n (subst (λ ls. IsLeastTo None ls (length ls) (Some (number, n))) is least) in
     ((λ t. let z : false ≡ true = t in cc), (λ e. absurd (nowhere (subst (λ ns. Contains ns n.now) (sym next ∙ view ∙ e) (here (beyond (Some n) (in_order (nodes_of queues))) refl)))))
 
-module _ (queues qs : List (List Node)) (number : ℕ) (q after : List Node) (own : HaveOwnKeys (nodes_of queues)) (is : qs ≡ queues) (at : q ≡ slice_index_or queues number q) where
+module _ (queues qs : List (List Node)) (number : ℕ) (q after : List Node) (own : HaveDistinctKeys (nodes_of queues)) (is : qs ≡ queues) (at : q ≡ slice_index_or queues number q) where
   at_number : number < length qs → q ≡ slice_index_or queues number []
   at_number l = at ∙ get_or_default queues number q [] (subst (λ ls. number < length ls) is l)
 
@@ -281,7 +281,7 @@ module _ (queues qs : List (List Node)) (number : ℕ) (q after : List Node) (ow
 
   -- how it takes the first node
   pub taken_out : (n : Bor Node) (result : Option Node) → IsLeastTo None qs (length qs) (Some (number, n)) → IsTaken q result after
-      → IsTaken (in_order (nodes_of queues)) result (in_order (nodes_of (slice_set queues number after))) × HaveOwnKeys (nodes_of (slice_set queues number after))
+      → IsTaken (in_order (nodes_of queues)) result (in_order (nodes_of (slice_set queues number after))) × HaveDistinctKeys (nodes_of (slice_set queues number after))
   taken_out n result least take =
       least_taken queues own number n result after (subst (λ ls. IsLeastTo None ls (length ls) (Some (number, n))) is least) (subst (λ ns. IsTaken ns result after) (at_number least.0) take)
 
@@ -294,7 +294,7 @@ module _ (queues qs : List (List Node)) (number : ℕ) (q after : List Node) (ow
   -- how it goes to the end of a queue, if there is memory
   pub record IsPushed (node : Node) (result : Result (Unit {0}) Node) : Type 0 where
     pub ok : OnOk result (IsPut (in_order (nodes_of queues)) node (in_order (nodes_of (slice_set queues number after))))
-    pub own_after : HaveOwnKeys (nodes_of (slice_set queues number after))
+    pub own_after : HaveDistinctKeys (nodes_of (slice_set queues number after))
 
   pub pushed_in : (node : Node) (result : Result (Unit {0}) Node) → number < length qs → EachLacksKey qs (node_key node) (length qs) → OnOk result (after ≡ q ++ node ∷ []) → IfErr result (λ _. after ≡ q) → IsPushed node result
   pushed_in node (Ok u) l each ok err =
@@ -303,11 +303,11 @@ module _ (queues qs : List (List Node)) (number : ℕ) (q after : List Node) (ow
       record { ok = put.is; own_after = put.own_then }
   pushed_in node (Err back) l each ok err =
       let s = split queues number (subst (λ ls. number < length ls) is l) in
-      record { ok = tt; own_after = subst HaveOwnKeys (s.is ∙ sym (ap (λ ns. s.before ++ (ns ++ s.behind)) (err ∙ at_number l)) ∙ sym (s.sets after)) own }
+      record { ok = tt; own_after = subst HaveDistinctKeys (s.is ∙ sym (ap (λ ns. s.before ++ (ns ++ s.behind)) (err ∙ at_number l)) ∙ sym (s.sets after)) own }
 
 -- how it begins a queue, if there is memory
-pub begun_in : (queues qs new : List (List Node)) (q : List Node) (node : Node) (result : Bool) (own : HaveOwnKeys (nodes_of queues)) → qs ≡ queues → EachLacksKey qs (node_key node) (length qs) → q ≡ node ∷ [] → new ≡ (if result then queues ++ q ∷ [] else queues)
-    → HaveOwnKeys (nodes_of new) × (result ≡ true → IsPut (in_order (nodes_of queues)) node (in_order (nodes_of new)))
+pub begun_in : (queues qs new : List (List Node)) (q : List Node) (node : Node) (result : Bool) (own : HaveDistinctKeys (nodes_of queues)) → qs ≡ queues → EachLacksKey qs (node_key node) (length qs) → q ≡ node ∷ [] → new ≡ (if result then queues ++ q ∷ [] else queues)
+    → HaveDistinctKeys (nodes_of new) × (result ≡ true → IsPut (in_order (nodes_of queues)) node (in_order (nodes_of new)))
 begun_in queues qs new q node true own is each one e =
     let put = subst (λ ls. IsPutIn queues own node ls) (sym (e ∙ ap (λ ns. queues ++ ns ∷ []) one)) (begun queues own node (subst (λ ls. EachLacksKey ls (node_key node) (length ls)) is each)) in (put.own_then, (λ t. put.is))
-begun_in queues qs new q node false own is each one e = (subst (λ ls. HaveOwnKeys (nodes_of ls)) (sym e) own, (λ t. let z : false ≡ true = t in cc))
+begun_in queues qs new q node false own is each one e = (subst (λ ls. HaveDistinctKeys (nodes_of ls)) (sym e) own, (λ t. let z : false ≡ true = t in cc))

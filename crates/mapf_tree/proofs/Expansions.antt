@@ -6,7 +6,7 @@ use Rattle.mapf_plan.specs.Plan.{plan_cost, HasNoConflict, IsValid}
 use Rattle.mapf_plan.specs.declared.conflict.Conflict.{Conflict}
 use Rattle.mapf_tree.specs.declared.tree.key.Key.{Key}
 use Rattle.mapf_tree.specs.declared.tree.side.Side.TheVariants.{Left, Right}
-use Rattle.mapf_tree.specs.declared.search.turn.Turn.TheVariants as variant
+use Rattle.mapf_tree.specs.declared.search.expansion.Expansion.TheVariants as variant
 use Rattle.mapf_tree.specs.Tree.{key_rank, root_of, key, IsAnswer, PlannedNode, IsMember}
 use Rattle.mapf_tree.specs.Family.{IsRoot, IsBranching, IsChildOf}
 use Rattle.mapf_tree.specs.OpenList.{IsRising, IsAddedIfSome}
@@ -20,7 +20,7 @@ use Rattle.mapf_grid.proofs.Members.{nowhere, here}
 use Rattle.mapf_tree.proofs.SearchLaws.{reached_now, reached_then, next_waits, ends_at_first, ends_at_none, starts}
 use Rattle.mapf_tree.proofs.Limits.{least_is_below, is_cut, solved_before, empty_before, as_stated, as_given_up}
 use Rattle.mapf_tree.proofs.GoingOn.{takes_none, takes_more}
-use Rattle.mapf_tree.proofs.OpenNodes.{key-stands, none_stands, conflict_stands, solved_turn, branched_turn, root_node, node_adds, AddsSide}
+use Rattle.mapf_tree.proofs.OpenNodes.{key-stands, none_stands, conflict_stands, solved_expansion, branched_expansion, root_node, node_adds, AddsSide}
 
 module _ (p : Problem) (last : Option (List ℕ)) (old : List Node) (taken : IsTakenTo p last old) (none : NoneSolves p last) where
   -- the search over the nodes that wait
@@ -88,7 +88,7 @@ pub solved_case : (p : Problem) (old new : List Node) (first : Node) (k : Key) (
 solved_case p old new first k plan e rising all none rank is cost =
     let x = all first (subst (λ ns. Contains ns first) (sym e) (here new refl)) in
     let free = none_stands p first x.0 x.1 none in
-    (x.0, solved_turn p old new first x.0 e rising all x.1 free, free, rank ∙ key-stands p first x.0 x.1, is ∙ x.1.plan, cost ∙ ap plan_cost (sym is))
+    (x.0, solved_expansion p old new first x.0 e rising all x.1 free, free, rank ∙ key-stands p first x.0 x.1, is ∙ x.1.plan, cost ∙ ap plan_cost (sym is))
 
 -- a conflict that a test found
 pub conflict_there : (o q : Option Conflict) (b : Bool) → is_some o ≡ not b → o ≡ q → b ≡ false → (c : Conflict) × (q ≡ Some c)
@@ -115,7 +115,7 @@ pub branched_case : (p : Problem) (old rest mid new : List Node) (first : Node) 
 branched_case p old rest mid new first k l r e rising all c left right put put' rank =
     let x = all first (subst (λ ns. Contains ns first) (sym e) (here rest refl)) in
     let f = conflict_stands p first x.0 c.0 x.1 c.1 in
-    (x.0, branched_turn p old rest mid new first x.0 c.0 l r e rising all x.1 c.1 (left x.0 c.0 x.1 c.1) (right x.0 c.0 x.1 c.1) put put', (λ n. n c.0 f.member), rank ∙ key-stands p first x.0 x.1)
+    (x.0, branched_expansion p old rest mid new first x.0 c.0 l r e rising all x.1 c.1 (left x.0 c.0 x.1 c.1) (right x.0 c.0 x.1 c.1) put put', (λ n. n c.0 f.member), rank ∙ key-stands p first x.0 x.1)
 
 -- a search without an answer has no solution yet
 going : (p : Problem) (old : List Node) (last : Option (List ℕ)) (outcome : Result (Option Answer) NoMemory) → IsLawful p old last outcome → outcome ≡ Ok None → IsTakenTo p last old × NoneSolves p last

@@ -6,7 +6,7 @@ use Rattle.mapf_grid.proofs.Members.{nowhere, here, there, here_or_there}
 use Rattle.mapf_grid.proofs.Ranks.{by_compare, transitive}
 use Rattle.mapf_tree.specs.Nodes.{Node, node_key}
 use Rattle.mapf_tree.specs.OpenList.{IsRising, IsPut}
-use Rattle.mapf_tree.specs.Buckets.{LacksKey, HaveOwnKeys, with_node, in_order, nodes_of}
+use Rattle.mapf_tree.specs.Buckets.{LacksKey, HaveDistinctKeys, with_node, in_order, nodes_of}
 use Rattle.mapf_tree.proofs.Rising.{HaveSame, lesser_rank, greater_rank, rises_before, first_before, same_rising}
 use Rattle.std.specs.Cmp.Lexicographic.{slice_cmp}
 use Rattle.std.specs.Ordering.{is_lt}
@@ -50,7 +50,7 @@ in_order_same (k ∷ ns) n =
     )
 
 -- and rise, where no two have one key
-pub in_order_rises : (ns : List Node) → HaveOwnKeys ns → IsRising (in_order ns)
+pub in_order_rises : (ns : List Node) → HaveDistinctKeys ns → IsRising (in_order ns)
 in_order_rises [] own = tt
 in_order_rises (n ∷ ns) own = with_node_rises n (in_order ns) (in_order_rises ns own.1) (λ m c. own.0 m ((in_order_same ns m).0 c))
 
@@ -63,7 +63,7 @@ middle xs ys n m = (
 )
 
 -- nodes have keys of their own where one and the others do, and it has none of theirs
-pub own_middle : (xs ys : List Node) (n : Node) → HaveOwnKeys (xs ++ n ∷ ys) ↔ (LacksKey (xs ++ ys) (node_key n) × HaveOwnKeys (xs ++ ys))
+pub own_middle : (xs ys : List Node) (n : Node) → HaveDistinctKeys (xs ++ n ∷ ys) ↔ (LacksKey (xs ++ ys) (node_key n) × HaveDistinctKeys (xs ++ ys))
 own_middle [] ys n = ((λ own. own), (λ own. own))
 own_middle (x ∷ xs) ys n =
     let later = own_middle xs ys n in (
@@ -80,7 +80,7 @@ own_middle (x ∷ xs) ys n =
 
 module _ (xs ys : List Node) (n : Node) where
   -- the least node comes first
-  pub least_first : HaveOwnKeys (xs ++ n ∷ ys) → ((m : Node) → Contains (xs ++ n ∷ ys) m → ¬ Precedes (node_key m) (node_key n)) → in_order (xs ++ n ∷ ys) ≡ n ∷ in_order (xs ++ ys)
+  pub least_first : HaveDistinctKeys (xs ++ n ∷ ys) → ((m : Node) → Contains (xs ++ n ∷ ys) m → ¬ Precedes (node_key m) (node_key n)) → in_order (xs ++ n ∷ ys) ≡ n ∷ in_order (xs ++ ys)
   least_first own least =
       same_rising (in_order (xs ++ n ∷ ys)) (n ∷ in_order (xs ++ ys)) (in_order_rises (xs ++ n ∷ ys) own) (rises_before n (in_order (xs ++ ys)) before (in_order_rises (xs ++ ys) rest.1))
       (λ m. (
@@ -88,7 +88,7 @@ module _ (xs ys : List Node) (n : Node) where
         (λ c. (all m).1 ((middle xs ys n m).1 (⊎_elim (λ e. inl (sym e)) (λ i. inr ((others m).0 i)) (here_or_there (in_order (xs ++ ys)) c)))),
       ))
     where
-      rest : LacksKey (xs ++ ys) (node_key n) × HaveOwnKeys (xs ++ ys)
+      rest : LacksKey (xs ++ ys) (node_key n) × HaveDistinctKeys (xs ++ ys)
       rest = (own_middle xs ys n).0 own
 
       all : HaveSame (in_order (xs ++ n ∷ ys)) (xs ++ n ∷ ys)
@@ -112,16 +112,16 @@ module _ (xs ys : List Node) (n : Node) where
       )
 
   -- and one whose key another has takes that one's place
-  pub put_over : (o : Node) → node_key o ≡ node_key n → HaveOwnKeys (xs ++ o ∷ ys) → IsPut (in_order (xs ++ o ∷ ys)) n (in_order (xs ++ n ∷ ys)) × HaveOwnKeys (xs ++ n ∷ ys)
+  pub put_over : (o : Node) → node_key o ≡ node_key n → HaveDistinctKeys (xs ++ o ∷ ys) → IsPut (in_order (xs ++ o ∷ ys)) n (in_order (xs ++ n ∷ ys)) × HaveDistinctKeys (xs ++ n ∷ ys)
   put_over o e own = (put, own_new)
     where
-      rest : LacksKey (xs ++ ys) (node_key o) × HaveOwnKeys (xs ++ ys)
+      rest : LacksKey (xs ++ ys) (node_key o) × HaveDistinctKeys (xs ++ ys)
       rest = (own_middle xs ys o).0 own
 
       lacks : LacksKey (xs ++ ys) (node_key n)
       lacks m c f = rest.0 m c (f ∙ sym e)
 
-      own_new : HaveOwnKeys (xs ++ n ∷ ys)
+      own_new : HaveDistinctKeys (xs ++ n ∷ ys)
       own_new = (own_middle xs ys n).1 (lacks, rest.1)
 
       put : IsPut (in_order (xs ++ o ∷ ys)) n (in_order (xs ++ n ∷ ys))

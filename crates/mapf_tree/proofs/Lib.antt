@@ -1,39 +1,39 @@
-pub mod ConstraintSets
-pub mod Distinct
-pub mod Universe
-pub mod Followers
-pub mod Branch
+mod ConstraintSets
+mod Distinct
+mod Universe
+mod Followers
+mod Branch
 pub mod Plans
-pub mod Measure
-pub mod LeaderSides
+mod Measure
+mod LeaderSides
 pub mod Unique
-pub mod OneAgent
+mod OneAgent
 pub mod Descent
-pub mod Finite
-pub mod Solutions
-pub mod SearchLaws
-pub mod TakenNodes
+mod Finite
+mod Solutions
+mod SearchLaws
+mod TakenNodes
 pub mod Limits
-pub mod Keyed
-pub mod NameTurns
-pub mod NameOrder
-pub mod Examples
-pub mod Tables
-pub mod StartTables
+mod Keyed
+mod NameTurns
+mod NameOrder
+mod Examples
+mod Tables
+mod StartTables
 pub mod RootNodes
-pub mod Chains
-pub mod LeastCosts
-pub mod SideNodes
-pub mod Queries
-pub mod SameSets
-pub mod PathCaches
-pub mod Rising
-pub mod Queues
-pub mod InOrder
-pub mod BucketQueues
-pub mod Buckets
+mod Chains
+mod LeastCosts
+mod SideNodes
+mod Queries
+mod SameSets
+mod PathCaches
+mod Rising
+mod Queues
+mod InOrder
+mod BucketQueues
+mod Buckets
 pub mod OpenNodes
 pub mod Expansions
 pub mod Remaining
 pub mod GoingOn
-pub mod LowerBounds
+mod LowerBounds

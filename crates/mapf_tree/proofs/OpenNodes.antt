@@ -119,8 +119,8 @@ pub none_stands : (p : Problem) (n : Node) (m : PlannedNode) → StandsFor p n m
 none_stands p n m h e = subst (λ plan. HasNoConflict p.rule plan) h.plan (let k = subst (λ o. IsConflictOf p.rule n.plan o) e h.conflict in k)
 
 -- a node is taken whose plan has no conflict
-pub solved_turn : (p : Problem) (old new : List Node) (first : Node) (x : PlannedNode) → old ≡ first ∷ new → IsRising old → AllStand p old → StandsFor p first x → HasNoConflict p.rule x.1 → ExpandsLeast p old new x
-solved_turn p old new first x e rising all is none =
+pub solved_expansion : (p : Problem) (old new : List Node) (first : Node) (x : PlannedNode) → old ≡ first ∷ new → IsRising old → AllStand p old → StandsFor p first x → HasNoConflict p.rule x.1 → ExpandsLeast p old new x
+solved_expansion p old new first x e rising all is none =
     record { least = subst (λ ns. IsLeast key (HasNodeFor p ns) x) (sym e) (first_is_least p first new x r is); stand = tail_stands p first new (subst (AllStand p) e all); next = next }
   where
     r : IsRising (first ∷ new)
@@ -133,8 +133,8 @@ solved_turn p old new first x e rising all is none =
     )
 
 -- a node is taken, and its sides are put in
-pub branched_turn : (p : Problem) (old rest mid new : List Node) (first : Node) (x : PlannedNode) (c : Conflict) (l r : Option Node) → old ≡ first ∷ rest → IsRising old → AllStand p old → StandsFor p first x → first.conflict ≡ Some c → IsSide p x c Left l → IsSide p x c Right r → IsAddedIfSome rest l mid → IsAddedIfSome mid r new → ExpandsLeast p old new x
-branched_turn p old rest mid new first x c l r e rising all is conflict left right put put' =
+pub branched_expansion : (p : Problem) (old rest mid new : List Node) (first : Node) (x : PlannedNode) (c : Conflict) (l r : Option Node) → old ≡ first ∷ rest → IsRising old → AllStand p old → StandsFor p first x → first.conflict ≡ Some c → IsSide p x c Left l → IsSide p x c Right r → IsAddedIfSome rest l mid → IsAddedIfSome mid r new → ExpandsLeast p old new x
+branched_expansion p old rest mid new first x c l r e rising all is conflict left right put put' =
     record { least = subst (λ ns. IsLeast key (HasNodeFor p ns) x) (sym e) (first_is_least p first rest x up is); stand = two.stand; next = next }
   where
     up : IsRising (first ∷ rest)

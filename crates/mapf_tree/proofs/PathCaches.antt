@@ -158,7 +158,7 @@ known_kept problem old new sets keeps are number s at = kept s.own (are number s
   where
     kept : (own : CachedPath) → IsCachedPath problem old s.agent s.constraints own → IsCachedPath problem new s.agent s.constraints own
     kept (Path n) known = (known.0, keeps n known.0 known.1, known.2)
-    kept (NoneWithin limit) none = none
+    kept (NoneWithin bound) none = none
 
 -- and with one set more
 pub known_more : (problem : Problem) (paths : List (List ℕ)) (old new : List ConstraintSet) (s : ConstraintSet) → new ≡ old ++ s ∷ [] → AreKnown problem paths old → IsCachedPath problem paths s.agent s.constraints s.own →
@@ -220,53 +220,53 @@ pub sets_at_first : (problem : Problem) (sets : List ConstraintSet) (numbers : L
 sets_at_first problem sets numbers are some = ⊎_elim (λ e. absurd (omega (arith, some, ap length e))) (λ h. h) are
 
 -- what the others leave of the bound is at most the bound
-pub limit_within : (problem : Problem) (node : Node) (agent limit : ℕ) → agent < length node.plan → Leaves problem node.plan agent limit → limit ≤ problem.bound
-limit_within problem node agent limit inside leaves = omega (arith, leaves, get_or-le-sum_by cost node.plan agent [] inside)
+pub limit_within : (problem : Problem) (node : Node) (agent bound : ℕ) → agent < length node.plan → Leaves problem node.plan agent bound → bound ≤ problem.bound
+limit_within problem node agent bound inside leaves = omega (arith, leaves, get_or-le-sum_by cost node.plan agent [] inside)
 
--- a path that is dearer than a limit tells that there is none within it
-none_dearer : (problem : Problem) (limit agent : ℕ) (cs : List Constraint) (path : List ℕ) → limit ≤ problem.bound → limit < cost path → IsOwnPathOf problem agent cs path → IsOwnWithin problem limit agent cs None
-none_dearer problem limit agent cs path small dear own q allowed =
+-- a path that is dearer than a bound tells that there is none within it
+none_dearer : (problem : Problem) (bound agent : ℕ) (cs : List Constraint) (path : List ℕ) → bound ≤ problem.bound → bound < cost path → IsOwnPathOf problem agent cs path → IsOwnWithin problem bound agent cs None
+none_dearer problem bound agent cs path small dear own q allowed =
     let more : IsAllowedFor problem agent cs q = record { path = allowed.path; within = omega (arith, allowed.within, small); obeys = allowed.obeys } in
     absurd (omega (arith, own_path_costs _ _ _ _ cs path q own more, allowed.within, dear))
 
--- where there is no path within a limit there is none within a lower one
-none_lower : (problem : Problem) (limit least agent : ℕ) (cs : List Constraint) → limit ≤ least → IsOwnWithin problem least agent cs None → IsOwnWithin problem limit agent cs None
-none_lower problem limit least agent cs small none q allowed = none q (record { path = allowed.path; within = omega (arith, allowed.within, small); obeys = allowed.obeys })
+-- where there is no path within a bound there is none within a lower one
+none_lower : (problem : Problem) (bound least agent : ℕ) (cs : List Constraint) → bound ≤ least → IsOwnWithin problem least agent cs None → IsOwnWithin problem bound agent cs None
+none_lower problem bound least agent cs small none q allowed = none q (record { path = allowed.path; within = omega (arith, allowed.within, small); obeys = allowed.obeys })
 
--- the own path of a known set serves a lower limit that it keeps, and above it there is none
-pub own_in_path : (cache : PathCache) (set number limit : ℕ) (path : List ℕ) (s : ConstraintSet) → AreKnown cache.problem cache.paths cache.sets → slice_get cache.sets set ≡ Some s → s.own ≡ Path number → slice_get cache.paths number ≡ Some path →
-    limit ≤ cache.problem.bound → cost path ≤ limit → IsOwnIn cache set limit (Some number)
-own_in_path cache set number limit path s is at own there small within agent cs has =
+-- the own path of a known set serves a lower bound that it keeps, and above it there is none
+pub own_in_path : (cache : PathCache) (set number bound : ℕ) (path : List ℕ) (s : ConstraintSet) → AreKnown cache.problem cache.paths cache.sets → slice_get cache.sets set ≡ Some s → s.own ≡ Path number → slice_get cache.paths number ≡ Some path →
+    bound ≤ cache.problem.bound → cost path ≤ bound → IsOwnIn cache set bound (Some number)
+own_in_path cache set number bound path s is at own there small within agent cs has =
     let known = own_path_told cache set number agent cs s is at own has in
     let one : known.0 ≡ path = one_value known.0 path (sym known.1 ∙ there) in (
       slice_get_within cache.paths number path there,
-      subst (IsOwnWithin cache.problem limit agent cs) (ap Some (one ∙ sym (get_or_from_slice_get cache.paths number path [] there)))
-          (own_by_limit _ cs limit cache.problem.bound _ _ known.0 small (subst (λ p. cost p ≤ limit) (sym one) within) known.2),
+      subst (IsOwnWithin cache.problem bound agent cs) (ap Some (one ∙ sym (get_or_from_slice_get cache.paths number path [] there)))
+          (own_by_limit _ cs bound cache.problem.bound _ _ known.0 small (subst (λ p. cost p ≤ bound) (sym one) within) known.2),
     )
 
-pub own_in_dearer : (cache : PathCache) (set number limit : ℕ) (path : List ℕ) (s : ConstraintSet) → AreKnown cache.problem cache.paths cache.sets → slice_get cache.sets set ≡ Some s → s.own ≡ Path number → slice_get cache.paths number ≡ Some path →
-    limit ≤ cache.problem.bound → limit < cost path → IsOwnIn cache set limit None
-own_in_dearer cache set number limit path s is at own there small dear agent cs has =
+pub own_in_dearer : (cache : PathCache) (set number bound : ℕ) (path : List ℕ) (s : ConstraintSet) → AreKnown cache.problem cache.paths cache.sets → slice_get cache.sets set ≡ Some s → s.own ≡ Path number → slice_get cache.paths number ≡ Some path →
+    bound ≤ cache.problem.bound → bound < cost path → IsOwnIn cache set bound None
+own_in_dearer cache set number bound path s is at own there small dear agent cs has =
     let known = own_path_told cache set number agent cs s is at own has in
     let one : known.0 ≡ path = one_value known.0 path (sym known.1 ∙ there) in
-    (tt, λ q allowed. none_dearer cache.problem limit agent cs known.0 small (subst (λ p. limit < cost p) (sym one) dear) known.2 q allowed)
+    (tt, λ q allowed. none_dearer cache.problem bound agent cs known.0 small (subst (λ p. bound < cost p) (sym one) dear) known.2 q allowed)
 
--- where there was none within a limit there is none within a lower one
-pub own_in_none : (cache : PathCache) (set limit least : ℕ) (s : ConstraintSet) → AreKnown cache.problem cache.paths cache.sets → slice_get cache.sets set ≡ Some s → s.own ≡ NoneWithin least → limit ≤ least → IsOwnIn cache set limit None
-own_in_none cache set limit least s is at own small agent cs has =
+-- where there was none within a bound there is none within a lower one
+pub own_in_none : (cache : PathCache) (set bound least : ℕ) (s : ConstraintSet) → AreKnown cache.problem cache.paths cache.sets → slice_get cache.sets set ≡ Some s → s.own ≡ NoneWithin least → bound ≤ least → IsOwnIn cache set bound None
+own_in_none cache set bound least s is at own small agent cs has =
     let known = subst (IsCachedPath cache.problem cache.paths s.agent s.constraints) own (is set s at) in
     let same = same_set cache.sets set agent cs s at has in
-    (tt, none_lower cache.problem limit least agent cs small (subst₂ (λ i xs. IsOwnWithin cache.problem least i xs None) same.0 same.1 known))
+    (tt, none_lower cache.problem bound least agent cs small (subst₂ (λ i xs. IsOwnWithin cache.problem least i xs None) same.0 same.1 known))
 
 -- what is known of the agent's set at a node and its constraint is what the side's query asks for
-pub found_at : (cache : PathCache) (node : Node) (side : Side) (sets : List ℕ) (c : Conflict) (agent limit extended : ℕ) (constraint : Constraint) (found : Option ℕ) → IsBranching cache.problem node → AreSetsOf cache.sets sets node.constraints →
+pub found_at : (cache : PathCache) (node : Node) (side : Side) (sets : List ℕ) (c : Conflict) (agent bound extended : ℕ) (constraint : Constraint) (found : Option ℕ) → IsBranching cache.problem node → AreSetsOf cache.sets sets node.constraints →
     node.conflict ≡ Some c → agent ≡ agent_on c side → constraint ≡ constraint_on c side → agent < length node.constraints → IsExtended cache.sets (slice_index sets agent) constraint extended →
-    Leaves cache.problem node.plan agent limit → IsOwnIn cache extended limit found → IsFoundAt cache node side found
-found_at cache node side sets c agent limit extended constraint found branching are is on forbids inside has leaves own =
+    Leaves cache.problem node.plan agent bound → IsOwnIn cache extended bound found → IsFoundAt cache node side found
+found_at cache node side sets c agent bound extended constraint found branching are is on forbids inside has leaves own =
     let set = are.same agent inside in
     let more = has agent set.0 set.1 in
     let path = own agent more.0 more.1 in (
-      record { problem = cache.problem; side = side; agent = agent; constraint = constraint; constraints = more.0; limit = limit },
+      record { problem = cache.problem; side = side; agent = agent; constraint = constraint; constraints = more.0; bound = bound },
       refl,
       refl,
       record {
@@ -292,7 +292,7 @@ small_at cache node side c agent number path branching found at is on =
     let inside : q.agent < length node.plan = query_inside node q (subst (λ p. IsBranching p node) (sym found.1) branching) found.3 in
     let own : IsFoundBy q (Some path) = subst (λ p. IsFoundBy q (Some p)) (get_or_from_slice_get cache.paths number path [] at) found.5 in (
       subst (λ a. a < length node.plan) (sym same) inside,
-      subst₂ (λ a n. plan_cost (set node.plan a path) ≤ n) (sym same) (ap (λ (p : Problem). p.bound) found.1) (within_bound q.problem node.plan q.agent q.limit q.constraints path inside found.3.leaves own),
+      subst₂ (λ a n. plan_cost (set node.plan a path) ≤ n) (sym same) (ap (λ (p : Problem). p.bound) found.1) (within_bound q.problem node.plan q.agent q.bound q.constraints path inside found.3.leaves own),
     )
 
 -- and the node that has it is the child

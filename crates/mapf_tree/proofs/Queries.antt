@@ -9,13 +9,13 @@ use Rattle.mapf_tree.specs.SideQuery.{SideQuery, IsQueryOf, IsFoundBy}
 use Rattle.mapf_tree.proofs.SideNodes.{IsSought, no_side, side_stands, own_of_side}
 
 -- what is searched for a query, by the conflict's side
-sought : (node : Node) (c : Conflict) (q : SideQuery) → IsQueryOf node q → node.conflict ≡ Some c → IsSought q.problem node (agent_on c q.side) q.limit (constraint_on c q.side) q.constraints
-sought node c q h is = subst₂ (λ i x. IsSought q.problem node i q.limit x q.constraints) (h.agent c is) (h.constraint c is) (record { after = h.constraints; leaves = h.leaves })
+sought : (node : Node) (c : Conflict) (q : SideQuery) → IsQueryOf node q → node.conflict ≡ Some c → IsSought q.problem node (agent_on c q.side) q.bound (constraint_on c q.side) q.constraints
+sought node c q h is = subst₂ (λ i x. IsSought q.problem node i q.bound x q.constraints) (h.agent c is) (h.constraint c is) (record { after = h.constraints; leaves = h.leaves })
 
 -- without an own path there is no child
 pub no_child : (node : Node) (q : SideQuery) → IsQueryOf node q → IsFoundBy q None → IsChildOf q.problem node q.side None
 no_child node q h none m c shows is =
-    no_side q.problem node m c q.side shows is q.limit q.constraints (sought node c q h is) (subst (λ i. IsOwnWithin q.problem q.limit i q.constraints None) (h.agent c is) none)
+    no_side q.problem node m c q.side shows is q.bound q.constraints (sought node c q h is) (subst (λ i. IsOwnWithin q.problem q.bound i q.constraints None) (h.agent c is) none)
 
 -- with one the node that has it is the child
 pub is_child : (node new : Node) (q : SideQuery) (change : Changed) → IsQueryOf node q → IsFoundBy q (Some change.path) → change.agent ≡ q.agent → change.constraint ≡ q.constraint →
@@ -25,8 +25,8 @@ pub is_child : (node new : Node) (q : SideQuery) (change : Changed) → IsQueryO
 is_child node new q change h own a k name changes constraints plan rule conflict m c shows is =
     let agent : change.agent ≡ agent_on c q.side = a ∙ h.agent c is in
     let forbidden : change.constraint ≡ constraint_on c q.side = k ∙ h.constraint c is in
-    side_stands q.problem node m c q.side shows is q.limit q.constraints (sought node c q h is) change.path
-    (subst (λ i. IsOwnWithin q.problem q.limit i q.constraints (Some change.path)) (h.agent c is) own) new name
+    side_stands q.problem node m c q.side shows is q.bound q.constraints (sought node c q h is) change.path
+    (subst (λ i. IsOwnWithin q.problem q.bound i q.constraints (Some change.path)) (h.agent c is) own) new name
     (subst₂ (λ i x. new.changes ≡ node.changes ++ record { agent = i; constraint = x; path = change.path } ∷ []) agent forbidden changes)
     (subst₂ (λ i x. new.constraints ≡ set node.constraints i (x ∷ get_or node.constraints i [])) agent forbidden constraints) (subst (λ i. new.plan ≡ set node.plan i change.path) agent plan) rule
     (subst (λ i. IsConflictOf node.rule (set node.plan i change.path) new.conflict) agent conflict)
@@ -39,5 +39,5 @@ found_of_child node q child branching h is = told (node.conflict) refl branching
     told : (x : Option Conflict) → node.conflict ≡ x → IsSome x → IsFoundBy q (option_map (λ n. path_of n.plan q.agent) child)
     told None e some = absurd (let m : ◌≡◌ {A = ℕ} 0 1 = cc in omega (arith, m))
     told (Some c) e some =
-        subst (λ i. IsOwnWithin q.problem q.limit i q.constraints (option_map (λ n. path_of n.plan i) child)) (sym (h.agent c e))
-        (own_of_side q.problem node branching.of c q.side branching.stands e q.limit q.constraints (sought node c q h e) child (is branching.of c branching.stands e))
+        subst (λ i. IsOwnWithin q.problem q.bound i q.constraints (option_map (λ n. path_of n.plan i) child)) (sym (h.agent c e))
+        (own_of_side q.problem node branching.of c q.side branching.stands e q.bound q.constraints (sought node c q h e) child (is branching.of c branching.stands e))

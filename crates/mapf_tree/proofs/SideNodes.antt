@@ -8,7 +8,7 @@ use Rattle.mapf_plan.specs.Path.{cost}
 use Rattle.mapf_plan.specs.Plan.{IsFirstConflict, path_of, plan_cost}
 use Rattle.mapf_low.specs.declared.constraint.Constraint.{Constraint}
 use Rattle.mapf_low.specs.OwnPath.{IsOwnPath}
-use Rattle.mapf_low.proofs.Limits.{own_by_bound}
+use Rattle.mapf_low.proofs.HigherBounds.{own_by_bound}
 use Rattle.mapf_low.proofs.OwnPaths.{own_path}
 use Rattle.mapf_low.proofs.Sets.{own_set, none_set}
 use Rattle.mapf_tree.specs.declared.tree.side.Side.{Side}
@@ -24,30 +24,30 @@ use Rattle.mapf_tree.proofs.ConstraintSets.{IsWith, with_front, IsWith-cons}
 use Rattle.mapf_tree.proofs.Plans.{OwnAt, same_paths}
 
 -- what is searched: a path for agent a under one constraint k more than it had at the node, within what the others leave
-pub record IsSought (p : Problem) (node : Node) (a limit : ℕ) (k : Constraint) (more : List Constraint) : Type 0 where
+pub record IsSought (p : Problem) (node : Node) (a bound : ℕ) (k : Constraint) (more : List Constraint) : Type 0 where
   pub after : IsWith k (get_or node.constraints a []) more
-  pub leaves : Leaves p node.plan a limit
+  pub leaves : Leaves p node.plan a bound
 
 -- an own path is that of the set of constraints
-IsOwn-set : (p : Problem) (limit i : ℕ) (xs ys : List Constraint) (found : Option (List ℕ)) → IsSameSet xs ys → IsOwnWithin p limit i xs found → IsOwnWithin p limit i ys found
-IsOwn-set p limit i xs ys None same none = none_set _ _ _ _ xs ys same none
-IsOwn-set p limit i xs ys (Some path) same own = own_set _ _ _ _ xs ys path same own
+IsOwn-set : (p : Problem) (bound i : ℕ) (xs ys : List Constraint) (found : Option (List ℕ)) → IsSameSet xs ys → IsOwnWithin p bound i xs found → IsOwnWithin p bound i ys found
+IsOwn-set p bound i xs ys None same none = none_set _ _ _ _ xs ys same none
+IsOwn-set p bound i xs ys (Some path) same own = own_set _ _ _ _ xs ys path same own
 
--- the own path by a bound is that by every lower limit that it keeps
-pub own_by_limit : (g : Grid) (cs : List Constraint) (limit bound start goal : ℕ) (q : List ℕ) → limit ≤ bound → cost q ≤ limit → IsOwnPath g start goal bound cs q → IsOwnPath g start goal limit cs q
-own_by_limit g cs limit bound start goal q l within own = record {
+-- the own path by a bound is that by every lower bound that it keeps
+pub own_by_limit : (g : Grid) (cs : List Constraint) (lower bound start goal : ℕ) (q : List ℕ) → lower ≤ bound → cost q ≤ lower → IsOwnPath g start goal bound cs q → IsOwnPath g start goal lower cs q
+own_by_limit g cs lower bound start goal q l within own = record {
   member = record { path = own.member.path; within = within; obeys = own.member.obeys };
   least = λ y a. own.least y (record { path = a.path; within = omega (arith, l, a.within); obeys = a.obeys });
 }
 
 -- no plan of a node has a dearer path than the other agents leave of the bound
 pub none_is_dearer : NoneIsDearer
-none_is_dearer p pair plan i limit has leaves = omega (arith, leaves, has.within)
+none_is_dearer p pair plan i bound has leaves = omega (arith, leaves, has.within)
 
 -- with a path within what the others leave, the plan is within the bound
-pub within_bound : (p : Problem) (plan : List (List ℕ)) (a limit : ℕ) (more : List Constraint) (path : List ℕ) → a < length plan → Leaves p plan a limit → IsOwnWithin p limit a more (Some path) →
+pub within_bound : (p : Problem) (plan : List (List ℕ)) (a bound : ℕ) (more : List Constraint) (path : List ℕ) → a < length plan → Leaves p plan a bound → IsOwnWithin p bound a more (Some path) →
     plan_cost (set plan a path) ≤ p.bound
-within_bound p plan a limit more path inside leaves own = omega (arith, sum_by-set cost plan a path [] inside, leaves, own.member.within)
+within_bound p plan a bound more path inside leaves own = omega (arith, sum_by-set cost plan a path [] inside, leaves, own.member.within)
 
 module _ (p : Problem) (node : Node) (m : PlannedNode) (c : Conflict) (s : Side) (shows : StandsFor p node m) (is : node.conflict ≡ Some c) where
   -- the node branches on its plan's first conflict
@@ -83,16 +83,16 @@ module _ (p : Problem) (node : Node) (m : PlannedNode) (c : Conflict) (s : Side)
       (λ ne. subst₂ (λ cs q. IsOwnPathOf p i cs q) (sym (get_or-set_other m.0.constraints (agent_on c s) i _ [] (λ e. ne (sym e))))
       (ap (λ l. path_of l i) (sym shows.plan)) (shows.member.plan.own i h))
 
-  module _ (limit : ℕ) (more : List Constraint) (sought : IsSought p node (agent_on c s) limit (constraint_on c s) more) where
+  module _ (bound : ℕ) (more : List Constraint) (sought : IsSought p node (agent_on c s) bound (constraint_on c s) more) where
     -- what the others leave is at most the bound
-    limit_le : limit ≤ p.bound
+    limit_le : bound ≤ p.bound
     limit_le = omega (arith, sought.leaves, get_or-le-sum_by cost node.plan (agent_on c s) [] in_plan)
 
     -- the plan with the agent's new path, and what it costs
     abbrev plan_with : List ℕ → List (List ℕ)
     plan_with path = set node.plan (agent_on c s) path
 
-    costs_with : (path : List ℕ) → plan_cost (plan_with path) + limit ≡ p.bound + cost path
+    costs_with : (path : List ℕ) → plan_cost (plan_with path) + bound ≡ p.bound + cost path
     costs_with path =
         let changed : plan_cost (plan_with path) + cost (path_of node.plan (agent_on c s)) ≡ plan_cost node.plan + cost path = sum_by-set cost node.plan (agent_on c s) path [] in_plan in
         omega (arith, changed, sought.leaves)
@@ -102,12 +102,12 @@ module _ (p : Problem) (node : Node) (m : PlannedNode) (c : Conflict) (s : Side)
     agents_with path = length-set node.plan (agent_on c s) path ∙ ap length shows.plan ∙ shows.member.plan.agents
 
     -- the set that the agent has on this side, searched, gives the own path there
-    found_there : (found : Option (List ℕ)) → IsOwnWithin p limit (agent_on c s) more found → IsOwnWithin p limit (agent_on c s) (constraints_of there (agent_on c s)) found
-    found_there found own = IsOwn-set p limit (agent_on c s) more (constraints_of there (agent_on c s)) found (set_there more sought.after) own
+    found_there : (found : Option (List ℕ)) → IsOwnWithin p bound (agent_on c s) more found → IsOwnWithin p bound (agent_on c s) (constraints_of there (agent_on c s)) found
+    found_there found own = IsOwn-set p bound (agent_on c s) more (constraints_of there (agent_on c s)) found (set_there more sought.after) own
 
     -- on this side the other agents have the paths that they had, so the agent's path is its own within what they leave
-    own_within_in : (plan : List (List ℕ)) → HasPlan p there plan → IsOwnWithin p limit (agent_on c s) (constraints_of there (agent_on c s)) (Some (path_of plan (agent_on c s)))
-    own_within_in plan has = own_by_limit _ _ limit p.bound _ _ path limit_le within own
+    own_within_in : (plan : List (List ℕ)) → HasPlan p there plan → IsOwnWithin p bound (agent_on c s) (constraints_of there (agent_on c s)) (Some (path_of plan (agent_on c s)))
+    own_within_in plan has = own_by_limit _ _ bound p.bound _ _ path limit_le within own
       where
         path : List ℕ
         path = path_of plan (agent_on c s)
@@ -118,23 +118,23 @@ module _ (p : Problem) (node : Node) (m : PlannedNode) (c : Conflict) (s : Side)
         same : plan ≡ plan_with path
         same = same_paths p there plan (plan_with path) has.agents (agents_with path) has.own (own_there path own)
 
-        within : cost path ≤ limit
+        within : cost path ≤ bound
         within = omega (arith, costs_with path, ap plan_cost same, has.within)
 
     -- no path for the agent within what the others leave of the bound: the side isn't in the tree
-    pub no_side : IsOwnWithin p limit (agent_on c s) more None → IsSide p m c s None
+    pub no_side : IsOwnWithin p bound (agent_on c s) more None → IsSide p m c s None
     no_side none plan has = found_there None none (path_of plan (agent_on c s)) (own_within_in plan has).member
 
     -- with one the plan has each agent's own path on this side, and costs at most the bound
-    has_side : (path : List ℕ) → IsOwnWithin p limit (agent_on c s) more (Some path) → HasPlan p there (plan_with path)
+    has_side : (path : List ℕ) → IsOwnWithin p bound (agent_on c s) more (Some path) → HasPlan p there (plan_with path)
     has_side path own = record {
       agents = agents_with path;
-      own = own_there path (own_by_bound _ _ limit p.bound _ _ path limit_le (found_there (Some path) own));
+      own = own_there path (own_by_bound _ _ bound p.bound _ _ path limit_le (found_there (Some path) own));
       within = omega (arith, costs_with path, own.member.within);
     }
 
     -- so the new node stands for the side
-    pub side_stands : (path : List ℕ) → IsOwnWithin p limit (agent_on c s) more (Some path) → (new : Node) → new.name ≡ node.name ++ s ∷ [] →
+    pub side_stands : (path : List ℕ) → IsOwnWithin p bound (agent_on c s) more (Some path) → (new : Node) → new.name ≡ node.name ++ s ∷ [] →
         new.changes ≡ node.changes ++ record { agent = agent_on c s; constraint = constraint_on c s; path = path } ∷ [] →
         new.constraints ≡ set node.constraints (agent_on c s) (constraint_on c s ∷ get_or node.constraints (agent_on c s) []) → new.plan ≡ plan_with path → new.rule ≡ node.rule →
         IsConflictOf node.rule (plan_with path) new.conflict → IsSide p m c s (Some new)
@@ -170,11 +170,11 @@ module _ (p : Problem) (node : Node) (m : PlannedNode) (c : Conflict) (s : Side)
             (λ ne. subst (IsSameSet (get_or node.constraints i [])) (sym (get_or-set_other m.0.constraints (agent_on c s) i _ [] (λ e. ne (sym e)))) (shows.sets i h))
 
     -- the other way round: where a side is in the tree, it has its agent's own path, and where it isn't, there is none
-    pub own_of_side : (found : Option Node) → IsSide p m c s found → IsOwnWithin p limit (agent_on c s) more (option_map (λ n. path_of n.plan (agent_on c s)) found)
+    pub own_of_side : (found : Option Node) → IsSide p m c s found → IsOwnWithin p bound (agent_on c s) more (option_map (λ n. path_of n.plan (agent_on c s)) found)
     own_of_side (Some new) has =
-        subst (λ l. IsOwnWithin p limit (agent_on c s) more (Some (path_of l (agent_on c s)))) (sym has.1.plan)
-        (IsOwn-set p limit (agent_on c s) (constraints_of there (agent_on c s)) more (Some (path_of has.0 (agent_on c s)))
+        subst (λ l. IsOwnWithin p bound (agent_on c s) more (Some (path_of l (agent_on c s)))) (sym has.1.plan)
+        (IsOwn-set p bound (agent_on c s) (constraints_of there (agent_on c s)) more (Some (path_of has.0 (agent_on c s)))
         (λ x. let same = set_there more sought.after x in (same.1, same.0)) (own_within_in has.0 has.1.member.plan))
     own_of_side None none = λ path allowed.
         ⊎_elim (λ w. none (plan_with w.0) (has_side w.0 w.1)) (λ n. n path allowed)
-        (own_path p.inst.grid (get_or p.inst.starts (agent_on c s) 0) (get_or p.inst.goals (agent_on c s) 0) limit more)
+        (own_path p.inst.grid (get_or p.inst.starts (agent_on c s) 0) (get_or p.inst.goals (agent_on c s) 0) bound more)

@@ -32,5 +32,5 @@ IsAnswerOf problem = IsAnswerUpTo problem.nodes problem
 -- nodes, a cost that each such plan has at least
 abbrev pub IsBestAnswer : Problem → Answer → Type 0
 IsBestAnswer problem (answer.Plan plan cost) = IsOptimum problem.rule problem.inst problem.bound plan × (cost ≡ plan_cost plan)
-IsBestAnswer problem (answer.None limit) = (limit ≡ problem.bound) × ((plan : List (List ℕ)) → IsValid problem.rule problem.inst plan → plan_cost plan ≤ problem.bound → ⊥)
+IsBestAnswer problem (answer.None bound) = (bound ≡ problem.bound) × ((plan : List (List ℕ)) → IsValid problem.rule problem.inst plan → plan_cost plan ≤ problem.bound → ⊥)
 IsBestAnswer problem (answer.GaveUp nodes least) = (problem.nodes ≡ Some nodes) × ((plan : List (List ℕ)) → IsValid problem.rule problem.inst plan → least ≤ plan_cost plan)

@@ -44,9 +44,9 @@ beyond None nodes = nodes
 beyond (Some last) nodes = filter (λ n. is_lt (slice_cmp nat_cmp (node_key last.now) (node_key n))) nodes
 
 -- no two nodes have one key
-abbrev pub HaveOwnKeys : List Node → Type 0
-HaveOwnKeys [] = Unit {0}
-HaveOwnKeys (n ∷ ns) = LacksKey ns (node_key n) × HaveOwnKeys ns
+abbrev pub HaveDistinctKeys : List Node → Type 0
+HaveDistinctKeys [] = Unit {0}
+HaveDistinctKeys (n ∷ ns) = LacksKey ns (node_key n) × HaveDistinctKeys ns
 
 -- a node in its place among others
 abbrev pub with_node : Node → List Node → List Node

@@ -32,13 +32,13 @@ IsChildOf problem node side found =
 abbrev pub IsOwn : Problem → ℕ → List Constraint → Option (List ℕ) → Type 0
 IsOwn problem i cs found = MatchOption found ((path : List ℕ) → ¬ IsAllowedFor problem i cs path) (IsOwnPathOf problem i cs)
 
--- the same, where the path is to cost at most the limit
+-- the same, where the path is to cost at most the bound
 abbrev pub IsOwnWithin : Problem → ℕ → ℕ → List Constraint → Option (List ℕ) → Type 0
-IsOwnWithin problem limit = IsOwn (record problem { bound = limit })
+IsOwnWithin problem bound = IsOwn (record problem { bound = bound })
 
--- the limit for agent i's path is what the other agents' paths in the plan leave of the bound
+-- the bound for agent i's path is what the other agents' paths in the plan leave of the bound
 abbrev pub Leaves : Problem → List (List ℕ) → ℕ → ℕ → Type 0
-Leaves problem plan i limit = limit + plan_cost plan ≡ problem.bound + cost (path_of plan i)
+Leaves problem plan i bound = bound + plan_cost plan ≡ problem.bound + cost (path_of plan i)
 
 -- path i is agent i's own path without constraints
 pub record AreRootPaths (problem : Problem) (paths : List (List ℕ)) : Type 0 where

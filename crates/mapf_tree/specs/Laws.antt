@@ -38,8 +38,8 @@ ObeyedIsInCost =
 -- no plan of a node has a dearer path of an agent than the other agents leave of the bound
 abbrev pub NoneIsDearer : Type 0
 NoneIsDearer =
-    (problem : Problem) (node : TreeNode) (plan : List (List ℕ)) (i limit : ℕ) →
-    HasPlan problem node plan → Leaves problem plan i limit → cost (path_of plan i) ≤ limit
+    (problem : Problem) (node : TreeNode) (plan : List (List ℕ)) (i bound : ℕ) →
+    HasPlan problem node plan → Leaves problem plan i bound → cost (path_of plan i) ≤ bound
 
 -- the side's constraint is new to its agent
 abbrev pub ConstraintIsNew : Type 0

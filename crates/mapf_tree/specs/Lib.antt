@@ -4,7 +4,7 @@ pub mod Tree
 pub mod Cut
 pub mod Answered
 pub mod Nodes
-pub mod OwnChanges
+pub mod NewestChanges
 pub mod Family
 pub mod SideQuery
 pub mod PathCache

@@ -48,7 +48,7 @@ pub record PathCache : Type 0 where
 -- the path of that number is the agent's own under these constraints; or there is none that costs so little
 abbrev pub IsCachedPath : Problem → List (List ℕ) → ℕ → List Constraint → CachedPath → Type 0
 IsCachedPath problem paths agent cs (Path number) = (path : List ℕ) × (slice_get paths number ≡ Some path) × IsOwnPathOf problem agent cs path
-IsCachedPath problem paths agent cs (NoneWithin limit) = IsOwnWithin problem limit agent cs None
+IsCachedPath problem paths agent cs (NoneWithin bound) = IsOwnWithin problem bound agent cs None
 
 -- what is remembered of each set is so
 abbrev pub AreKnown : Problem → List (List ℕ) → List ConstraintSet → Type 0
@@ -82,11 +82,11 @@ pub record IsAt (cache : PathCache) (node : Node) (at : NodeNumbers) : Type 0 wh
   pub plan : IsPlanOf cache at.plan
   pub same : plan_of cache.paths at.plan.numbers.items ≡ node.plan
 
--- the number of the own path under a set, at a cost of at most the limit; or that there is none
+-- the number of the own path under a set, at a cost of at most the bound; or that there is none
 abbrev pub IsOwnIn : PathCache → ℕ → ℕ → Option ℕ → Type 0
-IsOwnIn cache set limit found =
+IsOwnIn cache set bound found =
     (agent : ℕ) (cs : List Constraint) → HasSet cache.sets set agent cs →
-    IfSome found (λ n. n < length cache.paths) × IsOwnWithin cache.problem limit agent cs (option_map (λ n. path_of cache.paths n) found)
+    IfSome found (λ n. n < length cache.paths) × IsOwnWithin cache.problem bound agent cs (option_map (λ n. path_of cache.paths n) found)
 
 -- the query is that of a side of a node of the tree
 abbrev pub IsQueryIn : Problem → Node → SideQuery → Type 0

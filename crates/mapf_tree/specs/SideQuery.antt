@@ -20,23 +20,23 @@ pub record SideQuery : Type 0 where
   pub agent : ℕ
   pub constraint : Constraint
   pub constraints : List Constraint
-  pub limit : ℕ
+  pub bound : ℕ
 
 -- the query of a side of a node: its path may cost what the other agents' paths leave of the bound
 pub record IsQueryOf (node : Node) (query : SideQuery) : Type 0 where
   pub agent : (c : Conflict) → node.conflict ≡ Some c → query.agent ≡ agent_on c query.side
   pub constraint : (c : Conflict) → node.conflict ≡ Some c → query.constraint ≡ constraint_on c query.side
   pub constraints : (x : Constraint) → Contains query.constraints x ↔ ((x ≡ query.constraint) ⊎ Contains (slice_index_or node.constraints query.agent []) x)
-  pub leaves : Leaves query.problem node.plan query.agent query.limit
+  pub leaves : Leaves query.problem node.plan query.agent query.bound
 
 -- the own path that a query asks for, or none where there is none
 abbrev pub IsFoundBy : SideQuery → Option (List ℕ) → Type 0
-IsFoundBy query = IsOwnWithin query.problem query.limit query.agent query.constraints
+IsFoundBy query = IsOwnWithin query.problem query.bound query.agent query.constraints
 
 -- each path that the query's agent may take costs at least this
 abbrev pub CostsAtLeast : SideQuery → ℕ → Type 0
 CostsAtLeast query least =
-    (path : List ℕ) → IsAllowedFor (record query.problem { bound = query.limit }) query.agent query.constraints path → least ≤ cost path
+    (path : List ℕ) → IsAllowedFor (record query.problem { bound = query.bound }) query.agent query.constraints path → least ≤ cost path
 
 -- the table, if there is one, has the distances from an agent's start
 abbrev pub AreFromStart : Problem → ℕ → Option (List (Option ℕ)) → Type 0
@@ -46,12 +46,12 @@ AreFromStart problem agent table = IfSome table (AreDistances problem.inst.grid 
 abbrev pub AreTables : Problem → List (Option (List (Option ℕ))) → Type 0
 AreTables problem tables = (agent : ℕ) → AreFromStart problem agent (slice_index_or tables agent None)
 
--- what always holds of a query: its agent is one of the problem's, the limit is no larger than bounds are, a swap that it forbids
+-- what always holds of a query: its agent is one of the problem's, the bound is no larger than bounds are, a swap that it forbids
 -- is between two cells, its path costs at least so much, and the table, if there is one, has the distances from the agent's start
 pub record IsAsked (query : SideQuery) (least : ℕ) (table : Option (List (Option ℕ))) : Type 0 where
   pub inside : query.agent < length query.problem.inst.starts
   pub bound : query.problem.bound ≤ most_bound
-  pub limit : query.limit ≤ most_bound
+  pub small : query.bound ≤ most_bound
   pub ends : HasTwoEnds query.constraint
   pub costs : CostsAtLeast query least
   pub from_start : AreFromStart query.problem query.agent table

@@ -8,8 +8,8 @@ use Rattle.mapf_plan.specs.declared.answer.Answer.{Answer}
 use Rattle.mapf_plan.specs.declared.answer.Answer.TheVariants as answer
 use Rattle.mapf_tree.specs.declared.search.progress.Progress.{Progress}
 use Rattle.mapf_tree.specs.declared.search.progress.Progress.TheVariants.{Working, Finished}
-use Rattle.mapf_tree.specs.declared.search.turn.Turn.{Turn}
-use Rattle.mapf_tree.specs.declared.search.turn.Turn.TheVariants as turn
+use Rattle.mapf_tree.specs.declared.search.expansion.Expansion.{Expansion}
+use Rattle.mapf_tree.specs.declared.search.expansion.Expansion.TheVariants as expansion
 use Rattle.mapf_tree.specs.Problem.{Problem}
 use Rattle.mapf_tree.specs.Tree.{PlannedNode, IsMember, EachOnce, root_of, key, key_rank, IsFirstSolution, IsAnswer}
 use Rattle.mapf_tree.specs.Nodes.{Node, AllStand, HasNodeFor}
@@ -59,11 +59,11 @@ pub record ExpandsLeast (problem : Problem) (old new : List Node) (x : PlannedNo
   pub next : Expands problem (HasNodeFor problem old) x (HasNodeFor problem new)
 
 -- nothing waits; or the plan of the taken node has no conflict; or it has one, and the sides wait
-abbrev pub TakesLeast : Problem → List Node → List Node → Turn → Type 0
-TakesLeast problem old new turn.Empty = (old ≡ []) × (new ≡ [])
-TakesLeast problem old new (turn.Solved k plan) =
+abbrev pub TakesLeast : Problem → List Node → List Node → Expansion → Type 0
+TakesLeast problem old new expansion.Empty = (old ≡ []) × (new ≡ [])
+TakesLeast problem old new (expansion.Solved k plan) =
     (x : PlannedNode) × ExpandsLeast problem old new x × HasNoConflict problem.rule x.1 × (key_rank k ≡ key x) × (plan ≡ x.1) × (k.cost ≡ plan_cost plan)
-TakesLeast problem old new (turn.Branched k) = (x : PlannedNode) × ExpandsLeast problem old new x × (¬ HasNoConflict problem.rule x.1) × (key_rank k ≡ key x)
+TakesLeast problem old new (expansion.Branched k) = (x : PlannedNode) × ExpandsLeast problem old new x × (¬ HasNoConflict problem.rule x.1) × (key_rank k ≡ key x)
 
 -- as many nodes are taken as may be, and a node waits: the least cost of those that wait is stated
 abbrev pub IsGivenUp : Problem → List Node → ℕ → Answer → Type 0

@@ -6,7 +6,7 @@ mod agents;
 pub(crate) mod chain;
 pub(crate) mod change;
 mod current_paths;
-mod own_changes;
+mod newest_changes;
 pub(crate) mod side_extensions;
 mod with_change;
 

@@ -5,13 +5,13 @@ ghost use Rattle.mapf_tree.specs.Tree.{key_rank};
 
 mod alone;
 mod children;
+mod expansion;
 mod lower_bound;
 mod progress;
 mod taken;
-mod turn;
 
+use crate::search::expansion::{Expansion, add_if_some, expand_least};
 use crate::search::lower_bound::answer_at_limit;
-use crate::search::turn::{Turn, add_if_some, take_turn};
 use crate::{Key, Node, OpenList, Problem, root};
 pub use alone::solve_alone;
 pub use children::{ByChild, Children};
@@ -168,20 +168,20 @@ impl<'p> Search<'p> {
             self.outcome = Ok(Some(given));
             return Ok(Progress::Finished);
         }
-        match take_turn(self.problem, &mut self.waiting, children) {
-            Ok(Turn::Branched(key)) => {
+        match expand_least(self.problem, &mut self.waiting, children) {
+            Ok(Expansion::Branched(key)) => {
                 self.last = Some(key);
                 self.taken = self.taken.saturating_add(1);
                 Ok(Progress::Working)
             }
-            Ok(Turn::Solved { key, plan }) => {
+            Ok(Expansion::Solved { key, plan }) => {
                 let stated = key.cost;
                 self.last = Some(key);
                 self.taken = self.taken.saturating_add(1);
                 self.outcome = Ok(Some(Answer::Plan { plan, stated }));
                 Ok(Progress::Finished)
             }
-            Ok(Turn::Empty) => {
+            Ok(Expansion::Empty) => {
                 let bound = self.problem.bound();
                 self.outcome = Ok(Some(Answer::None { bound }));
                 Ok(Progress::Finished)
@@ -236,7 +236,7 @@ impl<'p> Search<'p> {
     }
 
     /// How many nodes were taken, the solution among them. A number that has reached `u64::MAX` stays there.
-    pub fn taken(&self) -> u64
+    pub fn taken_nodes(&self) -> u64
         ensures taken { result < u64.MAX → TakesBetween self.now.problem None self.now.last result }
         ensures search { IsSearch self.now }
     {

@@ -28,16 +28,16 @@ impl Map {
     fn is_right_or_below(&self, first: Cell, second: Cell) -> bool
         ensures { IsTrue result ↔ IsRightOrBelow self.now first second }
     {
-        is_side(self.above(second), first) || is_side(self.at_left(second), first)
+        is_cell(self.cell_above(second), first) || is_cell(self.cell_at_left(second), first)
     }
 }
 
-/// Whether there is a cell at this side, and it is the given one.
-fn is_side(side: Option<Cell>, cell: Cell) -> bool
-    ensures { IsTrue result ↔ (side ≡ Some cell) }
+/// Whether there is a cell, and it is the given one.
+fn is_cell(found: Option<Cell>, cell: Cell) -> bool
+    ensures { IsTrue result ↔ (found ≡ Some cell) }
 {
-    match side {
-        Some(side) => side == cell,
+    match found {
+        Some(found) => found == cell,
         None => false,
     }
 }

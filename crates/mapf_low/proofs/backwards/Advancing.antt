@@ -278,9 +278,9 @@ module _ (query : Query) where
             go r (inl l) = late (suc t) v l (step i.1.0 v (r.0, r.1) i.1.1.1.0.1 i.1.1.1.0.2)
             go r (inr l) = h.bounds (suc t) v l i
 
-module _ (g : Grid) (constraints : List Constraint) (start goal limit : ℕ) where
+module _ (g : Grid) (constraints : List Constraint) (start goal bound : ℕ) where
   abbrev By : List (Option ℕ) → Query
-  By table = record { grid = g; table = table; constraints = constraints; start = start; goal = goal; limit = limit }
+  By table = record { grid = g; table = table; constraints = constraints; start = start; goal = goal; bound = bound }
 
   -- where the agent can be has nothing to do with the query's table
   can_by : (one other : List (Option ℕ)) (t v : ℕ) → CanBe (By one) t v → CanBe (By other) t v

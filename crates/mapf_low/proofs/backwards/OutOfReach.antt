@@ -61,23 +61,23 @@ module _ (query : Query) where
       shortest v f = h.shortest v (free_below query.grid v sizes f)
 
   -- where the agent can be nothing rules it out
-  pub can_left : (dead : List (ℕ × ℕ)) (t v : ℕ) → t ≤ query.limit → HasEarliest query → AreDead query dead → CanBe query t v → IsLeft query dead t v
+  pub can_left : (dead : List (ℕ × ℕ)) (t v : ℕ) → t ≤ query.bound → HasEarliest query → AreDead query dead → CanBe query t v → IsLeft query dead t v
   can_left dead t v l earliest out i = (earliest.bounds t v l i, can_allowed t v i, λ c. out v t c i)
 
   -- the places of an allowed path can be reached
-  pub can_be_at : (limit : ℕ) (p : List ℕ) → IsAllowed query.grid query.start query.goal limit query.constraints p → (t : ℕ) → t ≤ cost p → CanBe query t (at p t)
-  can_be_at limit p a zero l = (a.path.starts, λ i. obeys_each query.constraints p a.obeys (Vertex (at p 0) 0) i refl)
-  can_be_at limit p a (suc t) l =
+  pub can_be_at : (bound : ℕ) (p : List ℕ) → IsAllowed query.grid query.start query.goal bound query.constraints p → (t : ℕ) → t ≤ cost p → CanBe query t (at p t)
+  can_be_at bound p a zero l = (a.path.starts, λ i. obeys_each query.constraints p a.obeys (Vertex (at p 0) 0) i refl)
+  can_be_at bound p a (suc t) l =
       let n : t + 1 ≡ suc t = omega arith in
       let here : CanBe query (t + 1) (at p (t + 1)) =
-      can_next t (at p t) (at p (t + 1)) (λ i. obeys_each query.constraints p a.obeys (Vertex (at p (t + 1)) (t + 1)) i refl) (can_be_at limit p a t (omega (arith, l))) (step_at query limit p a t (omega (arith, l))) in
+      can_next t (at p t) (at p (t + 1)) (λ i. obeys_each query.constraints p a.obeys (Vertex (at p (t + 1)) (t + 1)) i refl) (can_be_at bound p a t (omega (arith, l))) (step_at query bound p a t (omega (arith, l))) in
       subst (λ k. CanBe query k (at p k)) n here
 
-  pub can_covering : (limit count : ℕ) → IsPosed query → IsCovering query limit (CanBe query) count
-  can_covering limit count posed = record {
+  pub can_covering : (bound count : ℕ) → IsPosed query → IsCovering query bound (CanBe query) count
+  can_covering bound count posed = record {
     start = posed.start;
     ends = posed.ends;
-    covers = λ p a t l m. can_be_at limit p a t l;
+    covers = λ p a t l m. can_be_at bound p a t l;
     first = λ v i. i.0;
     allowed = λ t v l i. can_allowed t v i;
   }

@@ -22,7 +22,7 @@ pub record IsPlaced (query : Query) (dead : List (ℕ × ℕ)) (path : List ℕ)
 
 module _ (query : Query) (end : ℕ) where
   -- one cell more, the smallest that is left
-  pub placed_more : (dead : List (ℕ × ℕ)) (path : List ℕ) (t cell u : ℕ) → t < end → end ≤ query.limit → HasEarliest query → AreDead query dead → IsPlaced query dead path (t + 1) end → cell ≡ slice_index path (t + 1) →
+  pub placed_more : (dead : List (ℕ × ℕ)) (path : List ℕ) (t cell u : ℕ) → t < end → end ≤ query.bound → HasEarliest query → AreDead query dead → IsPlaced query dead path (t + 1) end → cell ≡ slice_index path (t + 1) →
       IsSmallest (ComesFrom query (t + 1) (IsLeft query dead t) cell) (Some u) → IsPlaced query dead (set path t u) t end
   placed_more dead path t cell u l within earliest out h at s = record {
     long = length-set path t u ∙ h.long;
@@ -124,7 +124,7 @@ module _ (query : Query) (end : ℕ) where
     subst (CanBe query end) h.ends (placed_can dead path earliest h end (omega arith)),
   )
 
-module _ (query : Query) (dead : List (ℕ × ℕ)) (t cell : ℕ) (within : t ≤ query.limit) (earliest : HasEarliest query) (out : AreDead query dead)
+module _ (query : Query) (dead : List (ℕ × ℕ)) (t cell : ℕ) (within : t ≤ query.bound) (earliest : HasEarliest query) (out : AreDead query dead)
     (none : IsSmallest (ComesFrom query (t + 1) (IsLeft query dead t) cell) None) where
   -- where none is left before it, the cell can't be reached
   pub not_can : ¬ CanBe query (t + 1) cell

@@ -11,5 +11,5 @@ pub record AreLayers (query : Query) (layers : List (List ℕ)) : Type 0 where
       IsNextLayer query (t + 1) (layer_at layers t) (layer_at layers (t + 1))
 
 -- have at each time the cells that are reached then
-pub layers_set : (query : Query) (layers : List (List ℕ)) → IsPosed query → HasDistances query → AreLayers query layers → Setting query query.limit (InLayers layers) (length layers)
+pub layers_set : (query : Query) (layers : List (List ℕ)) → IsPosed query → HasDistances query → AreLayers query layers → Setting query query.bound (InLayers layers) (length layers)
 layers_set query layers posed distances h = record { posed = posed; distances = distances; reached_are = record { first = h.first; next = h.next } }

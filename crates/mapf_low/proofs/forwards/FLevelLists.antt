@@ -92,7 +92,7 @@ module _ (query : Query) (nearest : ℕ) (ground : Ground query nearest) where
       no_arrival levels (t + 1) (λ k _ i. ⊎_elim (λ l. before k l i) (λ l. absurd (past_all levels k query.goal l i)) (cases_lt k (length levels))) t (omega arith)
 
   -- what is known when the search ends
-  pub searched_to : (sum : ℕ) (levels : List (List ℕ)) → sum ≤ query.limit → AreFLevels query sum nearest (Has levels) → ((t : ℕ) → t < sum → ¬ EndsAt query (InFLevels query nearest levels) t) → nearest ≤ sum →
+  pub searched_to : (sum : ℕ) (levels : List (List ℕ)) → sum ≤ query.bound → AreFLevels query sum nearest (Has levels) → ((t : ℕ) → t < sum → ¬ EndsAt query (InFLevels query nearest levels) t) → nearest ≤ sum →
       Has levels (sum - nearest) query.goal → MayEnd query sum → nearest + length levels ≤ sum + 1 → IsSearched query nearest levels (Some sum)
   searched_to sum levels l h before low here free few = record {
     within = l;
@@ -107,13 +107,13 @@ module _ (query : Query) (nearest : ℕ) (ground : Ground query nearest) where
     placed = h.placed;
   }
 
-  pub searched_none : (levels : List (List ℕ)) → AreFLevels query query.limit nearest (Has levels) → ((t : ℕ) → t < query.limit + 1 → ¬ EndsAt query (InFLevels query nearest levels) t) →
-      nearest + length levels ≤ query.limit + 1 → IsSearched query nearest levels None
+  pub searched_none : (levels : List (List ℕ)) → AreFLevels query query.bound nearest (Has levels) → ((t : ℕ) → t < query.bound + 1 → ¬ EndsAt query (InFLevels query nearest levels) t) →
+      nearest + length levels ≤ query.bound + 1 → IsSearched query nearest levels None
   searched_none levels h before few = record {
     within = omega arith;
-    reached = λ count. levels_reach query query.limit nearest (Has levels) ground count h;
+    reached = λ count. levels_reach query query.bound nearest (Has levels) ground count h;
     before = λ t l. before t (omega (arith, l));
-    ends = before query.limit (omega arith);
+    ends = before query.bound (omega arith);
     few = few;
     placed = h.placed;
   }
@@ -124,9 +124,9 @@ module _ (query : Query) (nearest : ℕ) (ground : Ground query nearest) where
     placed_now v i = s.placed (length levels) v (subst (λ xs. Contains xs v) (sym (behind levels (now ∷ next ∷ after ∷ []) (length levels) 0 (omega arith))) i)
 
     -- where nothing is left, or the bound is reached, these are all f-levels
-    pub whole_search : (limit : ℕ) → nearest + length levels ≤ limit + 1 → ((k v : ℕ) → length levels ≤ k → nearest + k ≤ limit → ¬ Has (all levels now next after) k v) → AreFLevels query limit nearest (Has levels)
-    whole_search limit l over =
-        all_levels query nearest (length levels) limit (Has (all levels now next after)) (Has levels) s l
+    pub whole_search : (bound : ℕ) → nearest + length levels ≤ bound + 1 → ((k v : ℕ) → length levels ≤ k → nearest + k ≤ bound → ¬ Has (all levels now next after) k v) → AreFLevels query bound nearest (Has levels)
+    whole_search bound l over =
+        all_levels query nearest (length levels) bound (Has (all levels now next after)) (Has levels) s l
         (λ k v m. as_same (level_at levels k) (level_at (all levels now next after) k) v (sym (ahead levels (now ∷ next ∷ after ∷ []) k m)))
         (λ k v m. past_all levels k v m) over
 
@@ -171,7 +171,7 @@ module _ (query : Query) (nearest : ℕ) (ground : Ground query nearest) where
     before_last k l i = s.before k l ((as_same (level_at (levels ++ new ∷ []) k) (level_at (all levels now next after) k) query.goal (ahead levels (new ∷ []) k l ∙ sym (ahead levels (now ∷ next ∷ after ∷ []) k l))).0 i)
 
     -- what is known where the agent can end in it
-    pub searched_here : sum ≤ query.limit → Contains new query.goal × MayEnd query sum → IsSearched query nearest (levels ++ new ∷ []) (Some sum)
+    pub searched_here : sum ≤ query.bound → Contains new query.goal × MayEnd query sum → IsSearched query nearest (levels ++ new ∷ []) (Some sum)
     searched_here l met =
         searched_to sum (levels ++ new ∷ []) l last_levels
         (λ t m. no_arrival (levels ++ new ∷ []) (length levels) before_last t (omega (arith, m, long)))
@@ -217,11 +217,11 @@ module _ (query : Query) (nearest : ℕ) (ground : Ground query nearest) where
           (λ i e. none (i, subst (λ n. MayEnd query n) (sym long) e)))
 
       -- what is known where nothing is left
-      pub searched_empty : next2 ≡ [] → after2 ≡ [] → sum ≤ query.limit → IsSearched query nearest (levels ++ new ∷ []) None
+      pub searched_empty : next2 ≡ [] → after2 ≡ [] → sum ≤ query.bound → IsSearched query nearest (levels ++ new ∷ []) None
       searched_empty no_next no_after l =
           let one_more : length (levels ++ new ∷ []) ≡ length levels + 1 = length-append levels (new ∷ []) in
           searched_none (levels ++ new ∷ [])
-          (whole_search (levels ++ new ∷ []) next2 after2 [] search_on query.limit (omega (arith, long, l, one_more))
+          (whole_search (levels ++ new ∷ []) next2 after2 [] search_on query.bound (omega (arith, long, l, one_more))
           (λ k v m _. nothing_left (levels ++ new ∷ []) next2 after2 [] search_on no_next no_after refl k v m))
           (λ t _. never_arrives (levels ++ new ∷ []) (before_end (levels ++ new ∷ []) next2 after2 [] search_on) t)
           (omega (arith, long, l, one_more))

@@ -46,12 +46,12 @@ pub data Origin (query : Query) (nearest : ℕ) (C : ℕ → ℕ → Type 0) (k 
   follows : (j more u : ℕ) → j + more ≡ k → C j u → Leads query (nearest + j) more u v → Origin query nearest C k v
 
 -- the f-levels up to a sum
-pub record AreFLevels (query : Query) (limit nearest : ℕ) (C : ℕ → ℕ → Type 0) : Type 0 where
+pub record AreFLevels (query : Query) (bound nearest : ℕ) (C : ℕ → ℕ → Type 0) : Type 0 where
   pub placed : (k v : ℕ) → C k v → IsWithin query (nearest + k) v
-  pub bounded : (k v : ℕ) → C k v → nearest + k ≤ limit
+  pub bounded : (k v : ℕ) → C k v → nearest + k ≤ bound
   pub sound : (k v : ℕ) → C k v → Origin query nearest C k v
-  pub closed : (k more u v : ℕ) → more ≤ 2 → nearest + k + more ≤ limit → C k u → Leads query (nearest + k) more u v → C (k + more) v
-  pub first : nearest ≤ limit → (¬ Contains query.constraints (Vertex query.start 0)) → C 0 query.start
+  pub closed : (k more u v : ℕ) → more ≤ 2 → nearest + k + more ≤ bound → C k u → Leads query (nearest + k) more u v → C (k + more) v
+  pub first : nearest ≤ bound → (¬ Contains query.constraints (Vertex query.start 0)) → C 0 query.start
 
 -- what a search from the start to the goal is about
 pub record Ground (query : Query) (nearest : ℕ) : Type 0 where
@@ -62,40 +62,40 @@ pub record Ground (query : Query) (nearest : ℕ) : Type 0 where
 pub ground_of : (query : Query) (start nearest : ℕ) (distance : Option ℕ) → IsPosed query → HasDistances query → start ≡ query.start → distance ≡ distance_at query.table start → distance ≡ Some nearest → Ground query nearest
 ground_of query start nearest distance posed distances is at some = record { posed = posed; distances = distances; nearest_is = ap (distance_at query.table) (sym is) ∙ (sym at ∙ some) }
 
-module _ (query : Query) (limit nearest : ℕ) (C : ℕ → ℕ → Type 0) (ground : Ground query nearest) where
+module _ (query : Query) (bound nearest : ℕ) (C : ℕ → ℕ → Type 0) (ground : Ground query nearest) where
   -- the agent may be on v at time t: the f-level of their sum has it
   abbrev pub At : ℕ → ℕ → Type 0
   At t v = MatchOption (distance_at query.table v) ⊥ (λ n. (nearest ≤ t + n) × C (t + n - nearest) v)
 
-  pub levels_reach : (count : ℕ) → AreFLevels query limit nearest C → AreReached query limit (λ t v. MatchOption (distance_at query.table v) ⊥ (λ n. (nearest ≤ t + n) × C (t + n - nearest) v)) count
+  pub levels_reach : (count : ℕ) → AreFLevels query bound nearest C → AreReached query bound (λ t v. MatchOption (distance_at query.table v) ⊥ (λ n. (nearest ≤ t + n) × C (t + n - nearest) v)) count
   levels_reach count h = record { first = λ v. (first v, first_back v); next = λ t l v. (next t v, λ p. next_back t v p.0 p.1.0 p.1.1) }
     where
       -- the first of them
-      first_at : (v n : ℕ) → distance_at query.table v ≡ Some n → nearest ≤ 0 + n → C (0 + n - nearest) v → Origin query nearest C (0 + n - nearest) v → (v ≡ query.start) × IsUsable query limit 0 v
+      first_at : (v n : ℕ) → distance_at query.table v ≡ Some n → nearest ≤ 0 + n → C (0 + n - nearest) v → Origin query nearest C (0 + n - nearest) v → (v ≡ query.start) × IsUsable query bound 0 v
       first_at v n e l i (begins is k free) =
           let same : n ≡ nearest = omega (arith, same_distance (distance_at query.table v) n nearest e (ap (distance_at query.table) is ∙ ground.nearest_is)) in
-          (is, (subst (λ w. ¬ Contains query.constraints (Vertex w 0)) (sym is) free, match_to (distance_at query.table v) n (λ m. 0 + m ≤ limit) e (omega (arith, h.bounded (0 + n - nearest) v i, l))))
+          (is, (subst (λ w. ¬ Contains query.constraints (Vertex w 0)) (sym is) free, match_to (distance_at query.table v) n (λ m. 0 + m ≤ bound) e (omega (arith, h.bounded (0 + n - nearest) v i, l))))
       first_at v n e l i (follows j more u is c s) =
           let near : s.near ≤ nearest + j = match_at (distance_at query.table u) s.near (λ m. m ≤ nearest + j) s.near_is (h.placed j u c) in
           let far : s.far ≡ n = same_distance (distance_at query.table v) s.far n s.enters.1.0 e in
           absurd (omega (arith, near, far, s.apart, is, l))
 
-      first : (v : ℕ) → At 0 v → (v ≡ query.start) × IsUsable query limit 0 v
+      first : (v : ℕ) → At 0 v → (v ≡ query.start) × IsUsable query bound 0 v
       first v a =
           let n = match_entry (distance_at query.table v) (λ n. (nearest ≤ 0 + n) × C (0 + n - nearest) v) a in
           first_at v n.0 n.1 n.2.0 n.2.1 (h.sound (0 + n.0 - nearest) v n.2.1)
 
-      first_back : (v : ℕ) → (v ≡ query.start) × IsUsable query limit 0 v → At 0 v
+      first_back : (v : ℕ) → (v ≡ query.start) × IsUsable query bound 0 v → At 0 v
       first_back v (is, (free, near)) =
           let at : distance_at query.table v ≡ Some nearest = ap (distance_at query.table) is ∙ ground.nearest_is in
-          let within : 0 + nearest ≤ limit = match_at (distance_at query.table v) nearest (λ m. 0 + m ≤ limit) at near in
+          let within : 0 + nearest ≤ bound = match_at (distance_at query.table v) nearest (λ m. 0 + m ≤ bound) at near in
           let zero_is : 0 ≡ 0 + nearest - nearest = omega arith in
           let here : C 0 v = subst (λ w. C 0 w) (sym is) (h.first (omega (arith, within)) (subst (λ w. ¬ Contains query.constraints (Vertex w 0)) is free)) in
           match_to (distance_at query.table v) nearest (λ n. (nearest ≤ 0 + n) × C (0 + n - nearest) v) at (omega arith, subst (λ k. C k v) zero_is here)
 
       -- each later one
       next_at : (t v n : ℕ) → distance_at query.table v ≡ Some n → nearest ≤ t + 1 + n → C (t + 1 + n - nearest) v → Origin query nearest C (t + 1 + n - nearest) v →
-          IsUsable query limit (t + 1) v × ((u : ℕ) × ComesFrom query (t + 1) (At t) v u)
+          IsUsable query bound (t + 1) v × ((u : ℕ) × ComesFrom query (t + 1) (At t) v u)
       next_at t v n e l i (begins is k free) =
           let same : n ≡ nearest = same_distance (distance_at query.table v) n nearest e (ap (distance_at query.table) is ∙ ground.nearest_is) in
           absurd (omega (arith, same, k, l))
@@ -106,18 +106,18 @@ module _ (query : Query) (limit nearest : ℕ) (C : ℕ → ℕ → Type 0) (gro
           let time : nearest + j - s.near + 1 ≡ t + 1 = omega (arith, sum) in
           let place : j ≡ t + s.near - nearest = omega (arith, sum) in
           let enters : Admits query (t + 1) s.far u v = subst (λ k. Admits query k s.far u v) time s.enters.1 in (
-            (enters.1.0, match_to (distance_at query.table v) n (λ m. t + 1 + m ≤ limit) e (omega (arith, h.bounded (t + 1 + n - nearest) v i, l))),
+            (enters.1.0, match_to (distance_at query.table v) n (λ m. t + 1 + m ≤ bound) e (omega (arith, h.bounded (t + 1 + n - nearest) v i, l))),
             (u, (match_to (distance_at query.table u) s.near (λ m. (nearest ≤ t + m) × C (t + m - nearest) u) s.near_is (omega (arith, sum), subst (λ k. C k u) place c), (s.enters.0, enters.1.1))),
           )
 
-      next : (t v : ℕ) → At (t + 1) v → IsUsable query limit (t + 1) v × ((u : ℕ) × ComesFrom query (t + 1) (At t) v u)
+      next : (t v : ℕ) → At (t + 1) v → IsUsable query bound (t + 1) v × ((u : ℕ) × ComesFrom query (t + 1) (At t) v u)
       next t v a =
           let n = match_entry (distance_at query.table v) (λ n. (nearest ≤ t + 1 + n) × C (t + 1 + n - nearest) v) a in
           next_at t v n.0 n.1 n.2.0 n.2.1 (h.sound (t + 1 + n.0 - nearest) v n.2.1)
 
-      leads_back : (t u v m n : ℕ) → distance_at query.table u ≡ Some m → distance_at query.table v ≡ Some n → IsUsable query limit (t + 1) v → nearest ≤ t + m → C (t + m - nearest) u → MayStep query (t + 1) u v → At (t + 1) v
+      leads_back : (t u v m n : ℕ) → distance_at query.table u ≡ Some m → distance_at query.table v ≡ Some n → IsUsable query bound (t + 1) v → nearest ≤ t + m → C (t + m - nearest) u → MayStep query (t + 1) u v → At (t + 1) v
       leads_back t u v m n at_u at_v o low there step =
-          let within : t + 1 + n ≤ limit = match_at (distance_at query.table v) n (λ n. t + 1 + n ≤ limit) at_v o.1 in
+          let within : t + 1 + n ≤ bound = match_at (distance_at query.table v) n (λ n. t + 1 + n ≤ bound) at_v o.1 in
           let down : m ≤ n + 1 = step_apart query u v m n ground.posed ground.distances step.0 at_u at_v in
           let up : n ≤ m + 1 = step_apart query v u n m ground.posed ground.distances (Next_back query.grid u v step.0) at_v at_u in
           let time : t + 1 ≡ nearest + (t + m - nearest) - m + 1 = omega (arith, low) in
@@ -127,8 +127,8 @@ module _ (query : Query) (limit nearest : ℕ) (C : ℕ → ℕ → Type 0) (gro
           let place : t + m - nearest + (n + 1 - m) ≡ t + 1 + n - nearest = omega (arith, low, down) in
           match_to (distance_at query.table v) n (λ n. (nearest ≤ t + 1 + n) × C (t + 1 + n - nearest) v) at_v (omega (arith, low, down), subst (λ k. C k v) place found)
 
-      next_back : (t v : ℕ) → IsUsable query limit (t + 1) v → (u : ℕ) → ComesFrom query (t + 1) (At t) v u → At (t + 1) v
+      next_back : (t v : ℕ) → IsUsable query bound (t + 1) v → (u : ℕ) → ComesFrom query (t + 1) (At t) v u → At (t + 1) v
       next_back t v o u (from, step) =
-          let n = match_entry (distance_at query.table v) (λ n. t + 1 + n ≤ limit) o.1 in
+          let n = match_entry (distance_at query.table v) (λ n. t + 1 + n ≤ bound) o.1 in
           let m = match_entry (distance_at query.table u) (λ n. (nearest ≤ t + n) × C (t + n - nearest) u) from in
           leads_back t u v m.0 n.0 m.1 n.1 o m.2.0 m.2.1 step

@@ -149,9 +149,9 @@ module _ (query : Query) (nearest K : ℕ) (C D : ℕ → ℕ → Type 0) (old n
             up_to (λ n. D n query.goal → ¬ MayEnd query (nearest + n)) K k l (λ m i. s.before k m ((c.lower k query.goal m).0 i)) (λ i. none ((c.is query.goal).0 i))
 
 -- where no f-level is left, those that there are have all that may be reached
-pub all_levels : (query : Query) (nearest K limit : ℕ) (C D : ℕ → ℕ → Type 0) → IsSearching query nearest K C → nearest + K ≤ limit + 1 →
-    ((k v : ℕ) → k < K → D k v ↔ C k v) → ((k v : ℕ) → K ≤ k → ¬ D k v) → ((k v : ℕ) → K ≤ k → nearest + k ≤ limit → ¬ C k v) → AreFLevels query limit nearest D
-all_levels query nearest K limit C D s l lower none over = record {
+pub all_levels : (query : Query) (nearest K bound : ℕ) (C D : ℕ → ℕ → Type 0) → IsSearching query nearest K C → nearest + K ≤ bound + 1 →
+    ((k v : ℕ) → k < K → D k v ↔ C k v) → ((k v : ℕ) → K ≤ k → ¬ D k v) → ((k v : ℕ) → K ≤ k → nearest + k ≤ bound → ¬ C k v) → AreFLevels query bound nearest D
+all_levels query nearest K bound C D s l lower none over = record {
   placed = λ k v i. (s.placed k v ((lower k v (within k v i)).0 i)).2;
   bounded = λ k v i. omega (arith, within k v i, l);
   sound = λ k v i. origin k v (within k v i) (s.sound k v ((lower k v (within k v i)).0 i));
@@ -162,7 +162,7 @@ all_levels query nearest K limit C D s l lower none over = record {
     within : (k v : ℕ) → D k v → k < K
     within k v i = ⊎_elim (λ m. m) (λ m. absurd (none k v m i)) (cases_lt k K)
 
-    stays : (k v : ℕ) → nearest + k ≤ limit → C k v → D k v
+    stays : (k v : ℕ) → nearest + k ≤ bound → C k v → D k v
     stays k v m i = ⊎_elim (λ a. (lower k v a).1 i) (λ a. absurd (over k v a m i)) (cases_lt k K)
 
     origin : (k v : ℕ) → k < K → Origin query nearest C k v → Origin query nearest D k v

@@ -117,30 +117,30 @@ pub all_taken : (query : Query) (nearest : ℕ) (levels : List (List ℕ)) (end 
 all_taken query nearest levels end found states count posed distances searched own ends whole h =
     record { once = h.once; near = near; near_where_none = near_where_none; path = path }
   where
-    within : (s : ℕ × ℕ) → Contains states s → HasSum query.table (λ m. m ≤ unwrap_or end query.limit) s
-    within s i = sum_as query.table s (λ m. m < nearest + count) (λ m. m ≤ unwrap_or end query.limit) (λ m l. omega (arith, l, searched.few, whole)) (h.sound s i)
+    within : (s : ℕ × ℕ) → Contains states s → HasSum query.table (λ m. m ≤ unwrap_or end query.bound) s
+    within s i = sum_as query.table s (λ m. m < nearest + count) (λ m. m ≤ unwrap_or end query.bound) (λ m l. omega (arith, l, searched.few, whole)) (h.sound s i)
 
-    -- the limit is the cost of the own path
-    limit_cost : (p : List ℕ) → IsOwnPath query.grid query.start query.goal query.limit query.constraints p → unwrap_or end query.limit ≡ cost p
-    limit_cost p mine = go found own ends
+    -- the bound is the cost of the own path
+    own_cost : (p : List ℕ) → IsOwnPath query.grid query.start query.goal query.bound query.constraints p → unwrap_or end query.bound ≡ cost p
+    own_cost p mine = go found own ends
       where
-        go : (o : Option (List ℕ)) → IsFound query o → end ≡ option_map cost o → unwrap_or end query.limit ≡ cost p
+        go : (o : Option (List ℕ)) → IsFound query o → end ≡ option_map cost o → unwrap_or end query.bound ≡ cost p
         go None none e = absurd (none p mine.member)
-        go (Some q) its e = ap (λ o. unwrap_or o query.limit) e ∙ ap cost (same_own query.grid query.start query.goal query.limit query.constraints q p its mine)
+        go (Some q) its e = ap (λ o. unwrap_or o query.bound) e ∙ ap cost (same_own query.grid query.start query.goal query.bound query.constraints q p its mine)
 
     -- or the bound
-    limit_bound : ((p : List ℕ) → ¬ IsAllowed query.grid query.start query.goal query.limit query.constraints p) → unwrap_or end query.limit ≡ query.limit
-    limit_bound none = go found own ends
+    none_bound : ((p : List ℕ) → ¬ IsAllowed query.grid query.start query.goal query.bound query.constraints p) → unwrap_or end query.bound ≡ query.bound
+    none_bound none = go found own ends
       where
-        go : (o : Option (List ℕ)) → IsFound query o → end ≡ option_map cost o → unwrap_or end query.limit ≡ query.limit
-        go None _ e = ap (λ o. unwrap_or o query.limit) e
+        go : (o : Option (List ℕ)) → IsFound query o → end ≡ option_map cost o → unwrap_or end query.bound ≡ query.bound
+        go None _ e = ap (λ o. unwrap_or o query.bound) e
         go (Some q) its e = absurd (none q its.member)
 
-    near : (p : List ℕ) → IsOwnPath query.grid query.start query.goal query.limit query.constraints p → (s : ℕ × ℕ) → Contains states s → HasSum query.table (λ m. m ≤ cost p) s
-    near p mine s i = subst (λ n. HasSum query.table (λ m. m ≤ n) s) (limit_cost p mine) (within s i)
+    near : (p : List ℕ) → IsOwnPath query.grid query.start query.goal query.bound query.constraints p → (s : ℕ × ℕ) → Contains states s → HasSum query.table (λ m. m ≤ cost p) s
+    near p mine s i = subst (λ n. HasSum query.table (λ m. m ≤ n) s) (own_cost p mine) (within s i)
 
-    near_where_none : ((p : List ℕ) → ¬ IsAllowed query.grid query.start query.goal query.limit query.constraints p) → (s : ℕ × ℕ) → Contains states s → HasSum query.table (λ m. m ≤ query.limit) s
-    near_where_none none s i = subst (λ n. HasSum query.table (λ m. m ≤ n) s) (limit_bound none) (within s i)
+    near_where_none : ((p : List ℕ) → ¬ IsAllowed query.grid query.start query.goal query.bound query.constraints p) → (s : ℕ × ℕ) → Contains states s → HasSum query.table (λ m. m ≤ query.bound) s
+    near_where_none none s i = subst (λ n. HasSum query.table (λ m. m ≤ n) s) (none_bound none) (within s i)
 
     -- what is in an f-level is listed
     listed : (t v : ℕ) → InFLevels query nearest levels t v → Contains states (v, t)
@@ -152,13 +152,13 @@ all_taken query nearest levels end found states count posed distances searched o
         is_inside : (k v : ℕ) → Contains (level_at levels k) v → k < length levels
         is_inside k v i = ⊎_elim (λ l. l) (λ l. absurd (Rattle.mapf_low.proofs.forwards.FLevelLists.past_all levels k v l i)) (cases_lt k (length levels))
 
-    path : (p : List ℕ) → IsOwnPath query.grid query.start query.goal query.limit query.constraints p → (t : ℕ) → t ≤ cost p → Contains states (at p t, t)
+    path : (p : List ℕ) → IsOwnPath query.grid query.start query.goal query.bound query.constraints p → (t : ℕ) → t ≤ cost p → Contains states (at p t, t)
     path p mine t l =
-        let allowed : IsAllowed query.grid query.start query.goal (unwrap_or end query.limit) query.constraints p = record { path = mine.member.path; within = omega (arith, limit_cost p mine); obeys = mine.member.obeys } in
-        listed t (at p t) (reached query (unwrap_or end query.limit) (InFLevels query nearest levels) (cost p + 1) (setting query nearest levels posed distances end searched (cost p + 1)) p allowed t l (omega (arith, l)))
+        let allowed : IsAllowed query.grid query.start query.goal (unwrap_or end query.bound) query.constraints p = record { path = mine.member.path; within = omega (arith, own_cost p mine); obeys = mine.member.obeys } in
+        listed t (at p t) (reached query (unwrap_or end query.bound) (InFLevels query nearest levels) (cost p + 1) (setting query nearest levels posed distances end searched (cost p + 1)) p allowed t l (omega (arith, l)))
 
 -- where there is no path, none need be taken
-pub none_taken : (query : Query) (states : List (ℕ × ℕ)) → states ≡ [] → ((p : List ℕ) → ¬ IsAllowed query.grid query.start query.goal query.limit query.constraints p) → AreTakenBy query states
+pub none_taken : (query : Query) (states : List (ℕ × ℕ)) → states ≡ [] → ((p : List ℕ) → ¬ IsAllowed query.grid query.start query.goal query.bound query.constraints p) → AreTakenBy query states
 none_taken query states is none =
     subst (AreTakenBy query) (sym is) (record {
       once = λ i j d l m. absurd (omega (arith, m));

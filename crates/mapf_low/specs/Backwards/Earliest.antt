@@ -8,9 +8,9 @@ use Rattle.mapf_low.specs.Distances.Levels.{IsFreeNeighbour}
 use Rattle.mapf_low.specs.Query.{Query}
 use Rattle.mapf_low.specs.Walk.{distance_at}
 
--- where the agent can be by the limit there is an entry, no later than it can be there; an entry 0 is the start's alone
+-- where the agent can be by the bound there is an entry, no later than it can be there; an entry 0 is the start's alone
 pub record AreEarliest (query : Query) (table : List (Option ℕ)) : Type 0 where
-  pub bounds : (t v : ℕ) → t ≤ query.limit → CanBe query t v → MatchOption (distance_at table v) ⊥ (λ n. n ≤ t)
+  pub bounds : (t v : ℕ) → t ≤ query.bound → CanBe query t v → MatchOption (distance_at table v) ⊥ (λ n. n ≤ t)
   pub at_start : (v : ℕ) → distance_at table v ≡ Some 0 → v ≡ query.start
 
 -- the query's table is such a one

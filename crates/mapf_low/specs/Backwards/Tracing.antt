@@ -41,6 +41,6 @@ IsTraced query end found =
     (¬ CanBe query end query.goal)
     (λ p. IsReconstructed query (CanBe query) p 0 end × CanBe query end query.goal)
 
--- no list of steps of a lower cost can end on the goal, up to the limit
+-- no list of steps of a lower cost can end on the goal, up to the bound
 abbrev pub HasNoneBefore : Query → ℕ → Type 0
-HasNoneBefore query end = (t : ℕ) → t < end → t ≤ query.limit → ¬ EndsAt query (CanBe query) t
+HasNoneBefore query end = (t : ℕ) → t < end → t ≤ query.bound → ¬ EndsAt query (CanBe query) t

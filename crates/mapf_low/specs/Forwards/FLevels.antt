@@ -63,11 +63,11 @@ abbrev pub InFLevels : Query → ℕ → List (List ℕ) → ℕ → ℕ → Typ
 InFLevels query nearest levels t v =
     MatchOption (distance_at query.table v) ⊥ (λ n. (nearest ≤ t + n) × Contains (level_at levels (t + n - nearest)) v)
 
--- a search by f-levels from the start: with `end` the agent can end, and with no lower sum; with none there is no sum up to the limit
+-- a search by f-levels from the start: with `end` the agent can end, and with no lower sum; with none there is no sum up to the bound
 pub record IsSearched (query : Query) (nearest : ℕ) (levels : List (List ℕ)) (end : Option ℕ) : Type 0 where
-  pub within : unwrap_or end query.limit ≤ query.limit
-  pub reached : (count : ℕ) → AreReached query (unwrap_or end query.limit) (InFLevels query nearest levels) count
-  pub before : (t : ℕ) → t < unwrap_or end query.limit → ¬ EndsAt query (InFLevels query nearest levels) t
-  pub ends : MatchOption end (¬ EndsAt query (InFLevels query nearest levels) query.limit) (EndsAt query (InFLevels query nearest levels))
-  pub few : nearest + length levels ≤ unwrap_or end query.limit + 1
+  pub within : unwrap_or end query.bound ≤ query.bound
+  pub reached : (count : ℕ) → AreReached query (unwrap_or end query.bound) (InFLevels query nearest levels) count
+  pub before : (t : ℕ) → t < unwrap_or end query.bound → ¬ EndsAt query (InFLevels query nearest levels) t
+  pub ends : MatchOption end (¬ EndsAt query (InFLevels query nearest levels) query.bound) (EndsAt query (InFLevels query nearest levels))
+  pub few : nearest + length levels ≤ unwrap_or end query.bound + 1
   pub placed : (k v : ℕ) → Contains (level_at levels k) v → IsWithin query (nearest + k) v

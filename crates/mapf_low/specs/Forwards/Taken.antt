@@ -28,4 +28,4 @@ pub record AreTaken (g : Grid) (table : List (Option ℕ)) (start goal bound : �
 
 -- the same of a query
 abbrev pub AreTakenBy : Query → List (ℕ × ℕ) → Type 0
-AreTakenBy query states = AreTaken query.grid query.table query.start query.goal query.limit query.constraints states
+AreTakenBy query states = AreTaken query.grid query.table query.start query.goal query.bound query.constraints states

@@ -16,7 +16,7 @@ const FEW_PLACES: usize = 128;
 const MANY_PLACES: usize = 4_096;
 
 /// States, cells at time steps, that an agent can't be in, and how many more may join them. Each has one place, which its
-/// numbers tell, and takes it from the one that was there. An older one is then forgotten, and the search only turns back
+/// numbers tell, and takes it from the one that was there. An older one is then forgotten, and the search only goes back
 /// from it once more.
 #[derive(Drop)]
 pub(crate) struct DeadEnds {

@@ -10,7 +10,7 @@ use std::alloc::Global;
 use std::mem::swap;
 
 /// For each cell a time step before which the agent can't be there, under the constraints of the query; none, if it can't be
-/// there by the limit. The table of the query is not read.
+/// there by the bound. The table of the query is not read.
 ///
 /// Time step by time step the agent goes on from the cells that it may have reached to their neighbours. A cell that was reached
 /// counts as reached for good, though it may be forbidden later, so an entry may be too low.
@@ -21,7 +21,7 @@ pub(crate) fn earliest_arrivals(alloc: Global, query: &Query) -> Result<Table, N
     let mut frontier = Vec::new(alloc);
     let mut next = Vec::new(alloc);
     begin(query, &mut table, &mut frontier)?;
-    for time in 0..query.limit() {
+    for time in 0..query.bound() {
         if frontier.is_empty() {
             return Ok(table);
         }

@@ -17,7 +17,7 @@ pub(crate) fn time_at(constraint: Constraint, place: Cell) -> Option<u32>
 }
 
 /// The later of two times, where there is one.
-pub(crate) fn later(one: Option<u32>, other: Option<u32>) -> Option<u32>
+pub(crate) fn later_of(one: Option<u32>, other: Option<u32>) -> Option<u32>
     ensures { result ≡ later_of one other }
 {
     one.max(other)
@@ -33,11 +33,11 @@ pub(crate) fn is_past(last: Option<u32>, time: u32) -> bool
     }
 }
 
-/// Marks a time step, if it is at most the limit.
-fn mark(time: u32, limit: u32, marks: &mut Vec<bool>) -> Result<(), NoMemory>
-    ensures { OnOk result (Marks time limit marks.old.items marks.new.items) }
+/// Marks a time step, if it is at most the bound.
+fn mark(time: u32, bound: u32, marks: &mut Vec<bool>) -> Result<(), NoMemory>
+    ensures { OnOk result (Marks time bound marks.old.items marks.new.items) }
 {
-    if limit < time {
+    if bound < time {
         return Ok(());
     }
     let place = time as usize;
@@ -48,17 +48,17 @@ fn mark(time: u32, limit: u32, marks: &mut Vec<bool>) -> Result<(), NoMemory>
     Ok(())
 }
 
-/// A mark for each time step up to the limit of which there is a constraint.
+/// A mark for each time step up to the bound of which there is a constraint.
 pub(crate) fn busy_times(
     alloc: Global,
     constraints: &Constraints,
-    limit: u32,
+    bound: u32,
 ) -> Result<Vec<bool>, NoMemory>
-    ensures { IfOk result (λ marks. AreMarked constraints.now limit marks.items) }
+    ensures { IfOk result (λ marks. AreMarked constraints.now bound marks.items) }
 {
     let mut marks = Vec::new(alloc);
     for constraint in constraints.as_slice() {
-        mark(constraint.time(), limit, &mut marks)?;
+        mark(constraint.time(), bound, &mut marks)?;
     }
     Ok(marks)
 }

@@ -33,7 +33,7 @@ impl Mark {
     }
 
     /// Of a cell that was seen at this distance.
-    pub(crate) fn seen(distance: u32) -> Self
+    pub(crate) fn of_distance(distance: u32) -> Self
         requires { distance + 2 < 2 ^ 32 }
         ensures { result ≡ seen distance }
     {

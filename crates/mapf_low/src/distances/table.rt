@@ -51,6 +51,6 @@ impl Table {
         requires room { number + 2 < 2 ^ 32 }
         ensures { self.new ≡ slice_set self.old cell (Some number) }
     {
-        self.marks[cell.number() as usize] = Mark::seen(number);
+        self.marks[cell.number() as usize] = Mark::of_distance(number);
     }
 }

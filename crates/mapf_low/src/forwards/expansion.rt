@@ -28,7 +28,7 @@ fn generate(
     far: u32,
     level: &mut CellSet,
 ) -> Result<(), NoMemory>
-    requires { time ≤ query.now.limit + 1 }
+    requires { time ≤ query.now.bound + 1 }
     ensures { OnOk result (Grows (λ v. (to ≡ v) × Admits query.now time far from v) level.old level.new) }
 {
     if is_at(query, to, far) && query.allows(from, to, time) {
@@ -47,7 +47,7 @@ fn generate_all(
     far: u32,
     level: &mut CellSet,
 ) -> Result<(), NoMemory>
-    requires { time ≤ query.now.limit + 1 }
+    requires { time ≤ query.now.bound + 1 }
     ensures { OnOk result
         (Grows (λ v. Contains neighbours.now v × Admits query.now time far from v) level.old level.new) }
 {
@@ -62,7 +62,7 @@ fn generate_all(
 fn expand_within(query: &Query, sum: u32, from: Cell, level: &mut CellSet) -> Result<(), NoMemory>
     requires free { IsFree query.now.grid from }
     requires near { IsWithin query.now sum from }
-    requires sum { sum ≤ query.now.limit }
+    requires sum { sum ≤ query.now.bound }
     ensures { OnOk result (Grows (Leads query.now sum 0 from) level.old level.new) }
 {
     let near = query.entry(from).unwrap();
@@ -80,7 +80,7 @@ fn expand_within(query: &Query, sum: u32, from: Cell, level: &mut CellSet) -> Re
 pub(crate) fn expand_level(query: &Query, sum: u32, level: &mut CellSet) -> Result<(), NoMemory>
     requires posed { IsPosed query.now }
     requires placed { ArePlaced query.now sum level.old }
-    requires sum { sum ≤ query.now.limit }
+    requires sum { sum ≤ query.now.bound }
     ensures closes { OnOk result (Closes query.now sum level.old level.new) }
     ensures placed { OnOk result (ArePlaced query.now sum level.new) }
 {
@@ -104,7 +104,7 @@ fn expand_beyond(
 ) -> Result<(), NoMemory>
     requires free { IsFree query.now.grid from }
     requires near { IsWithin query.now sum from }
-    requires sum { sum ≤ query.now.limit }
+    requires sum { sum ≤ query.now.bound }
     requires small { sum ≤ most_bound }
     ensures next { OnOk result (Grows (Leads query.now sum 1 from) next.old next.new) }
     ensures after { OnOk result (Grows (Leads query.now sum 2 from) after.old after.new) }
@@ -129,7 +129,7 @@ pub(crate) fn fill_later_levels(
     after: &mut CellSet,
 ) -> Result<(), NoMemory>
     requires placed { ArePlaced query.now sum level.now }
-    requires sum { sum ≤ query.now.limit }
+    requires sum { sum ≤ query.now.bound }
     requires small { sum ≤ most_bound }
     ensures next { OnOk result (Grows (SomeLeads query.now sum 1 level.now) next.old next.new) }
     ensures after { OnOk result (Grows (SomeLeads query.now sum 2 level.now) after.old after.new) }

@@ -46,7 +46,7 @@ pub(crate) fn search(alloc: Global, query: &Query) -> Result<Searched, NoMemory>
     ensures posed { IsPosed query.now }
     ensures searched { IfOk result (λ s. IsSearched query.now s.nearest s.levels.items s.end) }
 {
-    let limit = query.limit();
+    let bound = query.bound();
     let start = query.start();
     let mut levels = Vec::new(alloc);
     if !query.is_usable(start, 0) {
@@ -58,7 +58,7 @@ pub(crate) fn search(alloc: Global, query: &Query) -> Result<Searched, NoMemory>
     let mut after = CellSet::new(alloc);
     now.make_room(first_room(nearest))?;
     now.add(start)?;
-    for sum in nearest..limit + 1 {
+    for sum in nearest..bound + 1 {
         expand_level(query, sum, &mut now)?;
         if query.can_end(&now, sum) {
             levels.push(now)?;

@@ -35,7 +35,7 @@ pub(crate) fn list_states(alloc: Global, query: &Query) -> Result<Vec<(Cell, u32
     ensures { IfOk result (λ states. AreTakenBy query.now states.items) }
 {
     let mut states = Vec::new(alloc);
-    if !query.may_end(query.limit()) {
+    if !query.may_end(query.bound()) {
         return Ok(states);
     }
     let (searched, _path) = find(alloc, query)?;

@@ -130,7 +130,7 @@ impl KnownPaths {
 
     /// Gives one agent of a plan another path: the one of this number. Only the pairs of that agent are gone through. Where
     /// memory runs out the plan is of no more use.
-    pub fn turn(
+    pub fn set_path(
         &mut self,
         plan: &mut KnownPlan,
         agent: usize,

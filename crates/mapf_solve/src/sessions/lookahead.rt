@@ -7,11 +7,11 @@ ghost use Rattle.mapf_low.specs.Lookup.{IfKnown};
 ghost use Rattle.mapf_tree.specs.SideQuery.{IsQueryOf};
 ghost use Rattle.mapf_solve.specs.Sessions.{IsGivenOf};
 
-use crate::rest::Rest;
 use crate::sessions::brands::OneProblem;
 use crate::sessions::child_stage::{ChildOfJob, ChildStage, Entry};
 use crate::sessions::desk::{Given, Slot};
 use crate::sessions::side_job::{SideJob, SideWork};
+use crate::sessions_alone::SessionsAlone;
 use mapf_board::{Left, Pair, Work};
 use mapf_grid::NoMemory;
 use mapf_low::Lookup;
@@ -30,7 +30,7 @@ pub(crate) struct Lookahead<'p, P: OneProblem> {
     /// The number of the next job.
     next: u64,
     /// How many sessions go on without workers.
-    rest: Rest,
+    alone: SessionsAlone,
     ghost is_of: { own_paths ≡ P.problem },
     ghost few: { workers ≤ MOST_WORKERS },
 }
@@ -44,7 +44,7 @@ impl<'p, P: OneProblem> Drop for Lookahead<'p, P> {
             entries: _,
             workers: _,
             next: _,
-            rest: _,
+            alone: _,
         } = self;
     }
 }
@@ -66,7 +66,7 @@ impl<'p, P: OneProblem> Lookahead<'p, P> {
             entries: Vec::new(alloc),
             workers,
             next,
-            rest: Rest::new(),
+            alone: SessionsAlone::new(),
         })
     }
 
@@ -151,7 +151,7 @@ impl<'p, P: OneProblem> Lookahead<'p, P> {
     {
         match given {
             Left::Answer(pair) => {
-                self.rest.count();
+                self.alone.count();
                 self.learn(pair);
             }
             Left::Job(job) => self.give_up(&job),
@@ -162,7 +162,7 @@ impl<'p, P: OneProblem> Lookahead<'p, P> {
     pub(crate) fn end_session(&mut self, left: Vec<(usize, Given<'p>)>, nodes: u64)
         requires { All (λ x. IsGivenOf P.problem x.1) left.items }
     {
-        self.rest.judge(nodes);
+        self.alone.judge(nodes);
         for (_slot, given) in left {
             match given {
                 Left::Answer(pair) => self.learn(pair),
@@ -196,12 +196,12 @@ impl<'p, P: OneProblem> Lookahead<'p, P> {
         }
     }
 
-    /// Whether workers rest in the session that begins.
-    pub(crate) fn rests(&self) -> bool {
-        self.rest.is_due()
+    /// Whether the session that begins goes on without workers.
+    pub(crate) fn is_alone(&self) -> bool {
+        self.alone.is_due()
     }
 
-    /// The children of the node whose turn it is, of which what was worked ahead is used.
+    /// The children of the node that is expanded, of which what was worked ahead is used.
     pub(crate) fn children(&mut self, node: &Node) -> Result<(Option<Node>, Option<Node>), NoMemory>
         requires { IsBranching P.problem node.now }
         ensures left { IfOk result (λ sides. IsChildOf P.problem node.now Side.Left sides.0) }
@@ -212,7 +212,7 @@ impl<'p, P: OneProblem> Lookahead<'p, P> {
         self.own_paths.children_from(node, left, right)
     }
 
-    /// The child on one side of the node whose turn it is, left before right, if it was worked ahead. What is known of it is
+    /// The child on one side of the node that is expanded, left before right, if it was worked ahead. What is known of it is
     /// remembered no longer.
     fn take(&mut self, node: &Node, side: Side) -> Lookup<Option<Node>>
         requires { IsBranching P.problem node.now }

@@ -144,7 +144,7 @@ fn session_at<
     (sessions, progress, owner, seats_of(live, crew))
 }
 
-/// One session: nodes are taken, and workers beside work out children of those that wait, unless they rest. How the search went
+/// One session: nodes are taken, and workers beside work out children of those that wait, unless it goes on alone. How the search went
 /// on, for as many nodes as a session takes.
 pub(crate) fn session<'p, P: OneProblem + Send + Sync, R: Threads + Sync, G: Gate, S: Supply>(
     means: &Means<'_, R, G, S>,

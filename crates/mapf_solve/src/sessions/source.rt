@@ -28,7 +28,7 @@ pub(crate) struct SessionSource<'p, 's, P: OneProblem, B: OneBoard, G> {
 }
 
 impl<'p, 's, P: OneProblem, B: OneBoard, G> SessionSource<'p, 's, P, B, G> {
-    /// The source of a session that begins with jobs for these nodes, unless workers rest. Where there is none, nothing is worked
+    /// The source of a session that begins with jobs for these nodes, unless it goes on alone. Where there is none, nothing is worked
     /// ahead in the session.
     pub(crate) fn begin(
         lookahead: Lookahead<'p, P>,
@@ -44,7 +44,7 @@ impl<'p, 's, P: OneProblem, B: OneBoard, G> SessionSource<'p, 's, P, B, G> {
             gate,
             looked: 0,
         };
-        if !source.lookahead.rests() {
+        if !source.lookahead.is_alone() {
             source.post_all(waiting);
         }
         if !source.desk.has_jobs() {

@@ -7,7 +7,7 @@ ghost use Rattle.mapf_tree.specs.Nodes.{IsSameSet, changed_plan, changed_sets};
 
 use crate::node::change::Change;
 use crate::node::current_paths::CurrentPaths;
-use crate::node::own_changes::OwnChanges;
+use crate::node::newest_changes::NewestChanges;
 use mapf_grid::NoMemory;
 use mapf_low::Constraints;
 use mapf_plan::{Path, Plan};
@@ -21,7 +21,7 @@ use std::sync::Arc;
 #[derive(Drop)]
 pub(crate) struct Chain {
     older: Arc<Vec<Arc<Change>>>,
-    own: OwnChanges,
+    newest: NewestChanges,
 }
 
 impl Model for Chain {
@@ -31,7 +31,7 @@ impl Model for Chain {
 
     ghost Value = { List Changed };
 
-    ghost view = { λ c. map arc_value c.older.value.items ++ c.own };
+    ghost view = { λ c. map arc_value c.older.value.items ++ c.newest };
 }
 
 impl Chain {
@@ -41,7 +41,7 @@ impl Chain {
     {
         Ok(Chain {
             older: Arc::new(alloc, Vec::new(alloc))?,
-            own: OwnChanges::none(),
+            newest: NewestChanges::none(),
         })
     }
 
@@ -54,7 +54,7 @@ impl Chain {
     pub(crate) fn len(&self) -> usize
         ensures { result ≡ length self.now }
     {
-        self.older.len() + self.own.as_slice().len()
+        self.older.len() + self.newest.as_slice().len()
     }
 
     /// What a turn changed, turns from 0.
@@ -67,7 +67,7 @@ impl Chain {
         if turn < older {
             &self.older[turn]
         } else {
-            &self.own.as_slice()[turn - older]
+            &self.newest.as_slice()[turn - older]
         }
     }
 
@@ -77,7 +77,7 @@ impl Chain {
     {
         Ok(Chain {
             older: Arc::try_clone(&self.older)?,
-            own: self.own.copy()?,
+            newest: self.newest.copy()?,
         })
     }
 
@@ -85,27 +85,27 @@ impl Chain {
     pub(crate) fn with(&self, alloc: Global, change: Arc<Change>) -> Result<Chain, NoMemory>
         ensures { IfOk result (λ chain. chain ≡ self.now ++ change.value ∷ []) }
     {
-        if self.own.is_full() {
+        if self.newest.is_full() {
             return Ok(Chain {
                 older: self.all(alloc)?,
-                own: OwnChanges::none().with(change)?,
+                newest: NewestChanges::none().with(change)?,
             });
         }
         Ok(Chain {
             older: Arc::try_clone(&self.older)?,
-            own: self.own.with(change)?,
+            newest: self.newest.with(change)?,
         })
     }
 
     /// All changes become one list that nodes share, if it has as many by itself as may be and memory suffices. So the chains
-    /// below it share one list, and neither makes its own.
+    /// below it share one list, and neither makes another one.
     pub(crate) fn share(&mut self)
         ensures { self.new ≡ self.old }
     {
-        if self.own.is_full() {
+        if self.newest.is_full() {
             if let Ok(all) = self.all(self.allocator()) {
                 self.older = all;
-                self.own = OwnChanges::none();
+                self.newest = NewestChanges::none();
             }
         }
     }
@@ -116,7 +116,7 @@ impl Chain {
     {
         let mut all = Vec::with_capacity(alloc, self.len())?;
         all.extend_with_clones(&self.older)?;
-        all.extend_with_clones(self.own.as_slice())?;
+        all.extend_with_clones(self.newest.as_slice())?;
         Ok(Arc::new(alloc, all)?)
     }
 

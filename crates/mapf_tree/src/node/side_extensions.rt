@@ -22,7 +22,7 @@ impl SideExtensions {
     }
 
     /// That of a side.
-    pub(crate) fn on(&self, side: Side) -> usize {
+    pub(crate) fn extension(&self, side: Side) -> usize {
         match side {
             Side::Left => self.left as usize,
             Side::Right => self.right as usize,
@@ -47,6 +47,6 @@ impl Node {
 
     /// The number that the extension for a side of its conflict may have among those that are known; nothing rests on it.
     pub(crate) fn extension_on(&self, side: Side) -> Option<usize> {
-        Some(self.body.extensions?.on(side))
+        Some(self.body.extensions?.extension(side))
     }
 }

@@ -4,7 +4,7 @@ ghost use Rattle.std.specs.Prelude.{◌≡◌, ◌↔◌, [], ◌∷◌, length,
 ghost use Rattle.mapf_tree.specs.Nodes.{node_key};
 ghost use Rattle.mapf_tree.specs.OpenList.{IsRising, IsPut, IsTaken};
 ghost use Rattle.mapf_tree.specs.Buckets.{EachLacksKey, IsFoundAt, IsEndOf, IsLeastTo, ComesFirst};
-ghost use Rattle.mapf_tree.specs.Buckets.{nodes_of, in_order, HaveOwnKeys};
+ghost use Rattle.mapf_tree.specs.Buckets.{nodes_of, in_order, HaveDistinctKeys};
 
 use super::queue::Queue;
 use crate::Node;
@@ -24,13 +24,13 @@ pub(crate) struct Bucket {
 impl Model for Bucket {
     ghost use Rattle.std.specs.Prelude.{List};
     ghost use Rattle.mapf_tree.specs.Nodes.{Node};
-    ghost use Rattle.mapf_tree.specs.Buckets.{nodes_of, in_order, HaveOwnKeys};
+    ghost use Rattle.mapf_tree.specs.Buckets.{nodes_of, in_order, HaveDistinctKeys};
 
     ghost Value = { List Node };
 
     ghost view = { λ b. in_order (nodes_of b.queues.items) };
 
-    ghost invariant = { λ b. HaveOwnKeys (nodes_of b.queues.items) };
+    ghost invariant = { λ b. HaveDistinctKeys (nodes_of b.queues.items) };
 }
 
 impl Bucket {
@@ -95,7 +95,7 @@ impl Bucket {
     /// The queues that have its nodes.
     pub(crate) fn queues(&self) -> &[Queue]
         ensures nodes { in_order (nodes_of result.now) ≡ self.now }
-        ensures own { HaveOwnKeys (nodes_of result.now) }
+        ensures distinct { HaveDistinctKeys (nodes_of result.now) }
     {
         self.queues.as_slice()
     }

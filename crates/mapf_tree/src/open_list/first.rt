@@ -74,13 +74,13 @@ struct WaitingNodes<'a> {
 impl<'a> Model for WaitingNodes<'a> {
     ghost use Rattle.std.specs.Prelude.{List, ◌++◌};
     ghost use Rattle.mapf_tree.specs.Nodes.{Node};
-    ghost use Rattle.mapf_tree.specs.Buckets.{nodes_of, in_order, beyond, HaveOwnKeys, HaveNodes};
+    ghost use Rattle.mapf_tree.specs.Buckets.{nodes_of, in_order, beyond, HaveDistinctKeys, HaveNodes};
 
     ghost Value = { List Node };
 
     ghost view = { λ w. beyond w.last (in_order (nodes_of w.queues.now)) ++ nodes_of w.later };
 
-    ghost invariant = { λ w. HaveOwnKeys (nodes_of w.queues.now) × HaveNodes w.later };
+    ghost invariant = { λ w. HaveDistinctKeys (nodes_of w.queues.now) × HaveNodes w.later };
 }
 
 impl<'a> WaitingNodes<'a> {

@@ -69,7 +69,7 @@ impl Queue {
         if self.is_before(node) {
             return None;
         }
-        let place = self.up_to(node.key()).checked_sub(1)?;
+        let place = self.count_up_to(node.key()).checked_sub(1)?;
         if self.nodes[place].key().is_before(node.key()) {
             return None;
         }
@@ -77,7 +77,7 @@ impl Queue {
     }
 
     /// How many nodes don't come behind this key.
-    fn up_to(&self, key: &Key) -> usize
+    fn count_up_to(&self, key: &Key) -> usize
         ensures { IsUpTo self.now (key_rank key.now) result }
     {
         self.nodes
@@ -98,7 +98,7 @@ impl Queue {
         ensures rising { IsRising self.now }
     {
         match last {
-            Some(last) => self.nodes.get(self.up_to(last.key())),
+            Some(last) => self.nodes.get(self.count_up_to(last.key())),
             None => self.nodes.front(),
         }
     }

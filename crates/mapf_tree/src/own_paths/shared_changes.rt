@@ -19,7 +19,7 @@ pub(crate) struct SharedChange {
 
 impl SharedChange {
     /// Whether it forbids this agent this, and gives it the path of this number.
-    fn is(&self, agent: usize, constraint: &Constraint, path: usize) -> bool
+    fn has(&self, agent: usize, constraint: &Constraint, path: usize) -> bool
         ensures agent { IsTrue result → self.now.change.value.agent ≡ agent }
         ensures constraint { IsTrue result → self.now.change.value.constraint ≡ constraint.now }
         ensures path { IsTrue result → self.now.path ≡ path }
@@ -44,7 +44,7 @@ pub(crate) fn shared_change<'a>(
         → IfSome result (λ c. slice_get paths path ≡ Some c.now.value.path) }
 {
     match changes.get(extension)? {
-        Some(shared) if shared.is(agent, constraint, path) => Some(&shared.change),
+        Some(shared) if shared.has(agent, constraint, path) => Some(&shared.change),
         _ => None,
     }
 }

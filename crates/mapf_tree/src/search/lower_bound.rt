@@ -32,7 +32,7 @@ impl<'p> Search<'p> {
 pub(crate) fn answer_at_limit(problem: &Problem, waiting: &OpenList, taken: u64) -> Option<Answer>
     requires { AllStand problem.now waiting.now }
     ensures limit { IsLimit problem.now.nodes }
-    ensures turn { MatchOption result (GoesUpTo problem.now waiting.now taken)
+    ensures goes_on { MatchOption result (GoesUpTo problem.now waiting.now taken)
         (IsGivenUp problem.now waiting.now taken) }
 {
     let nodes = problem.nodes()?;

@@ -91,17 +91,17 @@ fn root_paths(alloc: Global, problem: &Problem) -> Result<Option<Vec<Path>>, NoM
     Ok(Some(paths))
 }
 
-/// An agent's own path under these constraints, at a cost of at most the limit.
+/// An agent's own path under these constraints, at a cost of at most the bound.
 pub(crate) fn own_path(
     alloc: Global,
     problem: &Problem,
     agent: usize,
     constraints: &Constraints,
-    limit: u32,
+    bound: u32,
 ) -> Result<Option<Path>, NoMemory>
     requires agent { agent < length problem.now.inst.starts }
-    requires small { limit ≤ most_bound }
-    ensures { IfOk result (IsOwnWithin problem.now limit agent constraints.now) }
+    requires small { bound ≤ most_bound }
+    ensures { IfOk result (IsOwnWithin problem.now bound agent constraints.now) }
 {
     let instance = problem.instance();
     cheapest(
@@ -111,6 +111,6 @@ pub(crate) fn own_path(
         instance.start(agent),
         instance.goal(agent),
         constraints,
-        limit,
+        bound,
     )
 }

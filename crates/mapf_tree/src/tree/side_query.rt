@@ -20,7 +20,7 @@ use std::marker::Model;
 use std::sync::Arc;
 
 /// The own path that a side of a node's conflict asks for: that of an agent under these constraints, the newest of which is
-/// the side's, at a cost of at most the limit.
+/// the side's, at a cost of at most the bound.
 #[derive(Drop)]
 pub struct SideQuery<'p> {
     problem: &'p Problem,
@@ -28,7 +28,7 @@ pub struct SideQuery<'p> {
     agent: usize,
     constraint: Constraint,
     constraints: Constraints,
-    limit: u32,
+    bound: u32,
     /// What its path costs at least: what it costs at the node, where the agent is forbidden less.
     least: u32,
     /// The distances from the agent's start, if there is a table: by them its path is looked for backwards.
@@ -48,7 +48,7 @@ impl<'p> Model for SideQuery<'p> {
       agent = q.agent;
       constraint = q.constraint;
       constraints = q.constraints;
-      limit = q.limit;
+      bound = q.bound;
     } };
 
     ghost invariant = { λ q. IsAsked (record {
@@ -57,7 +57,7 @@ impl<'p> Model for SideQuery<'p> {
       agent = q.agent;
       constraint = q.constraint;
       constraints = q.constraints;
-      limit = q.limit;
+      bound = q.bound;
     }) q.least (option_map arc_value q.from_start) };
 }
 
@@ -86,7 +86,7 @@ impl<'p> SideQuery<'p> {
             agent,
             constraint,
             constraints: node.constraints(alloc, agent)?.and(constraint)?,
-            limit: left_for(problem, node, agent, least),
+            bound: bound_for(problem, node, agent, least),
             least,
             from_start: None,
         })
@@ -118,10 +118,10 @@ impl<'p> SideQuery<'p> {
     }
 
     /// What the path may cost at most.
-    pub(crate) fn limit(&self) -> u32
-        ensures { result ≡ self.now.limit }
+    pub(crate) fn bound(&self) -> u32
+        ensures { result ≡ self.now.bound }
     {
-        self.limit
+        self.bound
     }
 
     /// What the agent is forbidden, in an order of its own.
@@ -201,7 +201,7 @@ impl<'p> SideQuery<'p> {
 
 /// What the other agents' paths leave of the bound, where this agent's own path costs so much: with a dearer path of this agent
 /// than what they leave no plan is in the tree.
-pub(crate) fn left_for(problem: &Problem, node: &Node, agent: usize, own: u32) -> u32
+pub(crate) fn bound_for(problem: &Problem, node: &Node, agent: usize, own: u32) -> u32
     requires agent { agent < length node.now.plan }
     requires own { own ≡ cost (path_of node.now.plan agent) }
     requires within { plan_cost node.now.plan ≤ problem.now.bound }

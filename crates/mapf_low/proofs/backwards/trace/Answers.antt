@@ -16,7 +16,7 @@ smallest_before-requires c =
     record {
       free = subst (IsFree query.grid) at (placed_free query c.args.end c.loop-time.dead.states path c.loop-time.time c.loop-time.invariant.inside c.goal-goal.ensures.posed c.loop-time.invariant.placed);
       inside = subst (λ v. v < cells query.grid) at (placed_inside query c.args.end c.loop-time.dead.states path c.loop-time.time c.loop-time.invariant.inside c.goal-goal.ensures.posed c.loop-time.invariant.placed);
-      early = omega (arith, c.loop-time.invariant.inside, c.requires.end, c.goal-goal.ensures.posed.limit);
+      early = omega (arith, c.loop-time.invariant.inside, c.requires.end, c.goal-goal.ensures.posed.bound);
     }
 
 pub loop-time-preserved-in-Some : goal.loop-time-preserved-in-Some

@@ -19,7 +19,7 @@ loop-end-init c =
 pub returns-in-Known-Some : goal.returns-in-Known-Some
 returns-in-Known-Some c =
     let query = c.args.query.now in
-    let within : c.loop-end.end ≤ query.limit = omega arith in
+    let within : c.loop-end.end ≤ query.bound = omega arith in
     found_first query c.goal-goal.ensures.posed c.requires.earliest c.loop-end.end c.in-Known-Some.path within (c.may_end.ensures.0 c.if-may_end.true) c.loop-end.invariant.before
     (subst (λ a. IfKnown a (IsTraced query c.loop-end.end)) (c.in-Known-Some.is ∙ ap Known c.in-Known-Some.field-0-is) c.in_ok-trace.ensures.path)
 
@@ -44,5 +44,5 @@ loop-end-preserved c =
 pub returns : goal.returns
 returns c =
     let query = c.args.query.now in
-    let past : query.limit < c.loop-end.end = omega arith in
+    let past : query.bound < c.loop-end.end = omega arith in
     none_within query c.goal-goal.ensures.posed c.requires.earliest c.loop-end.end past c.loop-end.invariant.before

@@ -21,5 +21,5 @@ returns-else-is_usable c =
     none =
         elim c.else-is_usable.branch [
           | else-is_usable-via-then-is_usable+else-allows_step w ↦ (λ m. not_true w.allows_step.result (¬ Contains c.args.query.now.constraints (Edge c.args.from c.args.to c.args.time)) w.allows_step.ensures w.if-allows_step.false m.1)
-          | else-is_usable-via-else-is_usable w ↦ (λ m. not_true c.is_usable.result (IsUsable c.args.query.now c.args.query.now.limit c.args.time c.args.to) c.is_usable.ensures w.if-is_usable.false m.0)
+          | else-is_usable-via-else-is_usable w ↦ (λ m. not_true c.is_usable.result (IsUsable c.args.query.now c.args.query.now.bound c.args.time c.args.to) c.is_usable.ensures w.if-is_usable.false m.0)
         ]

@@ -9,12 +9,12 @@ use Rattle.mapf_low.proofs.by_layers.next_layer.Goals as goal
 
 pub loop-from-init : goal.loop-from-init
 loop-from-init c =
-    subst (Grows (FromSome (λ u v. IsUsable c.args.query.now c.args.query.now.limit c.args.time v × MayStep c.args.query.now c.args.time u v) []) []) (sym (c.in_ok-make_room.ensures ∙ c.new-reached.ensures))
-    (some_none (λ u v. IsUsable c.args.query.now c.args.query.now.limit c.args.time v × MayStep c.args.query.now c.args.time u v) c.cells-from-items.result.now [])
+    subst (Grows (FromSome (λ u v. IsUsable c.args.query.now c.args.query.now.bound c.args.time v × MayStep c.args.query.now c.args.time u v) []) []) (sym (c.in_ok-make_room.ensures ∙ c.new-reached.ensures))
+    (some_none (λ u v. IsUsable c.args.query.now c.args.query.now.bound c.args.time v × MayStep c.args.query.now c.args.time u v) c.cells-from-items.result.now [])
 
 pub loop-from-preserved : goal.loop-from-preserved
 loop-from-preserved c =
-    some_more (λ u v. IsUsable c.args.query.now c.args.query.now.limit c.args.time v × MayStep c.args.query.now c.args.time u v) c.cells-from-items.result.now [] c.loop-from.reached c.expand.new.reached
+    some_more (λ u v. IsUsable c.args.query.now c.args.query.now.bound c.args.time v × MayStep c.args.query.now c.args.time u v) c.cells-from-items.result.now [] c.loop-from.reached c.expand.new.reached
     c.loop-from.from-index c.from-item.result c.loop-from-test.true c.from-item.is c.loop-from.invariant c.in_ok-expand.ensures
 
 pub expand-requires : goal.expand-requires
@@ -26,4 +26,4 @@ returns c =
     let whole : c.loop-from.from-index ≡ length c.cells-from-items.result.now = omega arith in
     subst (λ xs. IsNextLayer c.args.query.now c.args.time xs c.loop-from.reached) c.cells-from-items.ensures.cells
     (next_is c.args.query.now c.args.time c.cells-from-items.result.now c.loop-from.reached
-    (some_all (λ u v. IsUsable c.args.query.now c.args.query.now.limit c.args.time v × MayStep c.args.query.now c.args.time u v) c.cells-from-items.result.now [] c.loop-from.reached c.loop-from.from-index whole c.loop-from.invariant))
+    (some_all (λ u v. IsUsable c.args.query.now c.args.query.now.bound c.args.time v × MayStep c.args.query.now c.args.time u v) c.cells-from-items.result.now [] c.loop-from.reached c.loop-from.from-index whole c.loop-from.invariant))

@@ -5,4 +5,4 @@ use Rattle.mapf_low.proofs.Growing.{FromSome}
 use Rattle.mapf_low.proofs.by_layers.next_layer.Given as goal
 
 abbrev pub invariant-loop-from : goal.invariant-loop-from
-invariant-loop-from l = Grows (FromSome (λ u v. IsUsable l.query l.query.limit l.time v × MayStep l.query l.time u v) (take l.from-index l.from-items)) [] l.reached
+invariant-loop-from l = Grows (FromSome (λ u v. IsUsable l.query l.query.bound l.time v × MayStep l.query l.time u v) (take l.from-index l.from-items)) [] l.reached

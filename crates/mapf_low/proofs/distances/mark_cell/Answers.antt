@@ -12,9 +12,9 @@ returns-clause-marks c =
     let cell = c.args.cell in
     let inside = unseen_inside marks cell c.requires.cell in
     let none : get_or (distances_of marks) cell None ≡ None = distance_at_mark marks cell ∙ ap distance_of c.requires.cell in
-    rw (c.in_ok-push.ensures.items, c.number.ensures, c.seen.ensures, distances_seen marks cell c.args.distance)
+    rw (c.in_ok-push.ensures.items, c.number.ensures, c.of_distance.ensures, distances_seen marks cell c.args.distance)
     (Marks-first cell c.args.distance (distances_of marks) c.args.next.now.items (omega (arith, length-map marks distance_of, inside)) none)
 
 pub returns-clause-unseen : goal.returns-clause-unseen
 returns-clause-unseen c = λ g tell.
-    rw (c.number.ensures, c.seen.ensures) (tell_seen g c.args.marks.now c.args.cell c.args.distance c.requires.cell tell)
+    rw (c.number.ensures, c.of_distance.ensures) (tell_seen g c.args.marks.now c.args.cell c.args.distance c.requires.cell tell)

@@ -12,8 +12,8 @@ returns-in_ok-mark_cell-clause-marks c =
     let left = c.args.left in
     let cell = c.args.cell in
     let free = ((c.requires.unseen cell).0 (c.is_unseen.ensures.0 c.if-is_unseen.true)).0 in
-    let right = some_from_test c.at_right.result (sym c.is_some.ensures ∙ c.if-is_some.true) in
-    let at = (c.at_right.ensures right.0).0 right.1 in
+    let right = some_from_test c.cell_at_right.result (sym c.is_some.ensures ∙ c.if-is_some.true) in
+    let at = (c.cell_at_right.ensures right.0).0 right.1 in
     let row : (left + 1) / grid.width ≡ left / grid.width = subst (λ k. k / grid.width ≡ left / grid.width) at.0 at.1 in
     Marks-same (◌≡◌ cell) (λ v. ((cell ≡ v) × ((left + 1) / grid.width ≡ left / grid.width)) × IsFree grid v)
     c.args.distance (distances_of c.args.marks.now) (distances_of c.mark_cell.new.marks) c.args.next.now.items c.mark_cell.new.next.items
@@ -29,7 +29,7 @@ returns-else-is_unseen-clause-marks c =
     not_unseen v e row u =
         elim c.else-is_unseen.branch [
           | else-is_unseen-via-then-is_unseen+else-is_some x ↦
-              (let yes : is_some x.at_right.result ≡ true = ap is_some ((x.at_right.ensures (c.args.left + 1)).1 (refl, row)) in
+              (let yes : is_some x.cell_at_right.result ≡ true = ap is_some ((x.cell_at_right.ensures (c.args.left + 1)).1 (refl, row)) in
               cc (x.is_some.ensures, x.if-is_some.false, yes))
           | else-is_unseen-via-else-is_unseen x ↦ cc (c.is_unseen.ensures.1 (subst (IsUnseen c.args.marks.now) (sym e) u), x.if-is_unseen.false)
         ]

@@ -17,7 +17,7 @@ returns-clause-marks c =
     Marks-four _ _ _ _ (IsFreeNeighbour grid cell) c.args.distance
     (distances_of c.args.marks.now) (distances_of c.mark_neighbour.new.marks) (distances_of c.mark_in_row.new.marks) (distances_of c.mark_in_row-2.new.marks) (distances_of c.mark_neighbour-2.new.marks)
     c.args.next.now.items c.mark_neighbour.new.next.items c.mark_in_row.new.next.items c.mark_in_row-2.new.next.items c.mark_neighbour-2.new.next.items
-    (neighbours-four grid cell c.above.result c.below.result c.above.ensures c.below.ensures)
+    (neighbours-four grid cell c.cell_above.result c.cell_below.result c.cell_above.ensures c.cell_below.ensures)
     (c.in_ok-mark_neighbour.ensures.marks grid c.requires.unseen)
     (Marks-same _ _ c.args.distance _ _ _ _
     (same_left grid cell left c.requires.sizes (λ v l. (λ e. omega (arith, sym c.of-at_left.ensures ∙ e, c.number.ensures, l), λ e. c.of-at_left.ensures ∙ omega (arith, c.number.ensures, e, l))))

@@ -8,7 +8,7 @@ ghost use Rattle.mapf_tree.specs.PathCache.{AreSetsOf, IsAt, IsOwnIn, IsFoundAt}
 use crate::own_paths::constraint_sets::CachedPath;
 use crate::own_paths::path_cache::PathCache;
 use crate::own_paths::path_cache::node_numbers::NodeNumbers;
-use crate::tree::side_query::left_for;
+use crate::tree::side_query::bound_for;
 use crate::tree::sides::{agent_of, constraint_of};
 use crate::{Node, Side, SideQuery};
 use mapf_grid::NoMemory;
@@ -68,8 +68,8 @@ impl<'p> PathCache<'p> {
             None => self.sets.guess_extension(set, &constraint)?,
         };
         let extended = self.sets.follow(extension, set, &constraint)?;
-        let limit = left_for(self.problem, node, agent, self.cost_at(node, at, agent));
-        let Lookup::Known(path) = self.find_own_path(extended, limit) else {
+        let bound = bound_for(self.problem, node, agent, self.cost_at(node, at, agent));
+        let Lookup::Known(path) = self.find_own_path(extended, bound) else {
             return None;
         };
         Some(SidePath { extension, path })
@@ -92,7 +92,7 @@ impl<'p> PathCache<'p> {
         let Some(set) = self.sets.find(query.agent(), query.constraints()) else {
             return Ok(None);
         };
-        let Lookup::Known(path) = self.find_own_path(set, query.limit()) else {
+        let Lookup::Known(path) = self.find_own_path(set, query.bound()) else {
             return Ok(None);
         };
         let extension = match sets {
@@ -104,29 +104,29 @@ impl<'p> PathCache<'p> {
 
     /// Whether the own path that a query asks for is known.
     pub(crate) fn has_answer_to(&self, query: &SideQuery<'p>) -> bool
-        requires { query.now.limit ≤ self.now.problem.bound }
+        requires { query.now.bound ≤ self.now.problem.bound }
     {
         match self.sets.find(query.agent(), query.constraints()) {
-            Some(set) => matches!(self.find_own_path(set, query.limit()), Lookup::Known(_)),
+            Some(set) => matches!(self.find_own_path(set, query.bound()), Lookup::Known(_)),
             None => false,
         }
     }
 
-    /// The number of the own path under a set, at a cost of at most the limit; none where there is no such path.
-    pub(crate) fn find_own_path(&self, set: usize, limit: u32) -> Lookup<Option<usize>>
-        requires { limit ≤ self.now.problem.bound }
-        ensures { IfKnown result (IsOwnIn self.now set limit) }
+    /// The number of the own path under a set, at a cost of at most the bound; none where there is no such path.
+    pub(crate) fn find_own_path(&self, set: usize, bound: u32) -> Lookup<Option<usize>>
+        requires { bound ≤ self.now.problem.bound }
+        ensures { IfKnown result (IsOwnIn self.now set bound) }
     {
         let Some(known) = self.sets.get(set) else {
             return Lookup::Unknown;
         };
         match known.own {
             CachedPath::Path(number) => match self.paths.path(number) {
-                Some(path) if path.cost() <= limit => Lookup::Known(Some(number)),
+                Some(path) if path.cost() <= bound => Lookup::Known(Some(number)),
                 Some(_) => Lookup::Known(None),
                 None => Lookup::Unknown,
             },
-            CachedPath::NoneWithin(least) if limit <= least => Lookup::Known(None),
+            CachedPath::NoneWithin(least) if bound <= least => Lookup::Known(None),
             CachedPath::NoneWithin(_) => Lookup::Unknown,
         }
     }

@@ -68,7 +68,7 @@ impl<'p> PathCache<'p> {
         }
     }
 
-    /// The number of a query's set. It is remembered now where it isn't known, or not what its own path is within the limit: a
+    /// The number of a query's set. It is remembered now where it isn't known, or not what its own path is within the bound: a
     /// set under which there is a path has one number, so that each change of a node leads to the set that it led to before.
     fn keep_set(
         &mut self,
@@ -82,24 +82,24 @@ impl<'p> PathCache<'p> {
         ensures set { IfOk result (λ set. HasSet self.new.sets set query.now.agent query.now.constraints) }
     {
         if let Some(set) = self.sets.find(query.agent(), query.constraints()) {
-            if matches!(self.find_own_path(set, query.limit()), Lookup::Known(_)) {
+            if matches!(self.find_own_path(set, query.bound()), Lookup::Known(_)) {
                 return Ok(set);
             }
         }
         let constraints = query.copy_constraints()?;
-        self.add(query.agent(), constraints, query.limit(), path)
+        self.add(query.agent(), constraints, query.bound(), path)
     }
 
-    /// Remembers an agent's set, and its own path at a cost of at most the limit. Answers the set's number.
+    /// Remembers an agent's set, and its own path at a cost of at most the bound. Answers the set's number.
     fn add(
         &mut self,
         agent: usize,
         constraints: Constraints,
-        limit: u32,
+        bound: u32,
         path: Option<&Arc<Path>>,
     ) -> Result<usize, NoMemory>
-        requires limit { limit ≤ self.old.problem.bound }
-        requires path { IsOwnWithin self.old.problem limit agent constraints (option_map (λ p. arc_value p.now) path) }
+        requires bound { bound ≤ self.old.problem.bound }
+        requires path { IsOwnWithin self.old.problem bound agent constraints (option_map (λ p. arc_value p.now) path) }
         ensures problem { self.new.problem ≡ self.old.problem }
         ensures kept { (n a : ℕ) (cs : List Constraint) → HasSet self.old.sets n a cs → HasSet self.new.sets n a cs }
         ensures set { IfOk result (λ set. HasSet self.new.sets set agent constraints) }
@@ -109,7 +109,7 @@ impl<'p> PathCache<'p> {
                 let number = self.paths.number(Arc::try_clone(path)?)?;
                 self.push(agent, constraints, CachedPath::Path(number))
             }
-            None => self.push(agent, constraints, CachedPath::NoneWithin(limit)),
+            None => self.push(agent, constraints, CachedPath::NoneWithin(bound)),
         }
     }
 

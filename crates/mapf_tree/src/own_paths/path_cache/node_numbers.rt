@@ -97,7 +97,7 @@ impl<'p> PathCache<'p> {
         if plan.numbers[agent] == number {
             return Ok(true);
         }
-        self.paths.turn(plan, agent, number)?;
+        self.paths.set_path(plan, agent, number)?;
         Ok(true)
     }
 

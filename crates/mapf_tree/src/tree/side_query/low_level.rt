@@ -27,7 +27,7 @@ impl<'p> SideQuery<'p> {
             Lookup::Known(found) => found,
             Lookup::Unknown => {
                 let agent = self.agent;
-                own_path(alloc, self.problem, agent, &self.constraints, self.limit)?
+                own_path(alloc, self.problem, agent, &self.constraints, self.bound)?
             }
         };
         match found {
@@ -50,7 +50,7 @@ impl<'p> SideQuery<'p> {
             instance.start(self.agent),
             instance.goal(self.agent),
             &self.constraints,
-            self.limit,
+            self.bound,
             &Backwards {
                 from_start,
                 least: self.least,

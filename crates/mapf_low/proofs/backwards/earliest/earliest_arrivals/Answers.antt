@@ -9,7 +9,7 @@ returns-then-is_empty c =
     earliest_early c.args.query.now c.loop-time.time c.loop-time.table c.loop-time.frontier.items c.loop-time.invariant.0 none
 
 pub advance-requires-clause-early : goal.advance-requires-clause-early
-advance-requires-clause-early c = omega (arith, c.limit-time-end.ensures.posed.limit, c.limit-time-end.ensures.limit)
+advance-requires-clause-early c = omega (arith, c.bound-time-end.ensures.posed.bound, c.bound-time-end.ensures.bound)
 
 pub loop-time-preserved : goal.loop-time-preserved
 loop-time-preserved c =

@@ -23,9 +23,9 @@ pub returns : goal.returns
 returns c =
     let whole : c.loop-more.more ≡ length c.in_ok-searched.searched.levels.items = omega arith in
     all_taken c.args.query.now c.in_ok-searched.searched.nearest c.in_ok-searched.searched.levels.items
-    c.in_ok-searched.searched.end c.in_ok-searched._path c.loop-more.states.items c.loop-more.more c.limit.ensures.posed c.requires c.in_ok-searched.ensures.searched c.in_ok-searched.ensures.path c.in_ok-searched.ensures.end whole c.loop-more.invariant
+    c.in_ok-searched.searched.end c.in_ok-searched._path c.loop-more.states.items c.loop-more.more c.bound.ensures.posed c.requires c.in_ok-searched.ensures.searched c.in_ok-searched.ensures.path c.in_ok-searched.ensures.end whole c.loop-more.invariant
 
 pub returns-then-not-may_end : goal.returns-then-not-may_end
 returns-then-not-may_end c =
     none_taken c.args.query.now c.new-states.result.items c.new-states.ensures.items
-    (λ p a. not_true c.may_end.result (MayEnd c.args.query.now c.limit.result) c.may_end.ensures c.if-not-may_end.true (subst (MayEnd c.args.query.now) (sym c.limit.ensures.limit) (ends_by_limit c.args.query.now p a)))
+    (λ p a. not_true c.may_end.result (MayEnd c.args.query.now c.bound.result) c.may_end.ensures c.if-not-may_end.true (subst (MayEnd c.args.query.now) (sym c.bound.ensures.bound) (ends_by_limit c.args.query.now p a)))

@@ -10,38 +10,38 @@ use Rattle.mapf_tree.proofs.search.Search.step.Goals.{In-Some, In-Ok-Branched, I
 
 -- a turn that branched: the search goes on, with one node more taken
 branched : (g : _) (c : In-Ok-Branched g) →
-    IsLawful c.self.inside.problem.now c.take_turn.new.waiting (Some (key_rank c.in-Ok-Branched.key)) c.self.inside.outcome
+    IsLawful c.self.inside.problem.now c.expand_least.new.waiting (Some (key_rank c.in-Ok-Branched.key)) c.self.inside.outcome
     × TakesOne c.self.inside.problem.now (option_map key_rank c.self.inside.last) (Some (key_rank c.in-Ok-Branched.key))
 branched g c =
-    branched_lawful c.self.inside.problem.now c.self.inside.waiting c.take_turn.new.waiting (option_map key_rank c.self.inside.last)
+    branched_lawful c.self.inside.problem.now c.self.inside.waiting c.expand_least.new.waiting (option_map key_rank c.self.inside.last)
     c.self.inside.outcome c.in-Ok-Branched.key c.self.invariant.0
     (ap (λ (s : Searched). s.outcome) c.self.view_is ∙ c.requires.open_yet)
-    (subst (λ t. TakesLeast c.self.inside.problem.now c.self.inside.waiting c.take_turn.new.waiting t) c.in-Ok-Branched.field-0-is c.in-Ok-Branched.ensures.turned)
+    (subst (λ t. TakesLeast c.self.inside.problem.now c.self.inside.waiting c.expand_least.new.waiting t) c.in-Ok-Branched.field-0-is c.in-Ok-Branched.ensures.expanded)
 
 -- a turn that took a solution: the search has its answer, with one node more taken
 solved : (g : _) (c : In-Ok-Solved g) →
-    IsLawful c.self.inside.problem.now c.take_turn.new.waiting (Some (key_rank c.in-Ok-Solved.key)) (Ok (Some (answer.Plan c.in-Ok-Solved.plan c.in-Ok-Solved.key.cost)))
+    IsLawful c.self.inside.problem.now c.expand_least.new.waiting (Some (key_rank c.in-Ok-Solved.key)) (Ok (Some (answer.Plan c.in-Ok-Solved.plan c.in-Ok-Solved.key.cost)))
     × TakesOne c.self.inside.problem.now (option_map key_rank c.self.inside.last) (Some (key_rank c.in-Ok-Solved.key))
 solved g c =
-    solved_lawful c.self.inside.problem.now c.self.inside.waiting c.take_turn.new.waiting (option_map key_rank c.self.inside.last)
+    solved_lawful c.self.inside.problem.now c.self.inside.waiting c.expand_least.new.waiting (option_map key_rank c.self.inside.last)
     c.self.inside.outcome c.self.inside.taken c.in-Ok-Solved.key c.in-Ok-Solved.plan c.self.invariant.0
-    (ap (λ (s : Searched). s.outcome) c.self.view_is ∙ c.requires.open_yet) c.self.invariant.1 c.in_default.ensures.limit c.in_default.ensures.turn
-    (subst (λ t. TakesLeast c.self.inside.problem.now c.self.inside.waiting c.take_turn.new.waiting t) c.in-Ok-Solved.field-0-is c.in-Ok-Solved.ensures.turned)
+    (ap (λ (s : Searched). s.outcome) c.self.view_is ∙ c.requires.open_yet) c.self.invariant.1 c.in_default.ensures.limit c.in_default.ensures.goes_on
+    (subst (λ t. TakesLeast c.self.inside.problem.now c.self.inside.waiting c.expand_least.new.waiting t) c.in-Ok-Solved.field-0-is c.in-Ok-Solved.ensures.expanded)
 
 -- a turn that found nothing: the search has its answer
 empty : (g : _) (c : In-Ok-Empty g) →
-    IsLawful c.self.inside.problem.now c.take_turn.new.waiting (option_map key_rank c.self.inside.last) (Ok (Some (answer.None c.self.inside.problem.now.bound)))
+    IsLawful c.self.inside.problem.now c.expand_least.new.waiting (option_map key_rank c.self.inside.last) (Ok (Some (answer.None c.self.inside.problem.now.bound)))
 empty g c =
-    empty_lawful c.self.inside.problem.now c.self.inside.waiting c.take_turn.new.waiting (option_map key_rank c.self.inside.last)
+    empty_lawful c.self.inside.problem.now c.self.inside.waiting c.expand_least.new.waiting (option_map key_rank c.self.inside.last)
     c.self.inside.outcome c.self.inside.taken c.self.invariant.0
     (ap (λ (s : Searched). s.outcome) c.self.view_is ∙ c.requires.open_yet) c.self.invariant.1 c.in_default.ensures.limit
-    (subst (λ t. TakesLeast c.self.inside.problem.now c.self.inside.waiting c.take_turn.new.waiting t) c.in-Ok-Empty.field-0-is c.in-Ok-Empty.ensures.turned)
+    (subst (λ t. TakesLeast c.self.inside.problem.now c.self.inside.waiting c.expand_least.new.waiting t) c.in-Ok-Empty.field-0-is c.in-Ok-Empty.ensures.expanded)
 
 -- the search gives up
 gave_up : (g : _) (c : In-Some g) → IsLawful c.self.inside.problem.now c.self.inside.waiting (option_map key_rank c.self.inside.last) (Ok (Some c.in-Some.given))
 gave_up g c =
     given_up_lawful c.self.inside.problem.now c.self.inside.waiting (option_map key_rank c.self.inside.last) c.self.inside.outcome c.self.inside.taken c.in-Some.given
-    c.self.invariant.0 (ap (λ (s : Searched). s.outcome) c.self.view_is ∙ c.requires.open_yet) c.self.invariant.1 c.in-Some.ensures.limit c.in-Some.ensures.turn
+    c.self.invariant.0 (ap (λ (s : Searched). s.outcome) c.self.view_is ∙ c.requires.open_yet) c.self.invariant.1 c.in-Some.ensures.limit c.in-Some.ensures.goes_on
 
 pub invariant_of-self : goal.invariant_of-self
 invariant_of-self g c = (gave_up g (goal.at.invariant_of-self g c).In-Some, c.self.invariant.1)
@@ -54,11 +54,11 @@ returns-in-Some-clause-step g c = ((_, refl), inl (ap (λ (s : Searched). s.last
 
 pub invariant_of-self-in-Ok-Branched : goal.invariant_of-self-in-Ok-Branched
 invariant_of-self-in-Ok-Branched g c =
-    let turned = branched g (goal.at.invariant_of-self-in-Ok-Branched g c).In-Ok-Branched in
-    let turn = subst (λ t. TakesLeast c.self.inside.problem.now c.self.inside.waiting c.take_turn.new.waiting t) c.in-Ok-Branched.field-0-is c.in-Ok-Branched.ensures.turned in (
-      turned.0,
-      counted_more c.self.inside.problem.now c.self.inside.waiting c.take_turn.new.waiting (option_map key_rank c.self.inside.last) (Some (key_rank c.in-Ok-Branched.key)) turn.0 c.self.inside.taken _
-          c.self.invariant.1 c.in_default.ensures.turn turn.1 turned.1 c.saturating_add-self-inside.ensures,
+    let expanded = branched g (goal.at.invariant_of-self-in-Ok-Branched g c).In-Ok-Branched in
+    let least = subst (λ t. TakesLeast c.self.inside.problem.now c.self.inside.waiting c.expand_least.new.waiting t) c.in-Ok-Branched.field-0-is c.in-Ok-Branched.ensures.expanded in (
+      expanded.0,
+      counted_more c.self.inside.problem.now c.self.inside.waiting c.expand_least.new.waiting (option_map key_rank c.self.inside.last) (Some (key_rank c.in-Ok-Branched.key)) least.0 c.self.inside.taken _
+          c.self.invariant.1 c.in_default.ensures.goes_on least.1 expanded.1 c.saturating_add-self-inside.ensures,
     )
 
 pub returns-in-Ok-Branched-clause-search : goal.returns-in-Ok-Branched-clause-search
@@ -73,11 +73,11 @@ returns-in-Ok-Branched-clause-step g c = (
 
 pub invariant_of-self-in-Ok-Solved : goal.invariant_of-self-in-Ok-Solved
 invariant_of-self-in-Ok-Solved g c =
-    let turned = solved g (goal.at.invariant_of-self-in-Ok-Solved g c).In-Ok-Solved in
-    let turn = subst (λ t. TakesLeast c.self.inside.problem.now c.self.inside.waiting c.take_turn.new.waiting t) c.in-Ok-Solved.field-0-is c.in-Ok-Solved.ensures.turned in (
-      turned.0,
-      counted_more c.self.inside.problem.now c.self.inside.waiting c.take_turn.new.waiting (option_map key_rank c.self.inside.last) (Some (key_rank c.in-Ok-Solved.key)) turn.0 c.self.inside.taken _
-          c.self.invariant.1 c.in_default.ensures.turn turn.1 turned.1 c.saturating_add-self-inside-in-Ok-Solved.ensures,
+    let expanded = solved g (goal.at.invariant_of-self-in-Ok-Solved g c).In-Ok-Solved in
+    let least = subst (λ t. TakesLeast c.self.inside.problem.now c.self.inside.waiting c.expand_least.new.waiting t) c.in-Ok-Solved.field-0-is c.in-Ok-Solved.ensures.expanded in (
+      expanded.0,
+      counted_more c.self.inside.problem.now c.self.inside.waiting c.expand_least.new.waiting (option_map key_rank c.self.inside.last) (Some (key_rank c.in-Ok-Solved.key)) least.0 c.self.inside.taken _
+          c.self.invariant.1 c.in_default.ensures.goes_on least.1 expanded.1 c.saturating_add-self-inside-in-Ok-Solved.ensures,
     )
 
 pub returns-in-Ok-Solved-clause-search : goal.returns-in-Ok-Solved-clause-search

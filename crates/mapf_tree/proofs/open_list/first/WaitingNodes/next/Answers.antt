@@ -16,16 +16,16 @@ returns-in_err-next c =
     )
 
 pub invariant_of-self-in_err-_number : goal.invariant_of-self-in_err-_number
-invariant_of-self-in_err-_number c = (c.queues-self-inside.ensures.own, behind_have _ _ _ c.in_ok-next.ensures.steps c.self.invariant.1)
+invariant_of-self-in_err-_number c = (c.queues-self-inside.ensures.distinct, behind_have _ _ _ c.in_ok-next.ensures.steps c.self.invariant.1)
 
 pub returns-in_err-_number : goal.returns-in_err-_number
 returns-in_err-_number c =
-    absurd (bucket_gives _ _ _ c.in_ok-next.ensures.steps c.self.invariant.1 (sym c.queues-self-inside.ensures.nodes ∙ none_left c.queues-self-inside.result.now c.queues-self-inside.ensures.own None c.in_err-_number.ensures))
+    absurd (bucket_gives _ _ _ c.in_ok-next.ensures.steps c.self.invariant.1 (sym c.queues-self-inside.ensures.nodes ∙ none_left c.queues-self-inside.result.now c.queues-self-inside.ensures.distinct None c.in_err-_number.ensures))
 
 pub invariant_of-self-2 : goal.invariant_of-self-2
-invariant_of-self-2 c = (c.queues-self-inside.ensures.own, behind_have _ _ _ c.in_ok-next.ensures.steps c.self.invariant.1)
+invariant_of-self-2 c = (c.queues-self-inside.ensures.distinct, behind_have _ _ _ c.in_ok-next.ensures.steps c.self.invariant.1)
 
 pub returns : goal.returns
 returns c =
     bucket_steps _ _ _ _ _ _ c.in_ok-_number.node.now (none_left c.self.inside.queues.now c.self.invariant.0 c.self.inside.last c.in_default.ensures) c.in_ok-next.ensures.steps
-    (sym c.queues-self-inside.ensures.nodes ∙ least_next c.queues-self-inside.result.now c.queues-self-inside.ensures.own None c.in_ok-_number._number c.in_ok-_number.node c.in_ok-_number.ensures) c.self.view_is
+    (sym c.queues-self-inside.ensures.nodes ∙ least_next c.queues-self-inside.result.now c.queues-self-inside.ensures.distinct None c.in_ok-_number._number c.in_ok-_number.node c.in_ok-_number.ensures) c.self.view_is

@@ -9,6 +9,6 @@ pub returns-in-Some-path : goal.returns-in-Some-path
 returns-in-Some-path c =
     let s = c.in-Some.known.now in let path = arc_value c.in-Some-path.path.now in
     let cache : PathCache = record { problem = c.self.inside.problem.now; sets = c.self.inside.sets; paths = c.self.inside.paths.paths } in
-    subst (λ (b : PathCache). c.args.limit ≤ b.problem.bound → IsOwnIn b c.args.set c.args.limit (Some c.in-Path.number)) c.self.view_is
-    (λ small. own_in_path cache c.args.set c.in-Path.number c.args.limit path s c.self.invariant.0 c.in-Some.ensures c.in-Path.is c.in-Some-path.ensures small
-    (omega (arith, c.if-cost-limit.true, c.cost.ensures.cost, ap cost c.deref.ensures))) c.requires
+    subst (λ (b : PathCache). c.args.bound ≤ b.problem.bound → IsOwnIn b c.args.set c.args.bound (Some c.in-Path.number)) c.self.view_is
+    (λ small. own_in_path cache c.args.set c.in-Path.number c.args.bound path s c.self.invariant.0 c.in-Some.ensures c.in-Path.is c.in-Some-path.ensures small
+    (omega (arith, c.if-cost-bound.true, c.cost.ensures.cost, ap cost c.deref.ensures))) c.requires

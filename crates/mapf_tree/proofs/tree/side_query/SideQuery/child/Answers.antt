@@ -21,7 +21,7 @@ with_change-requires-clause-small c =
     omega (
       arith,
       ap (λ (x : Changed). plan_cost (set c.args.node.now.plan x.agent x.path)) c.in_ok-change.ensures.ok,
-      within_bound c.self.inside.problem.now c.args.node.now.plan c.self.inside.agent c.self.inside.limit c.self.inside.constraints path inside
+      within_bound c.self.inside.problem.now c.args.node.now.plan c.self.inside.agent c.self.inside.bound c.self.inside.constraints path inside
           (subst (IsQueryOf c.args.node.now) (sym c.self.view_is) c.requires.query).leaves (subst (λ q. IsFoundBy q (Some path)) (sym c.self.view_is) found),
       c.self.invariant.bound,
     )

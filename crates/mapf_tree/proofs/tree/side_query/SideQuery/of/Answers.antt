@@ -11,7 +11,7 @@ returns-clause-query c = record {
   agent = λ on is. let same : c.unwrap-conflict.result ≡ on = cc in c.agent_of-agent.ensures ∙ ap (λ (x : Conflict). agent_on x c.args.side) same;
   constraint = λ on is. let same : c.unwrap-conflict.result ≡ on = cc in c.constraint_of-constraint.ensures ∙ ap (λ (x : Conflict). constraint_on x c.args.side) same;
   constraints = with_same c.constraint_of-constraint.result c.in_ok-constraints.field-0 (get_or c.args.node.now.constraints c.agent_of-agent.result []) c.in_ok-and.field-0 c.in_ok-constraints.ensures c.in_ok-and.ensures;
-  leaves = c.left_for.ensures.leaves;
+  leaves = c.bound_for.ensures.leaves;
 }
 
 pub invariant_of-result : goal.invariant_of-result
@@ -19,11 +19,11 @@ invariant_of-result c =
     let agents : length c.args.node.now.plan ≡ length c.args.problem.now.inst.starts = ap length c.requires.stands.plan ∙ c.requires.stands.member.plan.agents in
     let inside : c.agent_of-agent.result < length c.args.problem.now.inst.starts = search rules in record {
       inside = inside;
-      bound = c.left_for.ensures.bounded;
-      limit = c.left_for.ensures.small;
+      bound = c.bound_for.ensures.bounded;
+      small = c.bound_for.ensures.small;
       ends = search rules;
       from_start = search rules;
       costs = λ path allowed. subst (λ n. n ≤ cost path) (sym (c.cost-least.ensures.cost ∙ ap cost c.path.ensures))
-          (costs_no_less c.args.problem.now c.args.node.now c.requires.of c.agent_of-agent.result c.left_for.result c.constraint_of-constraint.result c.in_ok-and.field-0 c.requires.stands inside c.left_for.ensures.leaves
+          (costs_no_less c.args.problem.now c.args.node.now c.requires.of c.agent_of-agent.result c.bound_for.result c.constraint_of-constraint.result c.in_ok-and.field-0 c.requires.stands inside c.bound_for.ensures.leaves
           (with_same c.constraint_of-constraint.result c.in_ok-constraints.field-0 (get_or c.args.node.now.constraints c.agent_of-agent.result []) c.in_ok-and.field-0 c.in_ok-constraints.ensures c.in_ok-and.ensures) path allowed);
     }

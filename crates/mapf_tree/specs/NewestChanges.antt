@@ -2,8 +2,8 @@
 use Rattle.std.specs.Prelude.{List, [], map}
 use Rattle.std.specs.Arc.{arc_value}
 use Rattle.mapf_tree.specs.Nodes.{Changed}
-use Rattle.mapf_tree.specs.declared.node.own_changes.Held.{Held}
-use Rattle.mapf_tree.specs.declared.node.own_changes.Held.TheVariants.{Nothing, One, Two, Three}
+use Rattle.mapf_tree.specs.declared.node.newest_changes.Held.{Held}
+use Rattle.mapf_tree.specs.declared.node.newest_changes.Held.TheVariants.{Nothing, One, Two, Three}
 
 -- the changes, in their order
 abbrev pub held_in : Held → List Changed

@@ -2,7 +2,7 @@ use Rattle.std.proofs.Common.{sym, subst, set, Vec, Global}
 use Rattle.mapf_plan.specs.declared.pair_conflicts.PairConflict.{PairConflict}
 use Rattle.mapf_plan.specs.KnownPaths.{IsKnownPlan}
 use Rattle.mapf_plan.proofs.PlanNumbers.{plan_turned}
-use Rattle.mapf_plan.proofs.cache.known_paths.KnownPaths.turn.Goals as goal
+use Rattle.mapf_plan.proofs.cache.known_paths.KnownPaths.set_path.Goals as goal
 
 pub returns-clause-plan : goal.returns-clause-plan
 returns-clause-plan c =

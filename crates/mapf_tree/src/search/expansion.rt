@@ -8,9 +8,9 @@ use crate::{Children, Key, Node, OpenList, Problem};
 use mapf_grid::NoMemory;
 use mapf_plan::Plan;
 
-/// What came of a turn of a search.
+/// What came of the least waiting node.
 #[derive(Drop)]
-pub(crate) enum Turn {
+pub(crate) enum Expansion {
     /// No node waits.
     Empty,
     /// The taken node's plan has no conflict.
@@ -20,29 +20,29 @@ pub(crate) enum Turn {
 }
 
 /// Takes the least waiting node, and puts its children in if its plan has a conflict.
-pub(crate) fn take_turn<C: Children>(
+pub(crate) fn expand_least<C: Children>(
     problem: &Problem,
     waiting: &mut OpenList,
     children: &mut C,
-) -> Result<Turn, NoMemory>
+) -> Result<Expansion, NoMemory>
     requires serves { C.serves children.old problem.now }
     requires nodes { AllStand problem.now waiting.old }
     ensures serves { C.serves children.new problem.now }
-    ensures turned { IfOk result (TakesLeast problem.now waiting.old waiting.new) }
+    ensures expanded { IfOk result (TakesLeast problem.now waiting.old waiting.new) }
 {
     children.ahead(problem, waiting);
     let Some(node) = waiting.take_least() else {
-        return Ok(Turn::Empty);
+        return Ok(Expansion::Empty);
     };
     if node.conflict().is_none() {
         let (key, plan) = key_and_plan(node)?;
-        return Ok(Turn::Solved { key, plan });
+        return Ok(Expansion::Solved { key, plan });
     }
     let node = node.share_changes();
     let (left, right) = children.both(problem, &node)?;
     add_if_some(waiting, left)?;
     add_if_some(waiting, right)?;
-    Ok(Turn::Branched(node.into_key()))
+    Ok(Expansion::Branched(node.into_key()))
 }
 
 /// Adds a node, if there is one.

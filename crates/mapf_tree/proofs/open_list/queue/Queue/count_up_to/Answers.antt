@@ -3,7 +3,7 @@ use Rattle.std.proofs.lemmas.List.Sorted.{IsPartitionPoint-from_clause}
 use Rattle.mapf_tree.specs.Buckets.{IsUpTo}
 use Rattle.mapf_tree.specs.Tree.{key_rank}
 use Rattle.mapf_tree.proofs.Queues.{is_up_to, parted, up_to_point}
-use Rattle.mapf_tree.proofs.open_list.queue.Queue.up_to.Goals as goal
+use Rattle.mapf_tree.proofs.open_list.queue.Queue.count_up_to.Goals as goal
 
 pub returns : goal.returns
 returns c =

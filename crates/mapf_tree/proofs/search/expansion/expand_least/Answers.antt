@@ -3,15 +3,15 @@ use Rattle.mapf_plan.specs.declared.conflict.Conflict.{Conflict}
 use Rattle.mapf_tree.specs.Nodes.{Node}
 use Rattle.mapf_tree.specs.Family.{IsBranching}
 use Rattle.mapf_tree.proofs.Expansions.{solved_case, branches, branched_case, conflict_there, some_there, conflict_absent}
-use Rattle.mapf_tree.proofs.search.turn.take_turn.Goals as goal
+use Rattle.mapf_tree.proofs.search.expansion.expand_least.Goals as goal
 
-pub returns-then-is_none-clause-turned : goal.returns-then-is_none-clause-turned
-returns-then-is_none-clause-turned g c =
+pub returns-then-is_none-clause-expanded : goal.returns-then-is_none-clause-expanded
+returns-then-is_none-clause-expanded g c =
     solved_case c.args.problem.now c.args.waiting.now c.take_least.new.self c.in-Some.node c.in_ok-key.key c.in_ok-key.plan c.in-Some.ensures.taken c.in-Some.ensures.rising c.requires.nodes
     (conflict_absent _ _ _ c.is_none.ensures c.conflict.ensures.conflict c.if-is_none.true) c.in_ok-key.ensures.rank c.in_ok-key.ensures.plan c.in_ok-key.ensures.cost
 
-pub returns-clause-turned : goal.returns-clause-turned
-returns-clause-turned g c =
+pub returns-clause-expanded : goal.returns-clause-expanded
+returns-clause-expanded g c =
     let same : c.in-Some.node ≡ c.share_changes-node.result = sym c.share_changes-node.ensures in
     branched_case c.args.problem.now c.args.waiting.now c.take_least.new.self c.add_if_some.new.waiting c.add_if_some-2.new.waiting c.share_changes-node.result c.into_key.result c.in_ok-left.left c.in_ok-left.right
     (c.in-Some.ensures.taken ∙ ap (λ n. n ∷ c.take_least.new.self) same) c.in-Some.ensures.rising c.requires.nodes

@@ -1,5 +1,5 @@
 use Rattle.std.proofs.Common.{◌∙◌}
-use Rattle.mapf_c.proofs.solver.solved.Goals as goal
+use Rattle.mapf_c.proofs.solver.text_and_status.Goals as goal
 
 pub returns-clause-answered : goal.returns-clause-answered
 returns-clause-answered c =

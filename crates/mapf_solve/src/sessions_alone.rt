@@ -1,4 +1,4 @@
-//! When a search goes on without workers.
+//! Sessions without workers.
 
 /// Workers found too little to do where they worked out fewer children than one for so many nodes.
 const NODES_A_CHILD: u64 = 4;
@@ -14,7 +14,7 @@ const LONGEST: u64 = 64;
 /// A thread that looks for jobs slows the one that searches, on a machine whose processors share a core. No answer depends on who
 /// works a child out.
 #[derive(Drop)]
-pub(crate) struct Rest {
+pub(crate) struct SessionsAlone {
     /// How many sessions without workers are left.
     sessions: u64,
     /// How many there are to be next.
@@ -23,10 +23,10 @@ pub(crate) struct Rest {
     children: u64,
 }
 
-impl Rest {
+impl SessionsAlone {
     /// There are workers in the first session.
-    pub(crate) fn new() -> Rest {
-        Rest {
+    pub(crate) fn new() -> SessionsAlone {
+        SessionsAlone {
             sessions: 0,
             next: FIRST,
             children: 0,
@@ -38,7 +38,7 @@ impl Rest {
         self.children = self.children.saturating_add(1);
     }
 
-    /// Whether workers rest in the session that begins.
+    /// Whether the session that begins goes on without workers.
     pub(crate) fn is_due(&self) -> bool {
         self.sessions > 0
     }

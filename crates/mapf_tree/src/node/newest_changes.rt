@@ -1,4 +1,4 @@
-//! The changes of a chain that a node has by itself.
+//! The newest changes of a chain, which a node has by itself.
 
 ghost use Rattle.std.specs.Prelude.{◌≡◌, ◌<◌, ◌≤◌, ◌↔◌, [], ◌∷◌, ◌++◌, length, map, IfOk, IsTrue};
 ghost use Rattle.std.specs.Arc.{arc_value};
@@ -17,36 +17,36 @@ enum Held {
     Three([Arc<Change>; 3]),
 }
 
-/// The changes of a chain that a node has by itself, at most three.
+/// The newest changes of a chain, which a node has by itself, at most three.
 ///
 /// They stand in the node, so a node that waits takes no memory apart for them.
-pub(crate) struct OwnChanges {
+pub(crate) struct NewestChanges {
     held: Held,
 }
 
 // By hand, so that a proof about what holds one sees a call where it is dropped, and not its fields.
-impl Drop for OwnChanges {
+impl Drop for NewestChanges {
     fn drop(self) {
-        let OwnChanges { held: _ } = self;
+        let NewestChanges { held: _ } = self;
     }
 }
 
-impl Model for OwnChanges {
+impl Model for NewestChanges {
     ghost use Rattle.std.specs.Prelude.{List};
     ghost use Rattle.mapf_tree.specs.Nodes.{Changed};
-    ghost use Rattle.mapf_tree.specs.OwnChanges.{held_in};
+    ghost use Rattle.mapf_tree.specs.NewestChanges.{held_in};
 
     ghost Value = { List Changed };
 
     ghost view = { λ o. held_in o.held };
 }
 
-impl OwnChanges {
+impl NewestChanges {
     /// No change.
-    pub(crate) fn none() -> OwnChanges
+    pub(crate) fn none() -> NewestChanges
         ensures { result ≡ [] }
     {
-        OwnChanges {
+        NewestChanges {
             held: Held::Nothing,
         }
     }
@@ -71,9 +71,9 @@ impl OwnChanges {
     }
 
     /// The same changes, shared once more, and another one, for which there is room.
-    pub(crate) fn with(&self, change: Arc<Change>) -> Result<OwnChanges, NoMemory>
+    pub(crate) fn with(&self, change: Arc<Change>) -> Result<NewestChanges, NoMemory>
         requires { length self.now < 3 }
-        ensures { IfOk result (λ own. own ≡ self.now ++ change.value ∷ []) }
+        ensures { IfOk result (λ newest. newest ≡ self.now ++ change.value ∷ []) }
     {
         let held = match self.as_slice() {
             [] => Held::One([change]),
@@ -81,12 +81,12 @@ impl OwnChanges {
             [a, b] => Held::Three([Arc::try_clone(a)?, Arc::try_clone(b)?, change]),
             _ => unreachable!(),
         };
-        Ok(OwnChanges { held })
+        Ok(NewestChanges { held })
     }
 
     /// The same changes, shared once more.
-    pub(crate) fn copy(&self) -> Result<OwnChanges, NoMemory>
-        ensures { IfOk result (λ own. own ≡ self.now) }
+    pub(crate) fn copy(&self) -> Result<NewestChanges, NoMemory>
+        ensures { IfOk result (λ newest. newest ≡ self.now) }
     {
         let held = match &self.held {
             Held::Nothing => Held::Nothing,
@@ -96,6 +96,6 @@ impl OwnChanges {
                 Held::Three([Arc::try_clone(a)?, Arc::try_clone(b)?, Arc::try_clone(c)?])
             }
         };
-        Ok(OwnChanges { held })
+        Ok(NewestChanges { held })
     }
 }

@@ -8,7 +8,7 @@ use Rattle.mapf_low.proofs.Reading.{are_linked}
 use Rattle.mapf_low.proofs.Rising.{not_true}
 use Rattle.mapf_low.proofs.FirstArrival.{own, none_through, none_by_limit}
 use Rattle.mapf_low.proofs.by_layers.Layering.{AreLayers, layers_set}
-use Rattle.mapf_low.proofs.by_layers.by_layers.Goals as goal
+use Rattle.mapf_low.proofs.by_layers.search_by_layers.Goals as goal
 
 pub loop-time-init : goal.loop-time-init
 loop-time-init c =
@@ -47,9 +47,9 @@ reconstruct_path-requires c =
     let time = c.loop-time.time in
     let inside : time < length layers = omega arith in
     let here : c.index-layer.result.now ≡ layer_at layers time = c.index-layer.ensures ∙ get_or_default layers time c.index-layer.result.now [] inside in
-    let set = layers_set c.args.query.now layers c.limit-limit.ensures.posed c.requires c.loop-time.invariant.layers_are in
+    let set = layers_set c.args.query.now layers c.bound-bound.ensures.posed c.requires c.loop-time.invariant.layers_are in
     record {
-      linked = are_linked c.args.query.now c.args.query.now.limit (InLayers layers) (length layers) time set inside;
+      linked = are_linked c.args.query.now c.args.query.now.bound (InLayers layers) (length layers) time set inside;
       arrived = subst (λ layer. Contains layer c.args.query.now.goal) here (c.can_end.ensures.0 c.if-can_end.true).0;
       short = omega arith;
     }
@@ -60,15 +60,15 @@ next_layer-requires c =
     let time = c.loop-time.time in
     let inside : time < length layers = omega arith in
     let here : c.index-layer.result.now ≡ layer_at layers time = c.index-layer.ensures ∙ get_or_default layers time c.index-layer.result.now [] inside in
-    let set = layers_set c.args.query.now layers c.limit-limit.ensures.posed c.requires c.loop-time.invariant.layers_are in
-    λ v i. (are_linked c.args.query.now c.args.query.now.limit (InLayers layers) (length layers) time set inside).free time v (omega arith) (subst (λ layer. Contains layer v) here i)
+    let set = layers_set c.args.query.now layers c.bound-bound.ensures.posed c.requires c.loop-time.invariant.layers_are in
+    λ v i. (are_linked c.args.query.now c.args.query.now.bound (InLayers layers) (length layers) time set inside).free time v (omega arith) (subst (λ layer. Contains layer v) here i)
 
 pub returns : goal.returns
 returns c =
     let layers = c.loop-time.layers.items in
-    let set = layers_set c.args.query.now layers c.limit-limit.ensures.posed c.requires c.loop-time.invariant.layers_are in
-    let all : c.loop-time.time ≡ c.args.query.now.limit + 1 = omega arith in
-    none_by_limit c.args.query.now c.args.query.now.limit (InLayers layers) (length layers) set (omega arith)
+    let set = layers_set c.args.query.now layers c.bound-bound.ensures.posed c.requires c.loop-time.invariant.layers_are in
+    let all : c.loop-time.time ≡ c.args.query.now.bound + 1 = omega arith in
+    none_by_limit c.args.query.now c.args.query.now.bound (InLayers layers) (length layers) set (omega arith)
     (subst (λ n. (t : ℕ) → t < n → ¬ EndsAt c.args.query.now (InLayers layers) t) all c.loop-time.invariant.before)
 
 pub returns-then-is_empty : goal.returns-then-is_empty
@@ -78,8 +78,8 @@ returns-then-is_empty c =
     let inside : time < length layers = omega arith in
     let here : c.index-layer.result.now ≡ layer_at layers time = c.index-layer.ensures ∙ get_or_default layers time c.index-layer.result.now [] inside in
     let empty : layer_at layers time ≡ [] = sym here ∙ c.is_empty.ensures.0 c.if-is_empty.true in
-    let set = layers_set c.args.query.now layers c.limit-limit.ensures.posed c.requires c.loop-time.invariant.layers_are in
-    none_through c.args.query.now c.args.query.now.limit (InLayers layers) (length layers) set time inside c.loop-time.invariant.before
+    let set = layers_set c.args.query.now layers c.bound-bound.ensures.posed c.requires c.loop-time.invariant.layers_are in
+    none_through c.args.query.now c.args.query.now.bound (InLayers layers) (length layers) set time inside c.loop-time.invariant.before
     (subst (λ layer. (v : ℕ) → ¬ Contains layer v) (sym empty) (λ v i. omega (arith, i.1)))
 
 pub returns-then-can_end : goal.returns-then-can_end
@@ -89,8 +89,8 @@ returns-then-can_end c =
     let inside : time < length layers = omega arith in
     let here : c.index-layer.result.now ≡ layer_at layers time = c.index-layer.ensures ∙ get_or_default layers time c.index-layer.result.now [] inside in
     let met = c.can_end.ensures.0 c.if-can_end.true in
-    let set = layers_set c.args.query.now layers c.limit-limit.ensures.posed c.requires c.loop-time.invariant.layers_are in
-    own c.args.query.now c.args.query.now.limit (InLayers layers) (length layers) set time c.in_ok-reconstruct_path.field-0 inside (omega arith)
+    let set = layers_set c.args.query.now layers c.bound-bound.ensures.posed c.requires c.loop-time.invariant.layers_are in
+    own c.args.query.now c.args.query.now.bound (InLayers layers) (length layers) set time c.in_ok-reconstruct_path.field-0 inside (omega arith)
     c.in_ok-reconstruct_path.ensures
     (subst (λ layer. Contains layer c.args.query.now.goal) here met.0, met.1)
     c.loop-time.invariant.before
