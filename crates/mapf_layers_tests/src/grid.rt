@@ -1,3 +1,0 @@
-mod instances;
-mod maps;
-mod scenarios;

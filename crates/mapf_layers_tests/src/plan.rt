@@ -1,5 +1,0 @@
-mod devices;
-mod following;
-mod known;
-mod plans;
-mod texts;

@@ -1,4 +1,0 @@
-use Rattle.mapf_tests.proofs.tree.nodes.+write_nodes.Given as goal
-
-abbrev pub decreases-write_nodes : goal.decreases-write_nodes
-decreases-write_nodes g l = l.levels

@@ -1,0 +1,21 @@
+//! A use of each library: what it gives is printed.
+#![tactic(auto)]
+
+mod board;
+mod check;
+mod grid;
+mod low;
+mod plan;
+mod solve;
+
+use anyhow::Result;
+
+fn main(rt: HostRuntime) -> Result<()> {
+    let alloc = rt.alloc();
+    grid::show(&rt, alloc)?;
+    plan::show(&rt, alloc)?;
+    low::show(&rt, alloc)?;
+    check::show(&rt, alloc)?;
+    board::show(&rt, alloc)?;
+    solve::show(&rt, alloc)
+}
