@@ -1,0 +1,3 @@
+mod instances;
+mod maps;
+mod scenarios;

@@ -1,0 +1,5 @@
+mod devices;
+mod following;
+mod known;
+mod plans;
+mod texts;

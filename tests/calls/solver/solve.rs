@@ -1,0 +1,14 @@
+mod answers;
+mod changed_bytes;
+mod counting;
+mod devices;
+mod following;
+mod gates;
+mod kept;
+mod limits;
+mod node_limits;
+mod orders;
+mod refusals;
+mod refusing;
+mod schedules;
+mod watching;
