@@ -1,10 +1,12 @@
-//! Tests of maps, plans, own paths, the checker and the board, by their public calls.
+//! Tests of the libraries' public calls.
 #![tactic(auto)]
 
 #[cfg(test)]
 mod board;
 #[cfg(test)]
 mod check;
+#[cfg(test)]
+mod cli;
 #[cfg(test)]
 mod grid;
 #[cfg(test)]
@@ -13,3 +15,9 @@ mod low;
 mod numbers;
 #[cfg(test)]
 mod plan;
+#[cfg(test)]
+mod solve;
+#[cfg(test)]
+mod tree;
+#[cfg(test)]
+mod worked;
