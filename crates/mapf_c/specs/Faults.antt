@@ -1,6 +1,6 @@
 -- Why a call has no answer, and the status for it.
 use Rattle.std.specs.Prelude.{◌≡◌, ℕ, ◌≤◌, ◌⊎◌, List, length}
-use Rattle.mapf_plan.specs.Files.{limit}
+use Rattle.mapf_plan.specs.declared.device.files.TheConstants.{MOST_BYTES}
 use Rattle.mapf_plan.specs.declared.device.fault.DeviceFault.TheVariants as device
 use Rattle.mapf_plan.specs.declared.text.fault.TextFault.TheVariants as text_fault
 use Rattle.mapf_solve.specs.declared.refusal.Refusal.TheVariants as refusal
@@ -28,4 +28,4 @@ IsStatusFor named status = (status ≡ status_of named) ⊎ (status ≡ no_memor
 
 -- so many bytes are read as a file
 abbrev pub IsRead : List ℕ → Type 0
-IsRead bytes = length bytes ≤ limit
+IsRead bytes = length bytes ≤ MOST_BYTES

@@ -4,7 +4,8 @@ use Rattle.std.proofs.lemmas.Option.{same_Some, get_or_from_slice_get}
 use Rattle.std.proofs.lemmas.Nat.{div-mul-add, mod-mul-add}
 use Rattle.mapf_grid.specs.Grid.{Grid}
 use Rattle.mapf_grid.specs.Least.{Precedes, NoneBefore}
-use Rattle.mapf_grid.specs.Instance.{most_agents, cell_at, IsFreePlace, IsSizeOf, OfRow, HasInstanceFault, IsInstanceFault, instance_fault_rank}
+use Rattle.mapf_grid.specs.Instance.{cell_at, IsFreePlace, IsSizeOf, OfRow, HasInstanceFault, IsInstanceFault, instance_fault_rank}
+use Rattle.mapf_grid.specs.declared.instance.TheConstants.{MOST_AGENTS}
 use Rattle.mapf_grid.specs.NewAgent.{IsNewPlace, IsFirstAt, HasAgentFault}
 use Rattle.mapf_grid.specs.declared.scenario.Row.{Row}
 use Rattle.mapf_grid.specs.declared.fault.InstanceFault.{InstanceFault}
@@ -96,7 +97,7 @@ row_before q r j s high p = elim p [
 ]
 
 -- row r, behind rows that are agents
-module _ {g : Grid} {rows : List Row} {r : ℕ} {starts goals : List ℕ} {row : Row} (n : ℕ) (few : n ≤ most_agents) (there : n ≤ length rows) (in_n : r < n) (are : AreAgents g rows r starts goals) (here : slice_get rows r ≡ Some row) where
+module _ {g : Grid} {rows : List Row} {r : ℕ} {starts goals : List ℕ} {row : Row} (n : ℕ) (few : n ≤ MOST_AGENTS) (there : n ≤ length rows) (in_n : r < n) (are : AreAgents g rows r starts goals) (here : slice_get rows r ≡ Some row) where
   abbrev Has : InstanceFault → Type 0
   Has = HasInstanceFault g rows n
 

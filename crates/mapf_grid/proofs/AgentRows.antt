@@ -4,7 +4,8 @@ use Rattle.std.proofs.lemmas.Bool.{cases_lt}
 use Rattle.std.proofs.lemmas.List.{get_or_append_left, get_or_push}
 use Rattle.std.proofs.lemmas.Option.{none-some, same_Some}
 use Rattle.mapf_grid.specs.Grid.{Grid}
-use Rattle.mapf_grid.specs.Instance.{most_agents, IsDistinct, IsAgent, IsInstance}
+use Rattle.mapf_grid.specs.Instance.{IsDistinct, IsAgent, IsInstance}
+use Rattle.mapf_grid.specs.declared.instance.TheConstants.{MOST_AGENTS}
 use Rattle.mapf_grid.specs.NewAgent.{IsNewAgent}
 use Rattle.mapf_grid.specs.declared.scenario.Row.{Row}
 
@@ -79,7 +80,7 @@ AreAgents-more {g} {rows} {n} {starts} {goals} row start goal are here new =
     }
 
 -- agents for all n rows are an instance
-pub IsInstance-all : {g : Grid} {rows : List Row} {n : ℕ} {starts goals : List ℕ} → AreAgents g rows n starts goals → 0 < n → n ≤ most_agents → n ≤ length rows → IsInstance g rows n (record { grid = g; starts = starts; goals = goals })
+pub IsInstance-all : {g : Grid} {rows : List Row} {n : ℕ} {starts goals : List ℕ} → AreAgents g rows n starts goals → 0 < n → n ≤ MOST_AGENTS → n ≤ length rows → IsInstance g rows n (record { grid = g; starts = starts; goals = goals })
 IsInstance-all are some few there = record {
   grid = refl;
   some = some;

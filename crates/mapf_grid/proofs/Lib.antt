@@ -22,7 +22,7 @@ mod RowNames
 mod MapFaultRanks
 mod ScenFaultRanks
 mod InstanceFaultRanks
-pub mod RowStarts
-pub mod Unique
+mod RowStarts
+mod Unique
 pub mod DigitWords
 pub mod Asked

@@ -1,6 +1,7 @@
 -- Grids with four sides to a cell (Stern et al. 2019; the octile maps of MovingAI's benchmarks, without the corners).
 -- The cell in column x of row y has the number y * width + x.
 use Rattle.std.specs.Prelude.{◌≡◌, ℕ, ◌+◌, ◌*◌, ◌/◌, ◌<◌, ◌≤◌, ◌⊎◌, List, Bool, true, Some, length, slice_get}
+use Rattle.mapf_grid.specs.declared.map.header.TheConstants.{MOST_SIDE}
 
 -- how wide and how high the map is, and of each cell in order of number whether it is free
 pub record Grid : Type 0 where
@@ -27,14 +28,10 @@ IsBeside g u v = IsRightOrBelow g u v ⊎ IsRightOrBelow g v u
 abbrev pub Next : Grid → ℕ → ℕ → Type 0
 Next g u v = IsFree g u × IsFree g v × ((u ≡ v) ⊎ IsBeside g u v)
 
--- the greatest width and the greatest height of a map
-abbrev pub most_side : ℕ
-most_side = 2048
-
 -- the sizes that a map of this project has
 pub record HasSizes (g : Grid) : Type 0 where
   pub some_width : 0 < g.width
-  pub small_width : g.width ≤ most_side
+  pub small_width : g.width ≤ MOST_SIDE
   pub some_height : 0 < g.height
-  pub small_height : g.height ≤ most_side
+  pub small_height : g.height ≤ MOST_SIDE
   pub each_cell : length g.free ≡ cells g

@@ -6,16 +6,13 @@ use Rattle.mapf_grid.specs.Least.{IsLeast}
 use Rattle.mapf_grid.specs.declared.scenario.Row.{Row}
 use Rattle.mapf_grid.specs.declared.fault.InstanceFault.{InstanceFault}
 use Rattle.mapf_grid.specs.declared.fault.InstanceFault.TheVariants.{AgentCount, TooFewRows, WrongSize, StartNotFree, GoalNotFree, SharedStart, SharedGoal, NoMemory}
+use Rattle.mapf_grid.specs.declared.instance.TheConstants.{MOST_AGENTS}
 
 -- a grid, and each agent's start and goal, agent 0 first
 pub record Instance : Type 0 where
   pub grid : Grid
   pub starts : List ℕ
   pub goals : List ℕ
-
--- the greatest number of agents
-abbrev pub most_agents : ℕ
-most_agents = 1000
 
 -- the cell in column x of row y
 abbrev pub cell_at : Grid → ℕ → ℕ → ℕ
@@ -43,7 +40,7 @@ pub record IsAgent (inst : Instance) (i : ℕ) (row : Row) : Type 0 where
 pub record IsInstance (g : Grid) (rows : List Row) (n : ℕ) (inst : Instance) : Type 0 where
   pub grid : inst.grid ≡ g
   pub some : 0 < n
-  pub few : n ≤ most_agents
+  pub few : n ≤ MOST_AGENTS
   pub there : n ≤ length rows
   pub starts : length inst.starts ≡ n
   pub goals : length inst.goals ≡ n
@@ -57,7 +54,7 @@ OfRow rows n r P = (row : Row) × (r < n) × (slice_get rows r ≡ Some row) × 
 
 -- when the first n rows have a fault; they may have several
 abbrev pub HasInstanceFault : Grid → List Row → ℕ → InstanceFault → Type 0
-HasInstanceFault g rows n AgentCount = (n ≡ 0) ⊎ (most_agents < n)
+HasInstanceFault g rows n AgentCount = (n ≡ 0) ⊎ (MOST_AGENTS < n)
 HasInstanceFault g rows n (TooFewRows there) = (there ≡ length rows) × (there < n)
 HasInstanceFault g rows n (WrongSize r) = OfRow rows n r (λ row. ¬ IsSizeOf g row)
 HasInstanceFault g rows n (StartNotFree r) = OfRow rows n r (λ row. ¬ IsFreePlace g row.start_x row.start_y)

@@ -2,7 +2,8 @@
 -- Line 1 is `type octile`, line 2 `height` and a number, line 3 `width` and a number, line 4 `map`;
 -- then come the rows, and after them blank lines alone.
 use Rattle.std.specs.Prelude.{◌≡◌, ◌≢◌, ℕ, ◌+◌, ◌-◌, ◌*◌, ◌<◌, ◌≤◌, ◌⊎◌, Bool, ◌||◌, true, false, ◌==◌, List, [], ◌∷◌, length, slice_get, slice_index, codes, Some}
-use Rattle.mapf_grid.specs.Grid.{Grid, most_side, HasSizes}
+use Rattle.mapf_grid.specs.Grid.{Grid, HasSizes}
+use Rattle.mapf_grid.specs.declared.map.header.TheConstants.{MOST_SIDE}
 use Rattle.mapf_grid.specs.Least.{IsLeast}
 use Rattle.mapf_grid.specs.Lines.{line_at, words, is_blank_line, number_of}
 use Rattle.mapf_grid.specs.declared.fault.MapFault.{MapFault}
@@ -60,7 +61,7 @@ HasMapFault lines (BadCell k column byte) =
 HasMapFault lines (TextAfterRows k) =
     (h : ℕ) × HasSize (codes "height") (line_at lines 2) h × (4 + h < k) × (is_blank_line (line_at lines k) ≡ false)
 HasMapFault lines (TooLarge k) =
-    (n : ℕ) × (most_side < n)
+    (n : ℕ) × (MOST_SIDE < n)
     × (((k ≡ 2) × HasSize (codes "height") (line_at lines 2) n) ⊎ ((k ≡ 3) × HasSize (codes "width") (line_at lines 3) n))
 HasMapFault lines NoMemory = ⊥
 

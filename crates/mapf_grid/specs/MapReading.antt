@@ -1,6 +1,6 @@
 -- How far a map file is read: what its reader knows between two lines.
 use Rattle.std.specs.Prelude.{◌≡◌, ◌≢◌, ℕ, ◌+◌, ◌-◌, ◌<◌, ◌≤◌, true, false, List, [], ◌∷◌, length, drop, slice_get, slice_index, codes, Some}
-use Rattle.mapf_grid.specs.Grid.{most_side}
+use Rattle.mapf_grid.specs.declared.map.header.TheConstants.{MOST_SIDE}
 use Rattle.mapf_grid.specs.Least.{NoneBefore}
 use Rattle.mapf_grid.specs.Lines.{lines_of, line_at, words}
 use Rattle.mapf_grid.specs.MapFile.{HasSize, HasMapFault, map_fault_rank, is_cell}
@@ -19,9 +19,9 @@ pub record IsHeader (lines : List (List ℕ)) (height width : ℕ) : Type 0 wher
   pub width_line : HasSize (codes "width") (line_at lines 3) width
   pub map_line : words (line_at lines 4) ≡ codes "map" ∷ []
   pub some_height : 0 < height
-  pub small_height : height ≤ most_side
+  pub small_height : height ≤ MOST_SIDE
   pub some_width : 0 < width
-  pub small_width : width ≤ most_side
+  pub small_width : width ≤ MOST_SIDE
 
 -- the first n bytes of a row, or all if it has fewer, are cells
 abbrev pub AreCellBytes : List ℕ → ℕ → Type 0

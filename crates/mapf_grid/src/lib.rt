@@ -19,5 +19,5 @@ pub use digits::decimal_value;
 pub use fault::{InstanceFault, MapFault, NoMemory, ScenFault};
 pub use files::{FilesFault, instance_of};
 pub use instance::{Instance, MOST_AGENTS};
-pub use map::Map;
+pub use map::{MOST_SIDE, Map};
 pub use scenario::{Row, Scenario};

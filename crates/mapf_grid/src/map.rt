@@ -10,6 +10,7 @@ mod steps;
 
 use crate::Cell;
 use crate::map::row_starts::RowStarts;
+pub use header::MOST_SIDE;
 use smallvec::SmallVec;
 use std::marker::Model;
 

@@ -20,5 +20,5 @@ may_end_past query t None h p = refl
 may_end_past query t (Some m) h p = ⊎_elim (λ l. lt-ltb m t l) (λ l. absurd (p m l h.0)) (cases_lt m t)
 
 -- a path within the bound ends when nothing forbids the goal any more
-pub ends_by_limit : (query : Query) (p : List ℕ) → IsAllowed query.grid query.start query.goal query.bound query.constraints p → MayEnd query query.bound
-ends_by_limit query p a s l i = obeys_each query.constraints p a.obeys (Vertex query.goal s) i (at_past p s (omega (arith, l, a.within)) ∙ a.path.ends)
+pub ends_by_bound : (query : Query) (p : List ℕ) → IsAllowed query.grid query.start query.goal query.bound query.constraints p → MayEnd query query.bound
+ends_by_bound query p a s l i = obeys_each query.constraints p a.obeys (Vertex query.goal s) i (at_past p s (omega (arith, l, a.within)) ∙ a.path.ends)

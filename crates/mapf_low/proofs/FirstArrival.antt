@@ -71,5 +71,5 @@ module _ (query : Query) (bound : ℕ) (At : ℕ → ℕ → Type 0) (count : �
   none_through end long first empty p a = empty (at p end) (reached p a end (no_cheaper query bound At count covering end first (omega (arith, long)) p a) long)
 
   -- where nothing arrives by the bound, no path is allowed
-  pub none_by_limit : bound < count → ((t : ℕ) → t < bound + 1 → ¬ EndsAt query At t) → (p : List ℕ) → ¬ Allowed p
-  none_by_limit = none_arrives query bound At count covering
+  pub none_by_bound : bound < count → ((t : ℕ) → t < bound + 1 → ¬ EndsAt query At t) → (p : List ℕ) → ¬ Allowed p
+  none_by_bound = none_arrives query bound At count covering

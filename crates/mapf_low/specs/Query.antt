@@ -9,7 +9,7 @@ use Rattle.mapf_low.specs.OwnPath.{IsOwnPath}
 use Rattle.mapf_low.specs.Kept.{HasTwoEnds}
 use Rattle.mapf_low.specs.Times.{AreMarked}
 use Rattle.mapf_low.specs.Walk.{AreDistances}
-use Rattle.mapf_plan.specs.Plan.{most_bound}
+use Rattle.mapf_plan.specs.declared.answer.TheConstants.{MOST_BOUND}
 
 -- one agent's own path on a map from its start to its goal, under constraints, at a cost of at most the bound
 pub record Query : Type 0 where
@@ -30,7 +30,7 @@ pub record IsPosed (query : Query) : Type 0 where
   pub start : IsFree query.grid query.start
   pub goal : IsFree query.grid query.goal
   pub ends : All HasTwoEnds query.constraints
-  pub bound : query.bound ≤ most_bound
+  pub bound : query.bound ≤ MOST_BOUND
 
 -- from this time on nothing forbids the goal
 abbrev pub MayEnd : Query → ℕ → Type 0

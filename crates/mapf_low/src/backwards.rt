@@ -8,7 +8,7 @@ ghost use Rattle.mapf_low.specs.OwnPath.{IsOwnPath};
 ghost use Rattle.mapf_low.specs.Query.{IsFound};
 ghost use Rattle.mapf_low.specs.Walk.{AreDistances};
 ghost use Rattle.mapf_plan.specs.Path.{cost};
-ghost use Rattle.mapf_plan.specs.Plan.{most_bound};
+ghost use Rattle.mapf_plan.specs.declared.answer.TheConstants.{MOST_BOUND};
 
 pub(crate) mod dead_ends;
 mod earliest;
@@ -143,7 +143,7 @@ pub fn cheapest_backwards(
     requires goal { IsFree map.now goal }
     requires from_start { AreDistances map.now start by.now.from_start.now }
     requires least { (p : List ℕ) → IsAllowed map.now start goal bound constraints.now p → by.now.least ≤ cost p }
-    requires bound { bound ≤ most_bound }
+    requires bound { bound ≤ MOST_BOUND }
     ensures { IfOk result (λ answer. IfKnown answer (λ found. MatchOption found
         ((p : List ℕ) → ¬ IsAllowed map.now start goal bound constraints.now p)
         (IsOwnPath map.now start goal bound constraints.now))) }

@@ -32,7 +32,8 @@ fn generate(
 fn expand(query: &Query, from: Cell, time: u32, reached: &mut CellSet) -> Result<(), NoMemory>
     requires { IsFree query.now.grid from }
     ensures { OnOk result
-        (Grows (λ v. IsUsable query.now query.now.bound time v × MayStep query.now time from v) reached.old reached.new) }
+        (Grows (λ v. IsUsable query.now query.now.bound time v × MayStep query.now time from v)
+        reached.old reached.new) }
 {
     generate(query, from, from, time, reached)?;
     for to in query.neighbours(from).as_slice() {

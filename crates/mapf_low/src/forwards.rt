@@ -9,7 +9,7 @@ ghost use Rattle.mapf_low.specs.Forwards.FLevels.{IsSearched, InFLevels};
 ghost use Rattle.mapf_low.specs.Reached.{AreLinked, IsReconstructed};
 ghost use Rattle.mapf_low.specs.Constraints.{IsAllowed};
 ghost use Rattle.mapf_low.specs.OwnPath.{IsOwnPath};
-ghost use Rattle.mapf_plan.specs.Plan.{most_bound};
+ghost use Rattle.mapf_plan.specs.declared.answer.TheConstants.{MOST_BOUND};
 
 mod expansion;
 mod searched;
@@ -48,7 +48,7 @@ fn is_chain(query: &Query, sum: u32, level: &CellSet) -> bool
 fn read_path(alloc: Global, query: &Query, searched: &Searched, end: u32) -> Result<Path, NoMemory>
     requires linked { AreLinked query.now (InFLevels query.now searched.now.nearest searched.now.levels.items) end }
     requires arrived { InFLevels query.now searched.now.nearest searched.now.levels.items end query.now.goal }
-    requires short { end ≤ most_bound }
+    requires short { end ≤ MOST_BOUND }
     ensures { IfOk result (λ path. IsReconstructed query.now
         (InFLevels query.now searched.now.nearest searched.now.levels.items) path 0 end) }
 {
@@ -105,7 +105,7 @@ pub fn cheapest(
     requires start { IsFree map.now start }
     requires goal { IsFree map.now goal }
     requires distances { AreDistances map.now goal distances.now }
-    requires bound { bound ≤ most_bound }
+    requires bound { bound ≤ MOST_BOUND }
     ensures { IfOk result (λ found. MatchOption found
         ((p : List ℕ) → ¬ IsAllowed map.now start goal bound constraints.now p)
         (IsOwnPath map.now start goal bound constraints.now)) }

@@ -7,7 +7,7 @@ ghost use Rattle.mapf_low.specs.Walk.{AreDistances};
 ghost use Rattle.mapf_low.specs.Forwards.Taken.{AreTaken};
 ghost use Rattle.mapf_low.specs.Constraints.{IsAllowed};
 ghost use Rattle.mapf_low.specs.OwnPath.{IsOwnPath, OrderIsByLast, OwnPathExists};
-ghost use Rattle.mapf_plan.specs.Plan.{most_bound};
+ghost use Rattle.mapf_plan.specs.declared.answer.TheConstants.{MOST_BOUND};
 
 use crate::by_layers::search_by_layers;
 use crate::forwards::taken::list_states;
@@ -41,7 +41,7 @@ pub fn cheapest_by_layers(
     requires start { IsFree map.now start }
     requires goal { IsFree map.now goal }
     requires distances { AreDistances map.now goal distances.now }
-    requires bound { bound ≤ most_bound }
+    requires bound { bound ≤ MOST_BOUND }
     ensures { IfOk result (λ found. MatchOption found
         ((p : List ℕ) → ¬ IsAllowed map.now start goal bound constraints.now p)
         (IsOwnPath map.now start goal bound constraints.now)) }
@@ -66,7 +66,7 @@ pub fn taken(
     requires start { IsFree map.now start }
     requires goal { IsFree map.now goal }
     requires distances { AreDistances map.now goal distances.now }
-    requires bound { bound ≤ most_bound }
+    requires bound { bound ≤ MOST_BOUND }
     ensures { IfOk result (λ states. AreTaken map.now distances.now start goal bound constraints.now states.items) }
 {
     let table = distances.table();

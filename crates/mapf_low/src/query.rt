@@ -2,7 +2,7 @@ ghost use Rattle.std.specs.Prelude.{◌≡◌, ◌↔◌, ℕ, ◌+◌, ◌<◌,
 ghost use Rattle.mapf_grid.specs.Grid.{IsFree};
 ghost use Rattle.mapf_low.specs.declared.constraint.Constraint.{Constraint};
 ghost use Rattle.mapf_low.specs.Walk.{distance_at};
-ghost use Rattle.mapf_plan.specs.Plan.{most_bound};
+ghost use Rattle.mapf_plan.specs.declared.answer.TheConstants.{MOST_BOUND};
 
 mod backwards;
 
@@ -62,7 +62,7 @@ impl<'a> Query<'a> {
     ) -> Result<Query<'a>, NoMemory>
         requires start { IsFree map.now start }
         requires goal { IsFree map.now goal }
-        requires bound { bound ≤ most_bound }
+        requires bound { bound ≤ MOST_BOUND }
         ensures { IfOk result
             (λ q. q ≡ query_of map.now table.now constraints.now start goal bound) }
     {

@@ -2,7 +2,7 @@ ghost use Rattle.std.specs.Prelude.{◌≡◌, ◌↔◌, ℕ, ◌+◌, ◌<◌,
 ghost use Rattle.mapf_grid.specs.Grid.{IsFree, Next};
 ghost use Rattle.mapf_low.specs.Best.{smaller_of};
 ghost use Rattle.mapf_low.specs.Reached.{ComesFrom, AreLinked, IsSmallestBefore, IsReconstructed};
-ghost use Rattle.mapf_plan.specs.Plan.{most_bound};
+ghost use Rattle.mapf_plan.specs.declared.answer.TheConstants.{MOST_BOUND};
 
 use crate::query::Query;
 use mapf_grid::{Cell, NoMemory};
@@ -52,7 +52,7 @@ fn smallest_before<R: Reached>(
     time: u32,
 ) -> Result<Cell, NoMemory>
     requires free { IsFree query.now.grid cell }
-    requires early { time < most_bound }
+    requires early { time < MOST_BOUND }
     requires some { (u : ℕ) × ComesFrom query.now (time + 1) (R.has reached.now time) cell u }
     ensures { IfOk result (IsSmallestBefore query.now (time + 1) (R.has reached.now time) cell) }
 {
@@ -74,7 +74,7 @@ pub(crate) fn reconstruct_path<R: Reached>(
 ) -> Result<Path, NoMemory>
     requires linked { AreLinked query.now (R.has reached.now) end }
     requires arrived { R.has reached.now end query.now.goal }
-    requires short { end ≤ most_bound }
+    requires short { end ≤ MOST_BOUND }
     ensures { IfOk result (λ path. IsReconstructed query.now (R.has reached.now) path 0 end) }
 {
     let mut cells = vec![in alloc; query.goal(); end as usize + 1]?;

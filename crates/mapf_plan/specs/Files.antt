@@ -6,6 +6,7 @@ use Rattle.mapf_plan.specs.declared.device.fault.FileName.{FileName}
 use Rattle.mapf_plan.specs.declared.device.fault.FileName.TheVariants as file
 use Rattle.mapf_plan.specs.declared.device.fault.DeviceFault.{DeviceFault}
 use Rattle.mapf_plan.specs.declared.device.fault.DeviceFault.TheVariants as device
+use Rattle.mapf_plan.specs.declared.device.files.TheConstants.{MOST_BYTES}
 
 -- a file: its name, and its bytes where its reader tells them
 pub record File : Type 0 where
@@ -19,17 +20,13 @@ pub data End (V R : Type 0) : Type 0 where
   Broken : DeviceFault → End V R
   Refused : R → End V R
 
--- how many bytes of one file are read at most
-abbrev pub limit : ℕ
-limit = 67108864
-
 -- the file is no longer than is read, where its reader tells its bytes
 abbrev pub IsWithin : Option (List ℕ) → Type 0
-IsWithin bytes = IfSome bytes (λ all. length all ≤ limit)
+IsWithin bytes = IfSome bytes (λ all. length all ≤ MOST_BYTES)
 
 -- the file is longer than is read
 abbrev pub IsTooLong : Option (List ℕ) → Type 0
-IsTooLong bytes = IfSome bytes (λ all. limit < length all)
+IsTooLong bytes = IfSome bytes (λ all. MOST_BYTES < length all)
 
 -- why the file of this name and these bytes wasn't read to its end
 abbrev pub IsReadFaultOf : FileName → Option (List ℕ) → DeviceFault → Type 0

@@ -1,6 +1,6 @@
 -- Paths by number, as a search remembers them: the plan of agents whose paths have certain numbers.
 use Rattle.std.specs.Prelude.{◌≡◌, ◌⊎◌, ℕ, ◌<◌, ◌≤◌, List, [], length, map, slice_index_or, slice_set, Option, Some, None, All, Contains, min, max, ⊤}
-use Rattle.mapf_grid.specs.Instance.{most_agents}
+use Rattle.mapf_grid.specs.declared.instance.TheConstants.{MOST_AGENTS}
 use Rattle.mapf_plan.specs.declared.cache.first_times.FirstTime.{FirstTime}
 use Rattle.mapf_plan.specs.declared.cache.first_times.FirstTime.TheVariants.{Unknown, Never, At}
 use Rattle.mapf_plan.specs.declared.pair_conflicts.PairConflict.{PairConflict}
@@ -29,7 +29,7 @@ changed_plan paths numbers agent number = slice_set (plan_of paths numbers) agen
 
 -- these are the numbers of a plan's paths, and pair conflicts of its conflicts
 pub record IsKnownPlan (known : KnownPaths) (numbers : List ℕ) (conflicts : List PairConflict) : Type 0 where
-  pub few : length numbers ≤ most_agents
+  pub few : length numbers ≤ MOST_AGENTS
   pub inside : AreNumbers known.paths numbers
   pub meet : HavePairConflicts (IsConflict known.rule (plan_of known.paths numbers)) conflicts
 

@@ -2,10 +2,6 @@
 use Rattle.std.specs.Prelude.{◌≡◌, ◌≢◌, ℕ, ◌+◌, ◌-◌, ◌<◌, ◌≤◌, min, List, length, slice_index, Option, Some, None}
 use Rattle.mapf_grid.specs.Grid.{Grid, IsFree, Next}
 
--- the greatest number of a path's cells
-abbrev pub most_cells : ℕ
-most_cells = 1000001
-
 abbrev pub cost : List ℕ → ℕ
 cost p = length p - 1
 

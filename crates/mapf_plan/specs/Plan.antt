@@ -9,18 +9,6 @@ use Rattle.mapf_plan.specs.declared.conflict.Conflict.TheVariants.{Vertex, Swapp
 use Rattle.mapf_plan.specs.declared.rule.Rule.{Rule}
 use Rattle.mapf_plan.specs.declared.rule.Rule.TheVariants.{NoFollowing}
 
--- the greatest bound; no path costs more
-abbrev pub most_bound : ℕ
-most_bound = 1000000
-
--- the greatest cost that is stated with a plan; no plan costs more
-abbrev pub most_stated : ℕ
-most_stated = 1000000000
-
--- the greatest limit on how many nodes a search takes
-abbrev pub most_nodes : ℕ
-most_nodes = 1000000
-
 abbrev pub path_of : List (List ℕ) → ℕ → List ℕ
 path_of plan i = slice_index_or plan i []
 

@@ -2,20 +2,21 @@
 use Rattle.std.specs.Prelude.{◌≡◌, ◌≢◌, ℕ, false, ◌+◌, ◌-◌, ◌*◌, ◌<◌, ◌≤◌, ◌⊎◌, ◌==◌, List, [], ◌∷◌, ◌++◌, length, take, codes, decimal, slice_get, All, Some}
 use Rattle.std.specs.List.{flat_map, slice_split, AllByRecursion, AllZip}
 use Rattle.mapf_grid.specs.Grid.{Grid, cells}
-use Rattle.mapf_grid.specs.Instance.{most_agents}
+use Rattle.mapf_grid.specs.declared.instance.TheConstants.{MOST_AGENTS}
 use Rattle.mapf_grid.specs.Least.{IsLeast}
-use Rattle.mapf_plan.specs.Path.{most_cells}
-use Rattle.mapf_plan.specs.Plan.{most_bound, most_nodes, most_stated}
+use Rattle.mapf_plan.specs.declared.plan.path.TheConstants.{MOST_CELLS}
+use Rattle.mapf_plan.specs.declared.answer.TheConstants.{MOST_BOUND, MOST_NODES, MOST_STATED}
 use Rattle.mapf_plan.specs.Text.{line, text, CanWrite}
 use Rattle.mapf_plan.specs.declared.answer.Answer.{Answer}
 use Rattle.mapf_plan.specs.declared.answer.Answer.TheVariants as answer
 use Rattle.mapf_plan.specs.declared.text.fault.TextFault.{TextFault}
 use Rattle.mapf_plan.specs.declared.text.fault.TextFault.TheVariants.{Head, Line, Outside, NoMemory}
+use Rattle.mapf_plan.specs.declared.text.reader.TheConstants.{MOST_COORDINATE}
 
 -- the sizes that the answers of texts have: 1 to 1,000 paths, each of 1 to 1,000,001 cells
 abbrev pub IsWithinLimits : Answer → Type 0
 IsWithinLimits (answer.Plan plan stated) =
-    (0 < length plan) × (length plan ≤ most_agents) × AllByRecursion (λ path. (0 < length path) × (length path ≤ most_cells)) plan
+    (0 < length plan) × (length plan ≤ MOST_AGENTS) × AllByRecursion (λ path. (0 < length path) × (length path ≤ MOST_CELLS)) plan
 IsWithinLimits (answer.None bound) = Unit {0}
 IsWithinLimits (answer.GaveUp nodes least) = Unit {0}
 
@@ -49,11 +50,11 @@ AreTwoNumbers most_first most_second numbers pair =
 
 -- the number of agents and the cost
 abbrev pub ArePlanNumbers : List ℕ → ℕ × ℕ → Type 0
-ArePlanNumbers = AreTwoNumbers most_agents most_stated
+ArePlanNumbers = AreTwoNumbers MOST_AGENTS MOST_STATED
 
 -- how many nodes were taken, and a lower bound on the cost of a plan
 abbrev pub AreGaveUpNumbers : List ℕ → ℕ × ℕ → Type 0
-AreGaveUpNumbers = AreTwoNumbers most_nodes most_bound
+AreGaveUpNumbers = AreTwoNumbers MOST_NODES MOST_BOUND
 
 -- `plan`, the number of agents and the cost
 abbrev pub IsPlanHead : List ℕ → (agents cost : ℕ) → Type 0
@@ -61,7 +62,7 @@ IsPlanHead line agents cost = (numbers : List ℕ) × (line ≡ codes "plan " ++
 
 -- `none` and the bound, without leading zeros
 abbrev pub IsNoneHead : List ℕ → (bound : ℕ) → Type 0
-IsNoneHead line bound = (bound ≤ most_bound) × (line ≡ codes "none " ++ decimal bound)
+IsNoneHead line bound = (bound ≤ MOST_BOUND) × (line ≡ codes "none " ++ decimal bound)
 
 -- `gave up`, how many nodes were taken, and a lower bound on the cost of a plan
 abbrev pub IsGaveUpHead : List ℕ → (nodes least : ℕ) → Type 0
@@ -80,14 +81,10 @@ IsHeadOf n line = ((cost : ℕ) × IsPlanHead line n cost) ⊎ (IsWholeHead line
 abbrev pub AsksFor : List ℕ → ℕ → Type 0
 AsksFor bytes n = (line : List ℕ) × IsFullLine bytes 1 line × IsHeadOf n line
 
--- the greatest number of nine digits
-abbrev pub most_coordinate : ℕ
-most_coordinate = 999999999
-
 -- a position `x,y`, in numbers of at most nine digits without leading zeros
 abbrev pub IsPlace : List ℕ → ℕ × ℕ → Type 0
 IsPlace word place =
-    (place.0 ≤ most_coordinate) × (place.1 ≤ most_coordinate) × (word ≡ decimal place.0 ++ (codes "," ++ decimal place.1))
+    (place.0 ≤ MOST_COORDINATE) × (place.1 ≤ MOST_COORDINATE) × (word ≡ decimal place.0 ++ (codes "," ++ decimal place.1))
 
 -- the pieces of a line, cut at each space
 abbrev pub words_of : List ℕ → List (List ℕ)
@@ -95,7 +92,7 @@ words_of line = slice_split (λ b. b == 32) line
 
 -- a line of positions, parted by single spaces
 abbrev pub IsLine : List ℕ → List (ℕ × ℕ) → Type 0
-IsLine line places = (length places ≤ most_cells) × AllZip IsPlace (words_of line) places
+IsLine line places = (length places ≤ MOST_CELLS) × AllZip IsPlace (words_of line) places
 
 abbrev pub IsInside : Grid → ℕ × ℕ → Type 0
 IsInside g place = (place.0 < g.width) × (place.1 < g.height)
@@ -115,7 +112,7 @@ IsPathLine g line path = (places : List (ℕ × ℕ)) × IsLine line places × A
 
 -- the bytes are the lines of these paths, whose sizes and cells are those of paths on the map
 pub record AreLinesOf (g : Grid) (bytes : List ℕ) (plan : List (List ℕ)) : Type 0 where
-  pub sizes : AllByRecursion (λ path. (0 < length path) × (length path ≤ most_cells)) plan
+  pub sizes : AllByRecursion (λ path. (0 < length path) × (length path ≤ MOST_CELLS)) plan
   pub inside : AllByRecursion (AllByRecursion (λ c. c < cells g)) plan
   pub spelled : bytes ≡ flat_map (line g) plan
 

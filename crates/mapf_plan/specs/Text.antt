@@ -2,7 +2,7 @@
 use Rattle.std.specs.Prelude.{ℕ, ◌/◌, ◌%◌, ◌<◌, ◌≤◌, List, ◌++◌, length, map, codes, decimal}
 use Rattle.std.specs.List.{flat_map, join_with_byte, AllByRecursion}
 use Rattle.mapf_grid.specs.Grid.{Grid, cells}
-use Rattle.mapf_plan.specs.Plan.{most_bound, most_nodes, most_stated}
+use Rattle.mapf_plan.specs.declared.answer.TheConstants.{MOST_BOUND, MOST_NODES, MOST_STATED}
 use Rattle.mapf_plan.specs.declared.answer.Answer.{Answer}
 use Rattle.mapf_plan.specs.declared.answer.Answer.TheVariants as answer
 
@@ -24,6 +24,6 @@ text g (answer.GaveUp nodes least) = codes "gave up " ++ (decimal nodes ++ (code
 
 -- every position is a cell of the map, and the numbers are within their limits
 abbrev pub CanWrite : Grid → Answer → Type 0
-CanWrite g (answer.Plan plan stated) = (stated ≤ most_stated) × AllByRecursion (AllByRecursion (λ c. c < cells g)) plan
-CanWrite g (answer.None bound) = bound ≤ most_bound
-CanWrite g (answer.GaveUp nodes least) = (0 < nodes) × (nodes ≤ most_nodes) × (least ≤ most_bound)
+CanWrite g (answer.Plan plan stated) = (stated ≤ MOST_STATED) × AllByRecursion (AllByRecursion (λ c. c < cells g)) plan
+CanWrite g (answer.None bound) = bound ≤ MOST_BOUND
+CanWrite g (answer.GaveUp nodes least) = (0 < nodes) × (nodes ≤ MOST_NODES) × (least ≤ MOST_BOUND)

@@ -9,7 +9,7 @@ mod whole;
 
 pub use counted::Counted;
 pub use fault::{DeviceFault, FileName};
-pub use files::{read_file, write_text};
+pub use files::{MOST_BYTES, read_file, write_text};
 pub use sink::Sink;
 pub use source::Source;
 pub use whole::{ReadFault, WriteFailed, read_whole, write_whole};

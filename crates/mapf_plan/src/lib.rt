@@ -17,10 +17,10 @@ pub use cache::{KnownPaths, KnownPlan};
 pub use collisions::first_conflict_of_changed;
 pub use conflict::Conflict;
 pub use device::{
-    Counted, DeviceFault, FileName, ReadFault, Sink, Source, WriteFailed, read_file, read_whole,
-    write_text, write_whole,
+    Counted, DeviceFault, FileName, MOST_BYTES, ReadFault, Sink, Source, WriteFailed, read_file,
+    read_whole, write_text, write_whole,
 };
 pub use pair_conflicts::PairConflict;
-pub use plan::{AgentPaths, Path, Plan};
+pub use plan::{AgentPaths, MOST_CELLS, Path, Plan};
 pub use rule::Rule;
-pub use text::{TextFault, push_number, push_position, read_answer, write};
+pub use text::{MOST_COORDINATE, TextFault, push_number, push_position, read_answer, write};

@@ -1,7 +1,7 @@
 //! Pair conflicts: a short list of pairs of agents and times from which a plan's first conflict is found.
 
 ghost use Rattle.std.specs.Prelude.{◌≡◌, ◌≢◌, ◌<◌, ◌≤◌, min, max, length, Contains, MatchOption, IfOk, ⊤};
-ghost use Rattle.mapf_grid.specs.Instance.{most_agents};
+ghost use Rattle.mapf_grid.specs.declared.instance.TheConstants.{MOST_AGENTS};
 ghost use Rattle.mapf_plan.specs.declared.conflict.Conflict.{Conflict};
 ghost use Rattle.mapf_plan.specs.declared.pair_conflicts.PairConflict.{PairConflict};
 ghost use Rattle.mapf_plan.specs.Plan.{first_agent, second_agent, IsConflict, IsFirstConflict, HasNoConflict};
@@ -26,7 +26,7 @@ pub struct PairConflict {
 
 /// The pair conflict of these two agents at a time step.
 pub(crate) fn pair_conflict_of(agent: usize, other: usize, time: u32) -> PairConflict
-    requires agents { (agent < most_agents) × (other < most_agents) }
+    requires agents { (agent < MOST_AGENTS) × (other < MOST_AGENTS) }
     ensures { result ≡ record { first = min agent other; second = max agent other; time = time } }
 {
     PairConflict {

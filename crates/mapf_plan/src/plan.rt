@@ -1,6 +1,7 @@
 ghost use Rattle.std.specs.Prelude.{◌≡◌, ◌<◌, ◌≤◌, length, MatchOption};
-ghost use Rattle.mapf_grid.specs.Instance.{most_agents};
-ghost use Rattle.mapf_plan.specs.Plan.{most_stated, place, plan_cost, IsFirstConflict, HasNoConflict};
+ghost use Rattle.mapf_grid.specs.declared.instance.TheConstants.{MOST_AGENTS};
+ghost use Rattle.mapf_plan.specs.Plan.{place, plan_cost, IsFirstConflict, HasNoConflict};
+ghost use Rattle.mapf_plan.specs.declared.answer.TheConstants.{MOST_STATED};
 
 mod agent_paths;
 mod path;
@@ -9,7 +10,7 @@ use crate::collisions::first_conflict_from;
 use crate::{Conflict, Rule};
 pub use agent_paths::AgentPaths;
 use mapf_grid::Cell;
-pub use path::Path;
+pub use path::{MOST_CELLS, Path};
 use std::marker::Model;
 
 /// One path for each agent, agent 0 first: at least one, at most 1,000.
@@ -20,20 +21,20 @@ pub struct Plan {
 
 impl Model for Plan {
     ghost use Rattle.std.specs.Prelude.{ℕ, List, ◌<◌, ◌≤◌, length};
-    ghost use Rattle.mapf_grid.specs.Instance.{most_agents};
+    ghost use Rattle.mapf_grid.specs.declared.instance.TheConstants.{MOST_AGENTS};
 
     ghost Value = { List (List ℕ) };
 
     ghost view = { λ p. p.paths.items };
 
-    ghost invariant = { λ p. (0 < length p.paths.items) × (length p.paths.items ≤ most_agents) };
+    ghost invariant = { λ p. (0 < length p.paths.items) × (length p.paths.items ≤ MOST_AGENTS) };
 }
 
 impl Plan {
     /// The plan of these paths.
     pub fn of(paths: Vec<Path>) -> Self
         requires some { 0 < length paths.items }
-        requires few { length paths.items ≤ most_agents }
+        requires few { length paths.items ≤ MOST_AGENTS }
         ensures { result ≡ paths.items }
     {
         Plan { paths }
@@ -43,7 +44,7 @@ impl Plan {
     pub fn paths(&self) -> &[Path]
         ensures paths { result.now ≡ self.now }
         ensures some { 0 < length self.now }
-        ensures few { length self.now ≤ most_agents }
+        ensures few { length self.now ≤ MOST_AGENTS }
     {
         self.paths.as_slice()
     }
@@ -51,7 +52,7 @@ impl Plan {
     /// The sum of costs: the costs of all paths, added up.
     pub fn cost(&self) -> u64
         ensures cost { result ≡ plan_cost self.now }
-        ensures small { result ≤ most_stated }
+        ensures small { result ≤ MOST_STATED }
     {
         let mut sum = 0;
         for path in &self.paths {

@@ -9,5 +9,5 @@ mod writer;
 
 pub use fault::TextFault;
 pub use pieces::{push_number, push_position};
-pub use reader::read_answer;
+pub use reader::{MOST_COORDINATE, read_answer};
 pub use writer::write;

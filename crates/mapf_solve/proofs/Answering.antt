@@ -3,7 +3,8 @@ use Rattle.std.proofs.Common.{◌≡◌, ◌≢◌, ℕ, suc, ◌<◌, ◌≤◌
 use Rattle.std.specs.List.{AllByRecursion}
 use Rattle.mapf_grid.specs.Grid.{HasSizes, cells}
 use Rattle.mapf_grid.specs.Instance.{Instance}
-use Rattle.mapf_plan.specs.Plan.{plan_cost, path_of, most_bound, IsValid}
+use Rattle.mapf_plan.specs.Plan.{plan_cost, path_of, IsValid}
+use Rattle.mapf_plan.specs.declared.answer.TheConstants.{MOST_BOUND}
 use Rattle.mapf_plan.specs.Text.{text, CanWrite}
 use Rattle.mapf_plan.specs.declared.answer.Answer.{Answer}
 use Rattle.mapf_plan.specs.declared.answer.Answer.TheVariants as answer
@@ -37,14 +38,14 @@ plan_inside problem plan sizes (node, first) =
         (cells_below problem.inst.grid (slice_index problem.inst.starts i) (slice_index problem.inst.goals i) (path_of plan i) (has.own i h).member.path)
 
 -- the answer without a limit on nodes has a text
-stated_can_write : (problem : Problem) (given : Answer) → HasSizes problem.inst.grid → problem.bound ≤ most_bound → IsStated problem given → CanWrite problem.inst.grid given
+stated_can_write : (problem : Problem) (given : Answer) → HasSizes problem.inst.grid → problem.bound ≤ MOST_BOUND → IsStated problem given → CanWrite problem.inst.grid given
 stated_can_write problem given sizes small (Some plan, is, e) =
     let within : plan_cost plan ≤ problem.bound = is.1.member.planned.plan.within in
     subst (CanWrite problem.inst.grid) (sym e) (omega (arith, within, small), plan_inside problem plan sizes is)
 stated_can_write problem given sizes small (None, is, e) = subst (CanWrite problem.inst.grid) (sym e) small
 
 -- and so has that with a limit
-pub can_write : (problem : Problem) (given : Answer) → HasSizes problem.inst.grid → problem.bound ≤ most_bound → IsLimit problem.nodes → IsAnswerOf problem given → CanWrite problem.inst.grid given
+pub can_write : (problem : Problem) (given : Answer) → HasSizes problem.inst.grid → problem.bound ≤ MOST_BOUND → IsLimit problem.nodes → IsAnswerOf problem given → CanWrite problem.inst.grid given
 can_write problem given sizes small = go problem.nodes
   where
     go : (o : Option ℕ) → IsLimit o → IsAnswerUpTo o problem given → CanWrite problem.inst.grid given

@@ -1,9 +1,9 @@
-pub mod Answering
-pub mod OneOut
+mod Answering
+mod OneOut
 mod WithoutLimit
 mod Leaving
 mod WorkedAhead
 mod GoingOn
 mod WaitingNodes
 mod AgentJobs
-pub mod Boards
+mod Boards

@@ -6,7 +6,7 @@ use Rattle.mapf_grid.specs.Asked.{IsAsked, IsFilesFault}
 use Rattle.mapf_grid.specs.declared.files.FilesFault.{FilesFault}
 use Rattle.mapf_grid.proofs.Decide.{by_cases, dec_and}
 use Rattle.mapf_grid.proofs.Asked.{same_instance, no_fault, same_files_fault}
-use Rattle.mapf_plan.specs.Plan.{most_bound, most_nodes}
+use Rattle.mapf_plan.specs.declared.answer.TheConstants.{MOST_BOUND, MOST_NODES}
 use Rattle.mapf_plan.specs.Text.{text}
 use Rattle.mapf_tree.specs.Problem.{IsLimit}
 use Rattle.mapf_tree.specs.Answered.{IsAnswerOf}
@@ -59,7 +59,7 @@ same_refusal map scen ask n a b within has may limit f g =
 -- whether a limit may be
 dec_limit : (nodes : Option ℕ) → Dec (IsLimit nodes)
 dec_limit None = yes tt
-dec_limit (Some n) = dec_and (dec_lt 0 n) (dec_le n most_nodes)
+dec_limit (Some n) = dec_and (dec_lt 0 n) (dec_le n MOST_NODES)
 
 -- so two results for two numbers of workers are one
 pub one_out : OneOut
@@ -69,7 +69,7 @@ one_out map scen ask (Ok a) has s n may (Err f) t =
 one_out map scen ask (Err f) has s n may (Ok b) t =
     absurd (not_refused map scen ask f t.inst t.asked t.bound has t.nodes s)
 one_out map scen ask (Err f) has s n may (Err g) t =
-    elim (dec_le ask.bound most_bound) [
+    elim (dec_le ask.bound MOST_BOUND) [
       | yes h ↦ by_cases (dec_limit ask.nodes) (λ l. ap (λ x. Err x) (same_refusal map scen ask n f g h has may l s t))
           (λ l. ap (λ x. Err x) (past_nodes map scen (record ask { workers = n }) g h may l t ∙ sym (past_nodes map scen ask f h has l s)))
       | no h ↦ ap (λ x. Err x) (past_bound map scen (record ask { workers = n }) g h t ∙ sym (past_bound map scen ask f h s))

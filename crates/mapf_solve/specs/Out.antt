@@ -4,7 +4,8 @@ use Rattle.mapf_grid.specs.Instance.{Instance}
 use Rattle.mapf_grid.specs.Asked.{IsAsked, IsFilesFault}
 use Rattle.mapf_grid.specs.declared.files.FilesFault.{FilesFault}
 use Rattle.mapf_grid.specs.declared.files.FilesFault.TheVariants as files
-use Rattle.mapf_plan.specs.Plan.{plan_cost, IsValid, IsOptimum, most_bound}
+use Rattle.mapf_plan.specs.Plan.{plan_cost, IsValid, IsOptimum}
+use Rattle.mapf_plan.specs.declared.answer.TheConstants.{MOST_BOUND}
 use Rattle.mapf_plan.specs.Text.{text}
 use Rattle.mapf_plan.specs.declared.answer.Answer.{Answer}
 use Rattle.mapf_plan.specs.declared.answer.Answer.TheVariants as answer
@@ -15,15 +16,13 @@ use Rattle.mapf_tree.specs.Answered.{IsAnswerOf}
 use Rattle.mapf_solve.specs.declared.ask.Ask.{Ask}
 use Rattle.mapf_solve.specs.declared.refusal.Refusal.{Refusal}
 use Rattle.mapf_solve.specs.declared.refusal.Refusal.TheVariants as refusal
+use Rattle.mapf_board.specs.declared.limits.TheConstants.{MOST_WORKERS}
 
 abbrev pub IsBound : Ask → Type 0
-IsBound ask = ask.bound ≤ most_bound
-
-abbrev pub most_workers : ℕ
-most_workers = 64
+IsBound ask = ask.bound ≤ MOST_BOUND
 
 abbrev pub IsWorkers : Ask → Type 0
-IsWorkers ask = (0 < ask.workers) × (ask.workers ≤ most_workers)
+IsWorkers ask = (0 < ask.workers) × (ask.workers ≤ MOST_WORKERS)
 
 -- a limit on nodes is 1 to 1,000,000
 abbrev pub IsNodes : Ask → Type 0

@@ -2,7 +2,7 @@
 
 ghost use Rattle.std.specs.Prelude.{◌≡◌, ◌≢◌, ℕ, List, ◌≤◌, ◌↔◌, IfOk, IfErr, OnOk, IsTrue, Some, None, Ok, Err};
 ghost use Rattle.mapf_grid.specs.Asked.{IsAsked};
-ghost use Rattle.mapf_plan.specs.Plan.{most_bound};
+ghost use Rattle.mapf_plan.specs.declared.answer.TheConstants.{MOST_BOUND};
 ghost use Rattle.mapf_plan.specs.Text.{text};
 ghost use Rattle.mapf_tree.specs.Problem.{IsLimit};
 ghost use Rattle.mapf_tree.specs.Answered.{IsAnswerOf};
@@ -190,7 +190,7 @@ fn with_rule(problem: Problem, rule: Rule) -> Problem
 
 /// The text of a problem's answer.
 pub(crate) fn spell(alloc: Global, problem: &Problem, answer: &Answer) -> Result<Vec<u8>, NoMemory>
-    requires bound { problem.now.bound ≤ most_bound }
+    requires bound { problem.now.bound ≤ MOST_BOUND }
     requires limit { IsLimit problem.now.nodes }
     requires answer { IsAnswerOf problem.now answer.now }
     ensures { IfOk result (λ bytes. bytes.items ≡ text problem.now.inst.grid answer.now) }

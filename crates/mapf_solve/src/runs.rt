@@ -49,7 +49,8 @@ pub fn run<R: Threads + Sync, M: Source, S: Source, O: Sink>(
     // With a limit of n nodes the bytes are the same, unless the tree has a node at place n that is in the cut or is the first
     // solution: exactly then they are `gave up`, with a cost that each plan without conflict has at least.
     ensures limit { (n : ℕ) → ask.nodes ≡ Some n
-        → LeavesLimit (M.remaining map.old) (S.remaining scen.old) ask n (O.contents out.old) (O.contents out.new) result }
+        → LeavesLimit (M.remaining map.old) (S.remaining scen.old) ask n
+        (O.contents out.old) (O.contents out.new) result }
 
     // With any number of workers from 1 to 64 the same text, or the same refusal.
     ensures same { LeavesOnly (M.remaining map.old) (S.remaining scen.old) ask
@@ -85,7 +86,8 @@ pub fn run_watched<R: Threads + Sync, M: Source, S: Source, O: Sink, W: Watch>(
     ensures best { ask.nodes ≡ None → LeavesBest (M.remaining map.old) (S.remaining scen.old) ask
         (O.contents out.old) (O.contents out.new) result }
     ensures limit { (n : ℕ) → ask.nodes ≡ Some n
-        → LeavesLimit (M.remaining map.old) (S.remaining scen.old) ask n (O.contents out.old) (O.contents out.new) result }
+        → LeavesLimit (M.remaining map.old) (S.remaining scen.old) ask n
+        (O.contents out.old) (O.contents out.new) result }
     ensures same { LeavesOnly (M.remaining map.old) (S.remaining scen.old) ask
         (O.contents out.old) (O.contents out.new) result }
     ensures memory { IfErr result (λ fault. fault ≢ RunFault.Device DeviceFault.NoMemory) }

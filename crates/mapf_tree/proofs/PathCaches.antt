@@ -24,7 +24,7 @@ use Rattle.mapf_tree.specs.SideQuery.{SideQuery, IsQueryOf, IsFoundBy}
 use Rattle.mapf_tree.specs.Tree.{IsAllowedFor, IsOwnPathOf, agent_on, constraint_on, constraints_of}
 use Rattle.mapf_tree.specs.PathCache.{PathCache, HasSet, IsExtension, AreExtensions, IsExtended, AreKnown, IsCachedPath, IsOwnIn, IsFoundAt, AreFirst, AreFirstPaths, AreSetsOf}
 use Rattle.mapf_tree.proofs.ConstraintSets.{with_same, IsWith, IsWith-cons}
-use Rattle.mapf_tree.proofs.SideNodes.{own_by_limit, within_bound, agent_inside}
+use Rattle.mapf_tree.proofs.SideNodes.{own_within_lower, within_bound, agent_inside}
 use Rattle.mapf_tree.proofs.Queries.{is_child, no_child}
 
 -- two values that are there are one
@@ -220,8 +220,8 @@ pub sets_at_first : (problem : Problem) (sets : List ConstraintSet) (numbers : L
 sets_at_first problem sets numbers are some = ⊎_elim (λ e. absurd (omega (arith, some, ap length e))) (λ h. h) are
 
 -- what the others leave of the bound is at most the bound
-pub limit_within : (problem : Problem) (node : Node) (agent bound : ℕ) → agent < length node.plan → Leaves problem node.plan agent bound → bound ≤ problem.bound
-limit_within problem node agent bound inside leaves = omega (arith, leaves, get_or-le-sum_by cost node.plan agent [] inside)
+pub bound_within : (problem : Problem) (node : Node) (agent bound : ℕ) → agent < length node.plan → Leaves problem node.plan agent bound → bound ≤ problem.bound
+bound_within problem node agent bound inside leaves = omega (arith, leaves, get_or-le-sum_by cost node.plan agent [] inside)
 
 -- a path that is dearer than a bound tells that there is none within it
 none_dearer : (problem : Problem) (bound agent : ℕ) (cs : List Constraint) (path : List ℕ) → bound ≤ problem.bound → bound < cost path → IsOwnPathOf problem agent cs path → IsOwnWithin problem bound agent cs None
@@ -241,7 +241,7 @@ own_in_path cache set number bound path s is at own there small within agent cs 
     let one : known.0 ≡ path = one_value known.0 path (sym known.1 ∙ there) in (
       slice_get_within cache.paths number path there,
       subst (IsOwnWithin cache.problem bound agent cs) (ap Some (one ∙ sym (get_or_from_slice_get cache.paths number path [] there)))
-          (own_by_limit _ cs bound cache.problem.bound _ _ known.0 small (subst (λ p. cost p ≤ bound) (sym one) within) known.2),
+          (own_within_lower _ cs bound cache.problem.bound _ _ known.0 small (subst (λ p. cost p ≤ bound) (sym one) within) known.2),
     )
 
 pub own_in_dearer : (cache : PathCache) (set number bound : ℕ) (path : List ℕ) (s : ConstraintSet) → AreKnown cache.problem cache.paths cache.sets → slice_get cache.sets set ≡ Some s → s.own ≡ Path number → slice_get cache.paths number ≡ Some path →

@@ -34,8 +34,8 @@ IsOwn-set p bound i xs ys None same none = none_set _ _ _ _ xs ys same none
 IsOwn-set p bound i xs ys (Some path) same own = own_set _ _ _ _ xs ys path same own
 
 -- the own path by a bound is that by every lower bound that it keeps
-pub own_by_limit : (g : Grid) (cs : List Constraint) (lower bound start goal : ℕ) (q : List ℕ) → lower ≤ bound → cost q ≤ lower → IsOwnPath g start goal bound cs q → IsOwnPath g start goal lower cs q
-own_by_limit g cs lower bound start goal q l within own = record {
+pub own_within_lower : (g : Grid) (cs : List Constraint) (lower bound start goal : ℕ) (q : List ℕ) → lower ≤ bound → cost q ≤ lower → IsOwnPath g start goal bound cs q → IsOwnPath g start goal lower cs q
+own_within_lower g cs lower bound start goal q l within own = record {
   member = record { path = own.member.path; within = within; obeys = own.member.obeys };
   least = λ y a. own.least y (record { path = a.path; within = omega (arith, l, a.within); obeys = a.obeys });
 }
@@ -85,8 +85,8 @@ module _ (p : Problem) (node : Node) (m : PlannedNode) (c : Conflict) (s : Side)
 
   module _ (bound : ℕ) (more : List Constraint) (sought : IsSought p node (agent_on c s) bound (constraint_on c s) more) where
     -- what the others leave is at most the bound
-    limit_le : bound ≤ p.bound
-    limit_le = omega (arith, sought.leaves, get_or-le-sum_by cost node.plan (agent_on c s) [] in_plan)
+    bound_le : bound ≤ p.bound
+    bound_le = omega (arith, sought.leaves, get_or-le-sum_by cost node.plan (agent_on c s) [] in_plan)
 
     -- the plan with the agent's new path, and what it costs
     abbrev plan_with : List ℕ → List (List ℕ)
@@ -107,7 +107,7 @@ module _ (p : Problem) (node : Node) (m : PlannedNode) (c : Conflict) (s : Side)
 
     -- on this side the other agents have the paths that they had, so the agent's path is its own within what they leave
     own_within_in : (plan : List (List ℕ)) → HasPlan p there plan → IsOwnWithin p bound (agent_on c s) (constraints_of there (agent_on c s)) (Some (path_of plan (agent_on c s)))
-    own_within_in plan has = own_by_limit _ _ bound p.bound _ _ path limit_le within own
+    own_within_in plan has = own_within_lower _ _ bound p.bound _ _ path bound_le within own
       where
         path : List ℕ
         path = path_of plan (agent_on c s)
@@ -129,7 +129,7 @@ module _ (p : Problem) (node : Node) (m : PlannedNode) (c : Conflict) (s : Side)
     has_side : (path : List ℕ) → IsOwnWithin p bound (agent_on c s) more (Some path) → HasPlan p there (plan_with path)
     has_side path own = record {
       agents = agents_with path;
-      own = own_there path (own_by_bound _ _ bound p.bound _ _ path limit_le (found_there (Some path) own));
+      own = own_there path (own_by_bound _ _ bound p.bound _ _ path bound_le (found_there (Some path) own));
       within = omega (arith, costs_with path, own.member.within);
     }
 

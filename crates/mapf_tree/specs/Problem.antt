@@ -5,7 +5,7 @@ use Rattle.mapf_grid.specs.Instance.{Instance}
 use Rattle.mapf_grid.specs.InstanceLaws.{IsSound}
 use Rattle.mapf_low.specs.Walk.{AreDistances}
 use Rattle.mapf_plan.specs.declared.rule.Rule.{Rule}
-use Rattle.mapf_plan.specs.Plan.{most_bound, most_nodes}
+use Rattle.mapf_plan.specs.declared.answer.TheConstants.{MOST_BOUND, MOST_NODES}
 
 pub record Problem : Type 0 where
   pub inst : Instance
@@ -20,11 +20,11 @@ pub record HasDistances (inst : Instance) (distances : List (List (Option ℕ)))
 
 -- a limit is at least 1
 abbrev pub IsLimit : Option ℕ → Type 0
-IsLimit nodes = IfSome nodes (λ n. (0 < n) × (n ≤ most_nodes))
+IsLimit nodes = IfSome nodes (λ n. (0 < n) × (n ≤ MOST_NODES))
 
 -- what always holds of a problem and its tables
 pub record IsReady (problem : Problem) (distances : List (List (Option ℕ))) : Type 0 where
   pub agents : IsSound problem.inst
-  pub small : problem.bound ≤ most_bound
+  pub small : problem.bound ≤ MOST_BOUND
   pub limit : IsLimit problem.nodes
   pub tables : HasDistances problem.inst distances

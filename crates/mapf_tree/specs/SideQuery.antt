@@ -4,7 +4,7 @@ use Rattle.std.specs.Prelude.{◌≡◌, ℕ, ◌<◌, ◌≤◌, ◌↔◌, ◌
 use Rattle.mapf_plan.specs.Path.{cost}
 use Rattle.mapf_plan.specs.declared.conflict.Conflict.{Conflict}
 use Rattle.mapf_low.specs.declared.constraint.Constraint.{Constraint}
-use Rattle.mapf_plan.specs.Plan.{most_bound}
+use Rattle.mapf_plan.specs.declared.answer.TheConstants.{MOST_BOUND}
 use Rattle.mapf_low.specs.Kept.{HasTwoEnds}
 use Rattle.mapf_low.specs.Walk.{AreDistances}
 use Rattle.mapf_tree.specs.declared.tree.side.Side.{Side}
@@ -50,8 +50,8 @@ AreTables problem tables = (agent : ℕ) → AreFromStart problem agent (slice_i
 -- is between two cells, its path costs at least so much, and the table, if there is one, has the distances from the agent's start
 pub record IsAsked (query : SideQuery) (least : ℕ) (table : Option (List (Option ℕ))) : Type 0 where
   pub inside : query.agent < length query.problem.inst.starts
-  pub bound : query.problem.bound ≤ most_bound
-  pub small : query.bound ≤ most_bound
+  pub bound : query.problem.bound ≤ MOST_BOUND
+  pub small : query.bound ≤ MOST_BOUND
   pub ends : HasTwoEnds query.constraint
   pub costs : CostsAtLeast query least
   pub from_start : AreFromStart query.problem query.agent table

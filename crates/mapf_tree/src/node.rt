@@ -55,10 +55,12 @@ impl Model for Node {
 
     ghost Value = { Node };
 
-    ghost view = { λ n. node_of n.body.value.key.name n.body.value.root.value n.body.value.changes n.body.value.rule n.body.value.conflict };
+    ghost view = { λ n. node_of n.body.value.key.name n.body.value.root.value n.body.value.changes n.body.value.rule
+        n.body.value.conflict };
 
     ghost invariant = { λ n. AgreesWith n.body.value.key.cost n.body.value.key.depth
-        (node_of n.body.value.key.name n.body.value.root.value n.body.value.changes n.body.value.rule n.body.value.conflict) };
+        (node_of n.body.value.key.name n.body.value.root.value n.body.value.changes n.body.value.rule
+        n.body.value.conflict) };
 }
 
 impl Node {
@@ -142,7 +144,8 @@ impl Node {
     /// from the name's length on.
     pub fn change(&self, turn: usize) -> Option<(usize, Constraint, &Path)>
         ensures change { MatchOption result (length self.now.changes ≤ turn)
-            (λ found. slice_get self.now.changes turn ≡ Some (record { agent = found.0; constraint = found.1; path = found.2.now })) }
+            (λ found. slice_get self.now.changes turn
+            ≡ Some (record { agent = found.0; constraint = found.1; path = found.2.now })) }
         ensures turns { length self.now.changes ≡ length self.now.name }
     {
         let changes = &self.body.changes;

@@ -10,7 +10,7 @@ use crate::lines::{first_line, number};
 use crate::words::first_word;
 
 /// The greatest height and width of a map.
-const MOST_SIDE: u32 = 2_048;
+pub const MOST_SIDE: u32 = 2_048;
 
 /// What the header states, and the bytes behind it.
 #[derive(Drop)]

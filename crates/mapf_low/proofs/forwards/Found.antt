@@ -7,7 +7,7 @@ use Rattle.mapf_low.specs.Constraints.{IsAllowed}
 use Rattle.mapf_low.specs.OwnPath.{IsOwnPath}
 use Rattle.mapf_low.specs.Forwards.FLevels.{InFLevels, IsSearched}
 use Rattle.mapf_low.specs.Reached.{EndsAt, AreLinked, IsReconstructed}
-use Rattle.mapf_low.proofs.FirstArrival.{Setting, own, none_by_limit}
+use Rattle.mapf_low.proofs.FirstArrival.{Setting, own, none_by_bound}
 use Rattle.mapf_low.proofs.HigherBounds.{own_by_bound}
 use Rattle.mapf_low.proofs.Reading.{are_linked}
 
@@ -32,7 +32,7 @@ module _ (query : Query) (nearest : ℕ) (levels : List (List ℕ)) (posed : IsP
   -- where there is no sum with which the agent can end, it may take no path
   pub found_none : (end : Option ℕ) → end ≡ None → IsSearched query nearest levels end → (p : List ℕ) → ¬ IsAllowed query.grid query.start query.goal query.bound query.constraints p
   found_none end is s =
-      none_by_limit query query.bound (InFLevels query nearest levels) (query.bound + 1) (setting None none (query.bound + 1)) (omega arith) before
+      none_by_bound query query.bound (InFLevels query nearest levels) (query.bound + 1) (setting None none (query.bound + 1)) (omega arith) before
     where
       none : IsSearched query nearest levels None
       none = known end None is s

@@ -1,7 +1,7 @@
 ghost use Rattle.std.specs.Prelude.{◌≡◌, ◌↔◌, ℕ, ◌+◌, ◌<◌, [], length, replicate, None, IsTrue, IfOk, OnOk, Contains};
 ghost use Rattle.mapf_grid.specs.Grid.{IsFree};
 ghost use Rattle.mapf_low.specs.Backwards.Earliest.{AreEarliest, MayGo, HasEntry, Advances, IsLookedAt, IsAdvanced};
-ghost use Rattle.mapf_plan.specs.Plan.{most_bound};
+ghost use Rattle.mapf_plan.specs.declared.answer.TheConstants.{MOST_BOUND};
 
 use crate::distances::table::Table;
 use crate::query::Query;
@@ -54,7 +54,7 @@ fn advance(
     table: &mut Table,
     next: &mut Vec<Cell>,
 ) -> Result<(), NoMemory>
-    requires early { time < most_bound }
+    requires early { time < MOST_BOUND }
     requires frontier { (v : ℕ) → Contains frontier.now v → IsFree query.now.grid v }
     requires table { length table.old ≡ length query.now.grid.free }
     ensures advances { OnOk result
@@ -77,7 +77,7 @@ fn advance_from(
     table: &mut Table,
     next: &mut Vec<Cell>,
 ) -> Result<(), NoMemory>
-    requires early { time < most_bound }
+    requires early { time < MOST_BOUND }
     requires free { IsFree query.now.grid from }
     requires table { length table.old ≡ length query.now.grid.free }
     ensures advances { OnOk result
@@ -104,7 +104,7 @@ fn enter(
     table: &mut Table,
     next: &mut Vec<Cell>,
 ) -> Result<bool, NoMemory>
-    requires early { time < most_bound }
+    requires early { time < MOST_BOUND }
     requires free { IsFree query.now.grid to }
     requires inside { to < length table.old }
     ensures advances { OnOk result

@@ -3,7 +3,7 @@ ghost use Rattle.mapf_grid.specs.Grid.{IsFree};
 ghost use Rattle.mapf_low.specs.Walk.{distance_at};
 ghost use Rattle.mapf_low.specs.Query.{IsPosed};
 ghost use Rattle.mapf_low.specs.Forwards.FLevels.{Grows, IsWithin, Admits, Leads, SomeLeads, Closes, ArePlaced};
-ghost use Rattle.mapf_plan.specs.Plan.{most_bound};
+ghost use Rattle.mapf_plan.specs.declared.answer.TheConstants.{MOST_BOUND};
 
 use crate::cell_set::CellSet;
 use crate::query::Query;
@@ -105,7 +105,7 @@ fn expand_beyond(
     requires free { IsFree query.now.grid from }
     requires near { IsWithin query.now sum from }
     requires sum { sum ≤ query.now.bound }
-    requires small { sum ≤ most_bound }
+    requires small { sum ≤ MOST_BOUND }
     ensures next { OnOk result (Grows (Leads query.now sum 1 from) next.old next.new) }
     ensures after { OnOk result (Grows (Leads query.now sum 2 from) after.old after.new) }
 {
@@ -130,7 +130,7 @@ pub(crate) fn fill_later_levels(
 ) -> Result<(), NoMemory>
     requires placed { ArePlaced query.now sum level.now }
     requires sum { sum ≤ query.now.bound }
-    requires small { sum ≤ most_bound }
+    requires small { sum ≤ MOST_BOUND }
     ensures next { OnOk result (Grows (SomeLeads query.now sum 1 level.now) next.old next.new) }
     ensures after { OnOk result (Grows (SomeLeads query.now sum 2 level.now) after.old after.new) }
 {

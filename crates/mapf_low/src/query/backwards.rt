@@ -7,7 +7,7 @@ ghost use Rattle.mapf_low.specs.Reached.{ComesFrom};
 ghost use Rattle.mapf_low.specs.Backwards.Tracing.{IsLeft, MayLead};
 ghost use Rattle.mapf_low.specs.Backwards.Earliest.{MayGo};
 ghost use Rattle.mapf_low.specs.Times.{IsQuiet};
-ghost use Rattle.mapf_plan.specs.Plan.{most_bound};
+ghost use Rattle.mapf_plan.specs.declared.answer.TheConstants.{MOST_BOUND};
 
 use super::Query;
 use crate::backwards::dead_ends::DeadEnds;
@@ -33,7 +33,7 @@ impl Query<'_> {
 
     /// Whether no constraint forbids to be on `from` at this time step, and to be on `to` at the next by a step from there.
     pub(crate) fn may_go(&self, from: Cell, to: Cell, time: u32) -> bool
-        requires { time < most_bound }
+        requires { time < MOST_BOUND }
         ensures { IsTrue result ↔ MayGo self.now time from to }
     {
         self.is_quiet(time)
@@ -44,7 +44,7 @@ impl Query<'_> {
     /// of this time step or the next, and then none is looked up.
     #[inline]
     fn allows_leaving(&self, from: Cell, to: Cell, time: u32, quiet: bool) -> bool
-        requires early { time < most_bound }
+        requires early { time < MOST_BOUND }
         requires quiet { IsTrue quiet → IsQuiet self.now.constraints time }
         ensures { IsTrue result
             ↔ ((¬ Contains self.now.constraints (Constraint.Vertex from time))
@@ -64,7 +64,7 @@ impl Query<'_> {
         time: u32,
         quiet: bool,
     ) -> Option<Cell>
-        requires early { time < most_bound }
+        requires early { time < MOST_BOUND }
         requires quiet { IsTrue quiet → IsQuiet self.now.constraints time }
         ensures { (v : ℕ) → (result ≡ Some v) ↔ ((from ≡ Some v) × MayLead self.now dead.now.states time v to) }
     {
@@ -82,7 +82,7 @@ impl Query<'_> {
     pub(crate) fn smallest_before(&self, dead: &DeadEnds, to: Cell, time: u32) -> Option<Cell>
         requires free { IsFree self.now.grid to }
         requires inside { to < cells self.now.grid }
-        requires early { time < most_bound }
+        requires early { time < MOST_BOUND }
         ensures { IsSmallest (ComesFrom self.now (time + 1) (IsLeft self.now dead.now.states time) to) result }
     {
         let quiet = self.is_quiet(time);

@@ -9,7 +9,7 @@ use Rattle.std.proofs.lemmas.Bool.Decides.{eqb_tells}
 use Rattle.std.proofs.lemmas.Bool.{eqb-false}
 use Rattle.std.proofs.lemmas.Str.Parse.{digit_at}
 use Rattle.mapf_plan.proofs.text.Numbers.{decimal_spells}
-use Rattle.mapf_plan.specs.Plan.{most_stated}
+use Rattle.mapf_plan.specs.declared.answer.TheConstants.{MOST_STATED}
 
 -- the byte isn't among the bytes
 abbrev pub Lacks : ℕ → List ℕ → Type 0
@@ -42,7 +42,7 @@ Lacks-cons byte b bs here lacks zero d within = here
 Lacks-cons byte b bs here lacks (suc k) d within = lacks k d (omega arith)
 
 -- the text of a number has digits alone
-pub Lacks-decimal : (byte n : ℕ) → n ≤ most_stated → byte < 48 → Lacks byte (decimal n)
+pub Lacks-decimal : (byte n : ℕ) → n ≤ MOST_STATED → byte < 48 → Lacks byte (decimal n)
 Lacks-decimal byte n small below = λ k d within.
     let digit = digit_at (decimal n) k (decimal_spells n small).digits within in
     rw (get_or_default_zero (decimal n) k d within) (eqb-≢ _ _ (omega (arith, digit)))

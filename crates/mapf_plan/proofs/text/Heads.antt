@@ -6,7 +6,7 @@ use Rattle.mapf_plan.specs.ReadText.{ArePlanNumbers, AreGaveUpNumbers}
 use Rattle.mapf_plan.specs.Head.{IsHead}
 use Rattle.mapf_plan.specs.declared.text.reader.Head.{Head}
 use Rattle.mapf_plan.specs.declared.text.reader.Head.TheVariants as head
-use Rattle.mapf_plan.specs.Plan.{most_bound}
+use Rattle.mapf_plan.specs.declared.answer.TheConstants.{MOST_BOUND}
 
 -- behind `plan ` stand no numbers
 pub no_head_by_numbers : (line numbers : List ℕ) → line ≡ codes "plan " ++ numbers → ((pair : ℕ × ℕ) → ¬ ArePlanNumbers numbers pair)
@@ -36,7 +36,7 @@ no_head_by_gave_up line numbers begins none (head.GaveUp nodes least) = λ is.
 
 -- the line begins neither with `plan ` nor with `gave up `, nor is it `none` with a bound
 pub no_head_otherwise : (line : List ℕ) → ((numbers : List ℕ) → line ≢ codes "plan " ++ numbers) → ((numbers : List ℕ) → line ≢ codes "gave up " ++ numbers)
-    → ((bound : ℕ) → bound ≤ most_bound → line ≢ codes "none " ++ decimal bound)
+    → ((bound : ℕ) → bound ≤ MOST_BOUND → line ≢ codes "none " ++ decimal bound)
     → (first : Head) → ¬ IsHead line first
 no_head_otherwise line no_plan no_gave_up no_bound (head.Plan agents cost) = λ is. no_plan is.0 is.1
 no_head_otherwise line no_plan no_gave_up no_bound (head.None bound) = λ is. no_bound bound is.0 is.1

@@ -9,7 +9,7 @@ use Rattle.mapf_plan.specs.Text.{position, line}
 use Rattle.mapf_plan.specs.ReadText.{IsPlace, IsCellAt, IsPathLine, IsFirstLine, AreLinesOf, ReadsLines, words_of}
 use Rattle.mapf_plan.proofs.text.Cuts.{Lacks}
 use Rattle.mapf_plan.proofs.text.Places.{AllZip-push, AllZip-length, IsLine-some}
-use Rattle.mapf_plan.specs.Path.{most_cells}
+use Rattle.mapf_plan.specs.declared.plan.path.TheConstants.{MOST_CELLS}
 
 -- a word that is a place is the position of the place's cell
 place_spelled : (g : Grid) (word : List ℕ) (place : ℕ × ℕ) (cell : ℕ) → IsPlace word place → IsCellAt g place cell → word ≡ position g cell
@@ -69,7 +69,7 @@ lines_spelled g (t ∷ ts) (p ∷ ps) zip =
 
 -- each path has the sizes of a path, and its cells are on the map
 pub paths_fit : (g : Grid) (texts paths : List (List ℕ)) → AllZip (IsPathLine g) texts paths
-    → AllByRecursion (λ path. (0 < length path) × (length path ≤ most_cells)) paths × AllByRecursion (AllByRecursion (λ c. c < cells g)) paths
+    → AllByRecursion (λ path. (0 < length path) × (length path ≤ MOST_CELLS)) paths × AllByRecursion (AllByRecursion (λ c. c < cells g)) paths
 paths_fit g [] [] zip = (tt, tt)
 paths_fit g [] (p ∷ ps) zip = absurd zip
 paths_fit g (t ∷ ts) [] zip = absurd zip

@@ -5,7 +5,7 @@ use Rattle.std.specs.Str.Parse.{AllDigits, digits_value}
 use Rattle.std.proofs.lemmas.Str.Parse.{digits_value_short}
 use Rattle.mapf_grid.proofs.DigitWords.{own}
 use Rattle.std.proofs.lemmas.Fmt.{decimal_digit, digits_decimal, digits_value-decimal, decimal-digits_value, first_decimal, length-decimal-le, decimal_nonempty}
-use Rattle.mapf_plan.specs.Plan.{most_stated}
+use Rattle.mapf_plan.specs.declared.answer.TheConstants.{MOST_STATED}
 
 -- a word of digits without a leading zero is the text of its value
 pub word_of_value : (word : List ℕ) → 0 < length word → length word ≤ 10 → AllDigits 10 word
@@ -23,13 +23,13 @@ pub record Spells (word : List ℕ) (n : ℕ) : Type 0 where
   pub canonical : get_or word 0 0 ≡ 48 → length word ≡ 1
 
 -- the text of 0 is one byte, and no other text of a number begins with `0`
-decimal_is_canonical : (n : ℕ) → n ≤ most_stated → get_or (decimal n) 0 0 ≡ 48 → length (decimal n) ≡ 1
+decimal_is_canonical : (n : ℕ) → n ≤ MOST_STATED → get_or (decimal n) 0 0 ≡ 48 → length (decimal n) ≡ 1
 decimal_is_canonical zero small zero_first = ap length (decimal_digit 0 (omega arith))
 decimal_is_canonical (suc n) small zero_first =
     let above : 48 < get_or (decimal (suc n)) 0 0 = first_decimal (suc n) (omega arith) (omega arith) in
     absurd (omega arith)
 
-pub decimal_spells : (n : ℕ) → n ≤ most_stated → Spells (decimal n) n
+pub decimal_spells : (n : ℕ) → n ≤ MOST_STATED → Spells (decimal n) n
 decimal_spells n small = record {
   some = decimal_nonempty n (omega arith);
   short = length-decimal-le 10 n (omega arith) (omega arith) (omega arith);
@@ -39,5 +39,5 @@ decimal_spells n small = record {
 }
 
 -- a number whose text the word is has the word's value
-pub value_of_text : (word : List ℕ) (n : ℕ) → n ≤ most_stated → word ≡ decimal n → Spells word n
+pub value_of_text : (word : List ℕ) (n : ℕ) → n ≤ MOST_STATED → word ≡ decimal n → Spells word n
 value_of_text word n small is = let P : List ℕ → Type 0 = λ w. Spells w n in subst P (sym is) (decimal_spells n small)

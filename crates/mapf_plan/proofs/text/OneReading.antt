@@ -16,8 +16,8 @@ use Rattle.mapf_plan.proofs.text.Written.{written, Lacks-around, Lacks-written, 
 use Rattle.mapf_plan.proofs.text.Lines.{lines_spelled, ReadsLines-start}
 use Rattle.mapf_plan.proofs.text.TextFaults.{asks_by_head, no_fault}
 use Rattle.mapf_plan.proofs.text.OneText.{AreSized, AreInside, text_is_one}
-use Rattle.mapf_grid.specs.Instance.{most_agents}
-use Rattle.mapf_plan.specs.Plan.{most_stated, most_bound, most_nodes}
+use Rattle.mapf_grid.specs.declared.instance.TheConstants.{MOST_AGENTS}
+use Rattle.mapf_plan.specs.declared.answer.TheConstants.{MOST_STATED, MOST_BOUND, MOST_NODES}
 
 -- bytes each of which is another
 Lacks-each : (byte : ℕ) (bytes : List ℕ) → AllByRecursion (λ b. eqb b byte ≡ false) bytes → Lacks byte bytes
@@ -47,22 +47,22 @@ module _ (g : Grid) (sizes : HasSizes g) where
 plan_head : (agents cost : ℕ) → List ℕ
 plan_head agents cost = codes "plan " ++ (decimal agents ++ 32 ∷ decimal cost)
 
-plan_head_is : (agents cost : ℕ) → 0 < agents → agents ≤ most_agents → cost ≤ most_stated → IsPlanHead (plan_head agents cost) agents cost
+plan_head_is : (agents cost : ℕ) → 0 < agents → agents ≤ MOST_AGENTS → cost ≤ MOST_STATED → IsPlanHead (plan_head agents cost) agents cost
 unfolding plan_head
 plan_head_is agents cost some few within = (decimal agents ++ 32 ∷ decimal cost, refl, (some, few, within, refl))
 
-Lacks-plan_head : (agents cost : ℕ) → agents ≤ most_agents → cost ≤ most_stated → Lacks 10 (plan_head agents cost)
+Lacks-plan_head : (agents cost : ℕ) → agents ≤ MOST_AGENTS → cost ≤ MOST_STATED → Lacks 10 (plan_head agents cost)
 unfolding plan_head
 Lacks-plan_head agents cost few within =
     All-append (λ b. eqb b 10 ≡ false) (codes "plan ") (decimal agents ++ 32 ∷ decimal cost) (Lacks-each 10 (codes "plan ") (refl, (refl, (refl, (refl, (refl, tt))))))
     (Lacks-around 10 32 (decimal agents) (decimal cost) (omega arith) (Lacks-decimal 10 agents (omega arith) (omega arith)) (Lacks-decimal 10 cost within (omega arith)))
 
-plan_first_line : (g : Grid) (plan : List (List ℕ)) (cost : ℕ) → length plan ≤ most_agents → cost ≤ most_stated
+plan_first_line : (g : Grid) (plan : List (List ℕ)) (cost : ℕ) → length plan ≤ MOST_AGENTS → cost ≤ MOST_STATED
     → IsFirstLine (text g (answer.Plan plan cost)) (plan_head (length plan) cost) (flat_map (line g) plan)
 unfolding plan_head
 plan_first_line g plan cost few within = (simp append_assoc, Lacks-plan_head (length plan) cost few within)
 
-none_first_line : (g : Grid) (bound : ℕ) → bound ≤ most_bound → IsFirstLine (text g (answer.None bound)) (codes "none " ++ decimal bound) []
+none_first_line : (g : Grid) (bound : ℕ) → bound ≤ MOST_BOUND → IsFirstLine (text g (answer.None bound)) (codes "none " ++ decimal bound) []
 none_first_line g bound within = (
   simp append_assoc,
   All-append (λ b. eqb b 10 ≡ false) (codes "none ") (decimal bound) (Lacks-each 10 (codes "none ") (refl, (refl, (refl, (refl, (refl, tt))))))
@@ -73,11 +73,11 @@ none_first_line g bound within = (
 gave_up_head : (nodes least : ℕ) → List ℕ
 gave_up_head nodes least = codes "gave up " ++ (decimal nodes ++ 32 ∷ decimal least)
 
-gave_up_head_is : (nodes least : ℕ) → 0 < nodes → nodes ≤ most_nodes → least ≤ most_bound → IsGaveUpHead (gave_up_head nodes least) nodes least
+gave_up_head_is : (nodes least : ℕ) → 0 < nodes → nodes ≤ MOST_NODES → least ≤ MOST_BOUND → IsGaveUpHead (gave_up_head nodes least) nodes least
 unfolding gave_up_head
 gave_up_head_is nodes least some few within = (decimal nodes ++ 32 ∷ decimal least, refl, (some, few, within, refl))
 
-gave_up_first_line : (g : Grid) (nodes least : ℕ) → nodes ≤ most_nodes → least ≤ most_bound → IsFirstLine (text g (answer.GaveUp nodes least)) (gave_up_head nodes least) []
+gave_up_first_line : (g : Grid) (nodes least : ℕ) → nodes ≤ MOST_NODES → least ≤ MOST_BOUND → IsFirstLine (text g (answer.GaveUp nodes least)) (gave_up_head nodes least) []
 unfolding gave_up_head
 gave_up_first_line g nodes least few within = (
   simp append_assoc,

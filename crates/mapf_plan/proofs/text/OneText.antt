@@ -5,8 +5,8 @@ use Rattle.std.specs.List.{flat_map, AllByRecursion}
 use Rattle.std.proofs.lemmas.List.{append_cancel_left}
 use Rattle.std.proofs.lemmas.Fmt.{decimal_injective}
 use Rattle.mapf_grid.specs.Grid.{Grid, HasSizes, cells}
-use Rattle.mapf_plan.specs.Plan.{most_stated}
-use Rattle.mapf_plan.specs.Path.{most_cells}
+use Rattle.mapf_plan.specs.declared.answer.TheConstants.{MOST_STATED}
+use Rattle.mapf_plan.specs.declared.plan.path.TheConstants.{MOST_CELLS}
 use Rattle.mapf_plan.specs.Text.{line, text, CanWrite}
 use Rattle.mapf_plan.specs.ReadText as read
 use Rattle.mapf_plan.specs.ReadText.{IsPathLine, IsTextOf}
@@ -18,14 +18,14 @@ use Rattle.mapf_plan.proofs.text.Written.{written, Lacks-written, path_line, pat
 
 -- each path has the sizes of a path
 abbrev pub AreSized : List (List ℕ) → Type 0
-AreSized plan = AllByRecursion (λ path. (0 < length path) × (length path ≤ most_cells)) plan
+AreSized plan = AllByRecursion (λ path. (0 < length path) × (length path ≤ MOST_CELLS)) plan
 
 -- each cell is on the map
 abbrev pub AreInside : Grid → List (List ℕ) → Type 0
 AreInside g plan = AllByRecursion (AllByRecursion (λ c. c < cells g)) plan
 
 -- a number before a byte that is no digit is one
-number_is_one : (byte m n : ℕ) (xs ys : List ℕ) → byte < 48 → m ≤ most_stated → n ≤ most_stated
+number_is_one : (byte m n : ℕ) (xs ys : List ℕ) → byte < 48 → m ≤ MOST_STATED → n ≤ MOST_STATED
     → decimal m ++ byte ∷ xs ≡ decimal n ++ byte ∷ ys → (m ≡ n) × (xs ≡ ys)
 number_is_one byte m n xs ys below m_small n_small same =
     let cut = cut_is_one byte (decimal m) xs (decimal n) ys (Lacks-decimal byte m m_small below) (Lacks-decimal byte n n_small below) same in

@@ -11,7 +11,7 @@ use Rattle.std.specs.List.{AllZip}
 use Rattle.std.proofs.lemmas.List.Splits.{slice_split_at, slice_split_none, length-slice_split}
 use Rattle.mapf_plan.specs.ReadText.{IsPlace, IsLine, IsInside, IsCellAt, words_of}
 use Rattle.mapf_plan.proofs.text.Cuts.{Lacks, Lacks-decimal, cut_is_one, eqb-refl}
-use Rattle.mapf_plan.specs.Path.{most_cells}
+use Rattle.mapf_plan.specs.declared.plan.path.TheConstants.{MOST_CELLS}
 
 -- one more pair
 pub AllZip-push : {A B : Type 0} (R : A → B → Type 0) (xs : List A) (ys : List B) (x : A) (y : B) → AllZip R xs ys → R x y → AllZip R (xs ++ x ∷ []) (ys ++ y ∷ [])
@@ -61,7 +61,7 @@ ReadsTo-end line rest places place reads lacks here =
     (AllZip-push IsPlace reads.done places rest place reads.each here)
 
 -- where as many positions as a line may have are read, and there is a further word, the line isn't one
-pub ReadsTo-full : (line rest : List ℕ) (places : List (ℕ × ℕ)) → ReadsTo line rest places → most_cells ≤ length places
+pub ReadsTo-full : (line rest : List ℕ) (places : List (ℕ × ℕ)) → ReadsTo line rest places → MOST_CELLS ≤ length places
     → (others : List (ℕ × ℕ)) → ¬ IsLine line others
 ReadsTo-full line rest places reads full others = λ is.
     let some : length (words_of rest) ≡ count_by (λ b. eqb b 32) rest + 1 = length-slice_split (λ b. eqb b 32) rest in
@@ -79,7 +79,7 @@ ReadsTo-stuck line rest word more places reads next none others = λ is.
 -- why a word isn't taken is why the line isn't one
 pub ReadsTo-fault : (line rest word : List ℕ) (more : List (List ℕ)) (places : List (ℕ × ℕ)) (number : ℕ) (fault : TextFault)
     → ReadsTo line rest places → words_of rest ≡ word ∷ more
-    → ((fault ≡ NoMemory) ⊎ ((fault ≡ Line number) × ((most_cells ≤ length places) ⊎ ((place : ℕ × ℕ) → ¬ IsPlace word place))))
+    → ((fault ≡ NoMemory) ⊎ ((fault ≡ Line number) × ((MOST_CELLS ≤ length places) ⊎ ((place : ℕ × ℕ) → ¬ IsPlace word place))))
     → (fault ≡ NoMemory) ⊎ ((fault ≡ Line number) × ((others : List (ℕ × ℕ)) → ¬ IsLine line others))
 ReadsTo-fault line rest word more places number fault reads next (inl memory) = inl memory
 ReadsTo-fault line rest word more places number fault reads next (inr (is, inl full)) = inr (is, ReadsTo-full line rest places reads full)

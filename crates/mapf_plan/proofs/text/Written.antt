@@ -6,7 +6,7 @@ use Rattle.std.proofs.lemmas.List.Elements.{All-append}
 use Rattle.std.proofs.lemmas.List.Splits.{slice_split_none}
 use Rattle.std.proofs.Math.Nat.{div-lt_iff_lt-mul}
 use Rattle.mapf_grid.specs.Grid.{Grid, HasSizes, cells}
-use Rattle.mapf_plan.specs.Path.{most_cells}
+use Rattle.mapf_plan.specs.declared.plan.path.TheConstants.{MOST_CELLS}
 use Rattle.mapf_plan.specs.Text.{position}
 use Rattle.mapf_plan.specs.ReadText.{IsPlace, IsCellAt, IsPathLine, words_of}
 use Rattle.mapf_plan.proofs.text.Cuts.{Lacks, Lacks-decimal, Lacks-cons, eqb-≢}
@@ -72,7 +72,7 @@ module _ (g : Grid) (sizes : HasSizes g) where
   places_there (c ∷ cs) inside = (place_is_cell c inside.0, places_there cs inside.1)
 
   -- what is written for a path is a line of it
-  pub path_line : (path : List ℕ) → (0 < length path) × (length path ≤ most_cells) → AllByRecursion (λ c. c < cells g) path → IsPathLine g (written path) path
+  pub path_line : (path : List ℕ) → (0 < length path) × (length path ≤ MOST_CELLS) → AllByRecursion (λ c. c < cells g) path → IsPathLine g (written path) path
   path_line [] size inside = absurd (omega arith)
   path_line (c ∷ cs) size inside =
       let there = places_there (c ∷ cs) inside in

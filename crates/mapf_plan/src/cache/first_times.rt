@@ -1,7 +1,7 @@
 //! When agents on two paths have their first conflict, as far as that is known: a table by the paths' numbers.
 
 ghost use Rattle.std.specs.Prelude.{◌≡◌, ◌≢◌, ℕ, ◌<◌, ◌≤◌, [], length, slice_index, OnOk, IfOk, IsTrue};
-ghost use Rattle.mapf_grid.specs.Instance.{most_agents};
+ghost use Rattle.mapf_grid.specs.declared.instance.TheConstants.{MOST_AGENTS};
 ghost use Rattle.mapf_plan.specs.KnownPaths.{row_in, time_in, known_time, AreKept, IsAdded, IsKept, IsSetTime};
 ghost use Rattle.mapf_plan.specs.PairConflicts.{HasAllOf};
 
@@ -135,7 +135,7 @@ pub(crate) fn add_known(
     from: usize,
     conflicts: &mut Vec<PairConflict>,
 ) -> Result<usize, NoMemory>
-    requires agents { length numbers.now ≤ most_agents }
+    requires agents { length numbers.now ≤ MOST_AGENTS }
     requires agent { agent < length numbers.now }
     ensures keeps { OnOk result (HasAllOf conflicts.new.items conflicts.old.items) }
     ensures added { IfOk result (λ end. (k : ℕ) → from ≤ k → k < end → k ≢ agent
@@ -159,7 +159,7 @@ fn add_time(
     other: usize,
     conflicts: &mut Vec<PairConflict>,
 ) -> Result<bool, NoMemory>
-    requires agents { (agent < most_agents) × (other < most_agents) }
+    requires agents { (agent < MOST_AGENTS) × (other < MOST_AGENTS) }
     ensures keeps { OnOk result (HasAllOf conflicts.new.items conflicts.old.items) }
     ensures added { IfOk result (λ known. IsTrue known → IsAdded agent other time conflicts.new.items) }
 {

@@ -3,7 +3,7 @@
 ghost use Rattle.std.specs.Prelude.{◌≡◌, ℕ, ◌<◌, ◌≤◌, List, [], length, slice_get, slice_set, Some};
 ghost use Rattle.std.specs.Prelude.{IfOk, IfSome, MatchOption, OnOk};
 ghost use Rattle.std.specs.Arc.{arc_value};
-ghost use Rattle.mapf_grid.specs.Instance.{most_agents};
+ghost use Rattle.mapf_grid.specs.declared.instance.TheConstants.{MOST_AGENTS};
 ghost use Rattle.mapf_plan.specs.Plan.{IsFirstConflict, HasNoConflict};
 ghost use Rattle.mapf_plan.specs.KnownPaths.{KnownPaths, AreNumbers, IsKnownPlan, changed_plan};
 
@@ -115,7 +115,7 @@ impl KnownPaths {
     /// The plan of agents whose paths have these numbers, agent 0's first.
     pub fn plan(&mut self, numbers: &[usize]) -> Result<KnownPlan, NoMemory>
         requires numbers { AreNumbers self.old.paths numbers.now }
-        requires agents { length numbers.now ≤ most_agents }
+        requires agents { length numbers.now ≤ MOST_AGENTS }
         ensures known { self.new ≡ self.old }
         ensures plan { IfOk result (λ plan. IsKnownPlan self.old plan.numbers.items plan.conflicts.items) }
         ensures numbers { IfOk result (λ plan. plan.numbers.items ≡ numbers.now) }

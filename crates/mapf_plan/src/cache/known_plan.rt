@@ -23,14 +23,14 @@ pub(crate) struct Numbered<'a> {
 impl<'a> Model for Numbered<'a> {
     ghost use Rattle.std.specs.Prelude.{ℕ, List, ◌<◌, ◌≤◌, length, map};
     ghost use Rattle.std.specs.Arc.{arc_value};
-    ghost use Rattle.mapf_grid.specs.Instance.{most_agents};
+    ghost use Rattle.mapf_grid.specs.declared.instance.TheConstants.{MOST_AGENTS};
     ghost use Rattle.mapf_plan.specs.KnownPaths.{AreNumbers, changed_plan};
 
     ghost Value = { List (List ℕ) };
 
     ghost view = { λ n. changed_plan (map arc_value n.paths.now) n.numbers.now n.changed n.number };
 
-    ghost invariant = { λ n. (0 < length n.numbers.now) × (length n.numbers.now ≤ most_agents)
+    ghost invariant = { λ n. (0 < length n.numbers.now) × (length n.numbers.now ≤ MOST_AGENTS)
         × (n.number < length n.paths.now) × AreNumbers (map arc_value n.paths.now) n.numbers.now };
 }
 

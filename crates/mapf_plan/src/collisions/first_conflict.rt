@@ -4,7 +4,8 @@ ghost use Rattle.std.specs.Prelude.{◌≡◌, ℕ, ◌+◌, ◌<◌, ◌≤◌,
 ghost use Rattle.mapf_grid.specs.Least.{NoneBefore};
 ghost use Rattle.mapf_plan.specs.declared.conflict.Conflict.{Conflict};
 ghost use Rattle.mapf_plan.specs.Path.{cost};
-ghost use Rattle.mapf_plan.specs.Plan.{most_bound, conflict_rank, conflict_time, path_of, second_agent, IsConflict};
+ghost use Rattle.mapf_plan.specs.Plan.{conflict_rank, conflict_time, path_of, second_agent, IsConflict};
+ghost use Rattle.mapf_plan.specs.declared.answer.TheConstants.{MOST_BOUND};
 ghost use Rattle.mapf_plan.specs.Plan.{IsFirstConflict, HasNoConflict};
 ghost use Rattle.mapf_plan.specs.FirstConflict.{HasNoConflictBefore, IsConflictAt, IsConflictBefore, IsConflictWithout};
 ghost use Rattle.mapf_plan.specs.FirstConflict.{IsEarlier, IsOfAgent};
@@ -139,7 +140,7 @@ fn earlier_at<P: AgentPaths>(
 
 /// The cost of the longest path: then all agents are at rest.
 fn longest<P: AgentPaths>(plan: &P) -> u32
-    ensures small { result ≤ most_bound }
+    ensures small { result ≤ MOST_BOUND }
     ensures costs { (i : ℕ) → i < length (P.paths plan.now) → cost (path_of (P.paths plan.now) i) ≤ result }
 {
     let mut longest = 0;

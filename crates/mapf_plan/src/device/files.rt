@@ -9,7 +9,7 @@ use super::{DeviceFault, FileName, ReadFault, Sink, Source, read_whole, write_wh
 use std::alloc::Global;
 
 /// How many bytes of one file are read at most.
-const LIMIT: usize = 67_108_864;
+pub const MOST_BYTES: usize = 67_108_864;
 
 /// Reads a file's bytes, all of them: 67,108,864 at most.
 ///
@@ -25,7 +25,7 @@ pub fn read_file<S: Source>(
     ensures within { OnOk result (IsWithin (S.remaining source.old)) }
     ensures fault { IfErr result (IsReadFaultOf name (S.remaining source.old)) }
 {
-    match read_whole(alloc, source, LIMIT) {
+    match read_whole(alloc, source, MOST_BYTES) {
         Ok(bytes) => Ok(bytes),
         Err(ReadFault::Failed) => Err(DeviceFault::ReadFailed(name)),
         Err(ReadFault::TooLong) => Err(DeviceFault::TooLong(name)),

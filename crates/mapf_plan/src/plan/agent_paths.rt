@@ -1,5 +1,5 @@
 ghost use Rattle.std.specs.Prelude.{◌≡◌, ◌<◌, ◌≤◌, length};
-ghost use Rattle.mapf_grid.specs.Instance.{most_agents};
+ghost use Rattle.mapf_grid.specs.declared.instance.TheConstants.{MOST_AGENTS};
 ghost use Rattle.mapf_plan.specs.Plan.{path_of};
 
 use crate::Path;
@@ -14,7 +14,7 @@ pub trait AgentPaths {
     fn agents(&self) -> usize
         ensures agents { result ≡ length (paths self.now) }
         ensures some { 0 < length (paths self.now) }
-        ensures few { length (paths self.now) ≤ most_agents };
+        ensures few { length (paths self.now) ≤ MOST_AGENTS };
 
     /// The path of an agent.
     fn path(&self, agent: usize) -> &Path

@@ -1,10 +1,14 @@
 ghost use Rattle.std.specs.Prelude.{◌≡◌, ◌≢◌, ℕ, ◌+◌, ◌<◌, ◌≤◌, length, slice_index, IfOk, IsFalse, IsTrue};
-ghost use Rattle.mapf_plan.specs.Path.{at, cost, most_cells, IsFirstTime};
-ghost use Rattle.mapf_plan.specs.Plan.{most_bound};
+ghost use Rattle.mapf_plan.specs.Path.{at, cost, IsFirstTime};
+ghost use Rattle.mapf_plan.specs.declared.plan.path.TheConstants.{MOST_CELLS};
+ghost use Rattle.mapf_plan.specs.declared.answer.TheConstants.{MOST_BOUND};
 
 use mapf_grid::{Cell, NoMemory};
 use std::alloc::Global;
 use std::marker::Model;
+
+/// The greatest number of a path's cells: one more than the greatest bound.
+pub const MOST_CELLS: usize = 1_000_001;
 
 /// One agent's cells at the time steps 0, 1, 2 and so on: at least one, at most 1,000,001.
 #[derive(Debug, Drop)]
@@ -14,20 +18,20 @@ pub struct Path {
 
 impl Model for Path {
     ghost use Rattle.std.specs.Prelude.{ℕ, List, ◌<◌, ◌≤◌, length};
-    ghost use Rattle.mapf_plan.specs.Path.{most_cells};
+    ghost use Rattle.mapf_plan.specs.declared.plan.path.TheConstants.{MOST_CELLS};
 
     ghost Value = { List ℕ };
 
     ghost view = { λ p. p.cells.items };
 
-    ghost invariant = { λ p. (0 < length p.cells.items) × (length p.cells.items ≤ most_cells) };
+    ghost invariant = { λ p. (0 < length p.cells.items) × (length p.cells.items ≤ MOST_CELLS) };
 }
 
 impl Path {
     /// The path over these cells.
     pub fn of(cells: Vec<Cell>) -> Self
         requires some { 0 < length cells.items }
-        requires few { length cells.items ≤ most_cells }
+        requires few { length cells.items ≤ MOST_CELLS }
         ensures { result ≡ cells.items }
     {
         Path { cells }
@@ -37,7 +41,7 @@ impl Path {
     pub fn cells(&self) -> &[Cell]
         ensures cells { result.now ≡ self.now }
         ensures some { 0 < length self.now }
-        ensures few { length self.now ≤ most_cells }
+        ensures few { length self.now ≤ MOST_CELLS }
     {
         self.cells.as_slice()
     }
@@ -45,7 +49,7 @@ impl Path {
     /// The number of steps, waits among them: the number of cells less one.
     pub fn cost(&self) -> u32
         ensures cost { result ≡ cost self.now }
-        ensures small { result ≤ most_bound }
+        ensures small { result ≤ MOST_BOUND }
     {
         (self.cells.len() - 1) as u32
     }

@@ -1,5 +1,5 @@
 ghost use Rattle.std.specs.Prelude.{◌≡◌, ◌≢◌, ℕ, ◌<◌, ◌≤◌, ◌↔◌, IsTrue, slice_index, length, MatchOption, decimal};
-ghost use Rattle.mapf_plan.specs.Plan.{most_stated};
+ghost use Rattle.mapf_plan.specs.declared.answer.TheConstants.{MOST_STATED};
 
 use mapf_grid::decimal_value;
 
@@ -8,7 +8,7 @@ const MOST_DIGITS: usize = 10;
 
 /// The number up to `most` that a word spells without leading zeros; none where it spells none.
 pub(super) fn number(word: &[u8], most: u64) -> Option<u64>
-    requires { most ≤ most_stated }
+    requires { most ≤ MOST_STATED }
     ensures { MatchOption result ((n : ℕ) → n ≤ most → word.now ≢ decimal n)
         (λ n. (n ≤ most) × (word.now ≡ decimal n)) }
 {

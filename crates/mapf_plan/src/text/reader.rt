@@ -1,9 +1,9 @@
 ghost use Rattle.std.specs.Prelude.{◌≡◌, ◌≢◌, ℕ, List, ◌+◌, ◌*◌, ◌<◌, ◌≤◌, ◌⊎◌, ◌++◌, ◌∷◌, [], length, vec_len, MatchOption, MatchResult, IfOk, IfErr, slice_get, Some};
 ghost use Rattle.std.specs.List.{AllZip};
-ghost use Rattle.mapf_grid.specs.Instance.{most_agents};
-ghost use Rattle.mapf_plan.specs.Path.{most_cells};
+ghost use Rattle.mapf_grid.specs.declared.instance.TheConstants.{MOST_AGENTS};
+ghost use Rattle.mapf_plan.specs.declared.plan.path.TheConstants.{MOST_CELLS};
 ghost use Rattle.mapf_plan.specs.ReadText.{IsPlace, IsLine, IsCellAt, IsFirstOutside, IsFirstLine, IsPathLine, AreTwoNumbers, AreLinesOf, IsTextOf, IsTextFault, IsLineFault, HasLinesFault};
-ghost use Rattle.mapf_plan.specs.Plan.{most_stated};
+ghost use Rattle.mapf_plan.specs.declared.answer.TheConstants.{MOST_STATED};
 ghost use Rattle.mapf_plan.specs.Head.{IsHead};
 ghost use Rattle.mapf_plan.specs.declared.answer.Answer.{Answer as AnswerValue};
 ghost use Rattle.mapf_plan.specs.declared.text.reader.Head.{Head as HeadValue};
@@ -11,13 +11,12 @@ ghost use Rattle.mapf_plan.specs.declared.text.reader.Head.{Head as HeadValue};
 use super::TextFault;
 use super::cut::cut_at;
 use super::number::number;
-use crate::{Answer, MOST_BOUND, MOST_NODES, MOST_STATED, Path, Plan};
+use crate::{Answer, MOST_BOUND, MOST_CELLS, MOST_NODES, MOST_STATED, Path, Plan};
 use mapf_grid::{Cell, MOST_AGENTS, Map};
 use std::alloc::Global;
 
-const MOST_CELLS: usize = 1_000_001;
-/// A column or a row has at most nine digits.
-const MOST_COORDINATE: u64 = 999_999_999;
+/// The greatest column and row that a position has: they have at most nine digits.
+pub const MOST_COORDINATE: u64 = 999_999_999;
 
 /// What the first line says.
 enum Head {
@@ -90,8 +89,8 @@ fn without_front<'a>(line: &'a [u8], front: &[u8]) -> Option<&'a [u8]>
 
 /// Two numbers parted by a space, the first of them above 0, each up to its limit.
 fn read_two_numbers(numbers: &[u8], most_first: u64, most_second: u64) -> Option<(u64, u64)>
-    requires first { most_first ≤ most_stated }
-    requires second { most_second ≤ most_stated }
+    requires first { most_first ≤ MOST_STATED }
+    requires second { most_second ≤ MOST_STATED }
     ensures { MatchOption result ((pair : ℕ × ℕ) → ¬ AreTwoNumbers most_first most_second numbers.now pair)
         (AreTwoNumbers most_first most_second numbers.now) }
 {
@@ -107,7 +106,7 @@ fn read_two_numbers(numbers: &[u8], most_first: u64, most_second: u64) -> Option
 /// The lines of the agents, from line 2 on, and nothing behind them.
 fn read_plan(alloc: Global, bytes: &[u8], agents: usize, map: &Map) -> Result<Plan, TextFault>
     requires some { 0 < agents }
-    requires few { agents ≤ most_agents }
+    requires few { agents ≤ MOST_AGENTS }
     ensures agents { IfOk result (λ plan. length plan ≡ agents) }
     ensures lines { IfOk result (AreLinesOf map.now bytes.now) }
     ensures fault { IfErr result (λ fault. (fault ≡ TextFault.NoMemory)
@@ -173,9 +172,9 @@ fn read_places(alloc: Global, line: &[u8], number: usize) -> Result<Vec<(u32, u3
 /// Appends the column and the row that a word spells.
 fn push_place(places: &mut Vec<(u32, u32)>, word: &[u8], number: usize) -> Result<(), TextFault>
     ensures pushed { IfOk result (λ _. (place : ℕ × ℕ) × IsPlace word.now place
-        × (places.new.items ≡ places.old.items ++ place ∷ []) × (length places.old.items < most_cells)) }
+        × (places.new.items ≡ places.old.items ++ place ∷ []) × (length places.old.items < MOST_CELLS)) }
     ensures fault { IfErr result (λ fault. (fault ≡ TextFault.NoMemory) ⊎ ((fault ≡ TextFault.Line number)
-        × ((most_cells ≤ length places.old.items) ⊎ ((place : ℕ × ℕ) → ¬ IsPlace word.now place)))) }
+        × ((MOST_CELLS ≤ length places.old.items) ⊎ ((place : ℕ × ℕ) → ¬ IsPlace word.now place)))) }
 {
     let fault = TextFault::Line { line: number };
     if places.len() >= MOST_CELLS {

@@ -2,7 +2,7 @@
 
 ghost use Rattle.std.specs.Prelude.{◌≡◌, ◌↔◌, ◌<◌, ◌≤◌, [], length, slice_index_or, IfOk, IfSome, Contains};
 ghost use Rattle.std.specs.Arc.{arc_value};
-ghost use Rattle.mapf_grid.specs.Instance.{most_agents};
+ghost use Rattle.mapf_grid.specs.declared.instance.TheConstants.{MOST_AGENTS};
 ghost use Rattle.mapf_plan.specs.Plan.{path_of};
 
 use crate::Node;
@@ -18,7 +18,7 @@ impl Node {
     pub(crate) fn agents(&self) -> usize
         ensures agents { result ≡ length self.now.plan }
         ensures some { 0 < result }
-        ensures few { result ≤ most_agents }
+        ensures few { result ≤ MOST_AGENTS }
     {
         self.body.root.agents()
     }

@@ -14,13 +14,13 @@ pub(crate) struct CurrentPaths<'a> {
 
 impl<'a> Model for CurrentPaths<'a> {
     ghost use Rattle.std.specs.Prelude.{ℕ, List, ◌<◌, ◌≤◌, length, map};
-    ghost use Rattle.mapf_grid.specs.Instance.{most_agents};
+    ghost use Rattle.mapf_grid.specs.declared.instance.TheConstants.{MOST_AGENTS};
 
     ghost Value = { List (List ℕ) };
 
     ghost view = { λ p. map (λ path. path.now) p.paths.items };
 
-    ghost invariant = { λ p. (0 < length p.paths.items) × (length p.paths.items ≤ most_agents) };
+    ghost invariant = { λ p. (0 < length p.paths.items) × (length p.paths.items ≤ MOST_AGENTS) };
 }
 
 impl<'a> CurrentPaths<'a> {

@@ -2,7 +2,8 @@
 
 ghost use Rattle.std.specs.Prelude.{◌≡◌, ◌+◌, ◌<◌, ◌≤◌, [], ◌∷◌, ◌++◌, length, slice_set, slice_index_or, IfOk, IsSome};
 ghost use Rattle.mapf_plan.specs.Path.{cost};
-ghost use Rattle.mapf_plan.specs.Plan.{path_of, plan_cost, most_bound};
+ghost use Rattle.mapf_plan.specs.Plan.{path_of, plan_cost};
+ghost use Rattle.mapf_plan.specs.declared.answer.TheConstants.{MOST_BOUND};
 ghost use Rattle.mapf_tree.specs.Nodes.{IsConflictOf};
 
 use crate::node::Body;
@@ -26,7 +27,7 @@ impl Node {
     ) -> Result<Node, NoMemory>
         requires agent { change.value.agent < length self.now.plan }
         requires old { old ≡ cost (path_of self.now.plan change.value.agent) }
-        requires small { plan_cost (slice_set self.now.plan change.value.agent change.value.path) ≤ most_bound }
+        requires small { plan_cost (slice_set self.now.plan change.value.agent change.value.path) ≤ MOST_BOUND }
         requires conflict { IsConflictOf self.now.rule
             (slice_set self.now.plan change.value.agent change.value.path) conflict }
         ensures name { IfOk result (λ n. n.name ≡ self.now.name ++ side ∷ []) }
@@ -37,7 +38,8 @@ impl Node {
         ensures plan { IfOk result (λ n. n.plan ≡ slice_set self.now.plan change.value.agent change.value.path) }
         ensures rule { IfOk result (λ n. n.rule ≡ self.now.rule) }
         ensures conflict { IfOk result
-            (λ n. IsConflictOf self.now.rule (slice_set self.now.plan change.value.agent change.value.path) n.conflict) }
+            (λ n. IsConflictOf self.now.rule (slice_set self.now.plan change.value.agent change.value.path)
+            n.conflict) }
     {
         let key = self.key_with(alloc, side, change.agent, old, &change.path)?;
         let body = Body {
@@ -62,7 +64,7 @@ impl Node {
     ) -> Result<Key, NoMemory>
         requires agent { agent < length self.now.plan }
         requires old { old ≡ cost (path_of self.now.plan agent) }
-        requires small { plan_cost (slice_set self.now.plan agent path.now) ≤ most_bound }
+        requires small { plan_cost (slice_set self.now.plan agent path.now) ≤ MOST_BOUND }
         ensures cost { IfOk result (λ key. key.cost ≡ plan_cost (slice_set self.now.plan agent path.now)) }
         ensures depth { IfOk result (λ key. key.depth ≡ length self.now.name + 1) }
         ensures name { IfOk result (λ key. key.name ≡ self.now.name ++ side ∷ []) }

@@ -1,7 +1,7 @@
 //! The members of the constraint tree: its root, and the children of a node.
 
 ghost use Rattle.std.specs.Prelude.{◌<◌, ◌≤◌, [], length, IfOk, None, MatchOption};
-ghost use Rattle.mapf_plan.specs.Plan.{most_bound};
+ghost use Rattle.mapf_plan.specs.declared.answer.TheConstants.{MOST_BOUND};
 ghost use Rattle.mapf_tree.specs.SideQuery.{IsQueryOf};
 ghost use Rattle.mapf_tree.specs.Family.{AreRootPaths, IsBranching, IsChildOf, IsOwn, IsOwnWithin, IsRoot};
 
@@ -100,7 +100,7 @@ pub(crate) fn own_path(
     bound: u32,
 ) -> Result<Option<Path>, NoMemory>
     requires agent { agent < length problem.now.inst.starts }
-    requires small { bound ≤ most_bound }
+    requires small { bound ≤ MOST_BOUND }
     ensures { IfOk result (IsOwnWithin problem.now bound agent constraints.now) }
 {
     let instance = problem.instance();

@@ -1,7 +1,7 @@
 ghost use Rattle.std.specs.Prelude.{◌≡◌, ◌<◌, ◌≤◌, IfOk, IfErr, Some, None, length, slice_index};
 ghost use Rattle.mapf_low.specs.Walk.{AreDistances};
 ghost use Rattle.mapf_tree.specs.Problem.{HasDistances, IsLimit};
-ghost use Rattle.mapf_plan.specs.Plan.{most_bound, most_nodes};
+ghost use Rattle.mapf_plan.specs.declared.answer.TheConstants.{MOST_BOUND, MOST_NODES};
 ghost use Rattle.mapf_plan.specs.declared.rule.Rule.TheVariants.{Classical, NoFollowing};
 
 use mapf_grid::{Instance, NoMemory};
@@ -53,7 +53,7 @@ impl Problem {
         instance: Instance,
         bound: u32,
     ) -> Result<Problem, (Instance, NoMemory)>
-        requires { bound ≤ most_bound }
+        requires { bound ≤ MOST_BOUND }
         ensures made { IfOk result (λ p.
             p ≡ record { inst = instance; bound = bound; nodes = None; rule = Classical }) }
         ensures err { IfErr result (λ e. e.0 ≡ instance) }
@@ -66,7 +66,7 @@ impl Problem {
 
     /// The problem of this instance under this bound, by the classical rule, with the distances to each agent's goal.
     pub fn with(instance: Instance, distances: Vec<Distances>, bound: u32) -> Problem
-        requires bound { bound ≤ most_bound }
+        requires bound { bound ≤ MOST_BOUND }
         requires distances { HasDistances instance distances.items }
         ensures { result ≡ record { inst = instance; bound = bound; nodes = None; rule = Classical } }
     {
@@ -84,7 +84,7 @@ impl Problem {
     /// is then [`Answer::GaveUp`](mapf_plan::Answer::GaveUp), with a lower bound on the cost of every plan without conflict.
     pub fn with_nodes(self, nodes: u64) -> Problem
         requires some { 0 < nodes }
-        requires few { nodes ≤ most_nodes }
+        requires few { nodes ≤ MOST_NODES }
         ensures { result ≡ record { inst = self.inst; bound = self.bound; nodes = Some nodes; rule = self.rule } }
     {
         let mut problem = self;
@@ -120,7 +120,7 @@ impl Problem {
     /// What a plan may cost at most.
     pub fn bound(&self) -> u32
         ensures bound { result ≡ self.now.bound }
-        ensures small { result ≤ most_bound }
+        ensures small { result ≤ MOST_BOUND }
     {
         self.bound
     }

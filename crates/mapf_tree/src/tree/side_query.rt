@@ -3,7 +3,8 @@
 ghost use Rattle.std.specs.Prelude.{◌≡◌, ◌<◌, ◌≤◌, length, option_map, Some, IfOk};
 ghost use Rattle.std.specs.Arc.{arc_value};
 ghost use Rattle.mapf_plan.specs.Path.{cost};
-ghost use Rattle.mapf_plan.specs.Plan.{path_of, plan_cost, most_bound};
+ghost use Rattle.mapf_plan.specs.Plan.{path_of, plan_cost};
+ghost use Rattle.mapf_plan.specs.declared.answer.TheConstants.{MOST_BOUND};
 ghost use Rattle.mapf_tree.specs.Family.{IsBranching, IsChildOf, Leaves};
 ghost use Rattle.mapf_low.specs.Lookup.{IfKnown};
 
@@ -206,8 +207,8 @@ pub(crate) fn bound_for(problem: &Problem, node: &Node, agent: usize, own: u32) 
     requires own { own ≡ cost (path_of node.now.plan agent) }
     requires within { plan_cost node.now.plan ≤ problem.now.bound }
     ensures leaves { Leaves problem.now node.now.plan agent result }
-    ensures small { result ≤ most_bound }
-    ensures bounded { problem.now.bound ≤ most_bound }
+    ensures small { result ≤ MOST_BOUND }
+    ensures bounded { problem.now.bound ≤ MOST_BOUND }
 {
     let others = node.key().cost - u64::from(own);
     (u64::from(problem.bound()) - others) as u32

@@ -6,7 +6,7 @@ use Rattle.mapf_low.specs.Reached.{EndsAt}
 use Rattle.mapf_low.proofs.by_layers.LayersGrow.{layers_one, layers_push, not_yet}
 use Rattle.mapf_low.proofs.Reading.{are_linked}
 use Rattle.mapf_low.proofs.Rising.{not_true}
-use Rattle.mapf_low.proofs.FirstArrival.{own, none_through, none_by_limit}
+use Rattle.mapf_low.proofs.FirstArrival.{own, none_through, none_by_bound}
 use Rattle.mapf_low.proofs.by_layers.Layering.{AreLayers, layers_set}
 use Rattle.mapf_low.proofs.by_layers.search_by_layers.Goals as goal
 
@@ -68,7 +68,7 @@ returns c =
     let layers = c.loop-time.layers.items in
     let set = layers_set c.args.query.now layers c.bound-bound.ensures.posed c.requires c.loop-time.invariant.layers_are in
     let all : c.loop-time.time ≡ c.args.query.now.bound + 1 = omega arith in
-    none_by_limit c.args.query.now c.args.query.now.bound (InLayers layers) (length layers) set (omega arith)
+    none_by_bound c.args.query.now c.args.query.now.bound (InLayers layers) (length layers) set (omega arith)
     (subst (λ n. (t : ℕ) → t < n → ¬ EndsAt c.args.query.now (InLayers layers) t) all c.loop-time.invariant.before)
 
 pub returns-then-is_empty : goal.returns-then-is_empty

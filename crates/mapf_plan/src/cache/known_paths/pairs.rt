@@ -1,7 +1,7 @@
 //! The pair conflicts of an agent with each other one, from what is known of their paths.
 
 ghost use Rattle.std.specs.Prelude.{◌≡◌, ◌≢◌, ℕ, ◌<◌, ◌≤◌, length, slice_index, IfOk, OnOk};
-ghost use Rattle.mapf_grid.specs.Instance.{most_agents};
+ghost use Rattle.mapf_grid.specs.declared.instance.TheConstants.{MOST_AGENTS};
 ghost use Rattle.mapf_plan.specs.Plan.{path_of, IsConflict};
 ghost use Rattle.mapf_plan.specs.Collisions.{HaveNoneBefore};
 ghost use Rattle.mapf_plan.specs.PairConflicts.{HavePairConflicts, HasAllOf};
@@ -46,7 +46,7 @@ impl KnownPaths {
         conflicts: &mut Vec<PairConflict>,
     ) -> Result<(), NoMemory>
         requires numbers { AreNumbers self.old.paths numbers.now }
-        requires agents { length numbers.now ≤ most_agents }
+        requires agents { length numbers.now ≤ MOST_AGENTS }
         requires agent { agent < length numbers.now }
         requires number { number < length self.old.paths }
         ensures known { self.new ≡ self.old }

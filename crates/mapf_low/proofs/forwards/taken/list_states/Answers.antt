@@ -1,6 +1,6 @@
 use Rattle.std.proofs.Common.{◌≡◌, ◌<◌, [], length, Contains, subst, sym, ◌∙◌, arith}
 use Rattle.std.proofs.lemmas.List.{get_or_default}
-use Rattle.mapf_low.proofs.Ending.{ends_by_limit}
+use Rattle.mapf_low.proofs.Ending.{ends_by_bound}
 use Rattle.mapf_low.proofs.Rising.{not_true}
 use Rattle.mapf_low.specs.Query.{MayEnd}
 use Rattle.mapf_low.specs.Forwards.FLevels.{level_at}
@@ -28,4 +28,4 @@ returns c =
 pub returns-then-not-may_end : goal.returns-then-not-may_end
 returns-then-not-may_end c =
     none_taken c.args.query.now c.new-states.result.items c.new-states.ensures.items
-    (λ p a. not_true c.may_end.result (MayEnd c.args.query.now c.bound.result) c.may_end.ensures c.if-not-may_end.true (subst (MayEnd c.args.query.now) (sym c.bound.ensures.bound) (ends_by_limit c.args.query.now p a)))
+    (λ p a. not_true c.may_end.result (MayEnd c.args.query.now c.bound.result) c.may_end.ensures c.if-not-may_end.true (subst (MayEnd c.args.query.now) (sym c.bound.ensures.bound) (ends_by_bound c.args.query.now p a)))

@@ -2,13 +2,13 @@ use Rattle.std.proofs.Common.{rules, ◌≡◌, ◌<◌, length, Some, subst, ar
 use Rattle.std.specs.Prelude.{slice_index}
 use Rattle.mapf_tree.specs.Family.{Leaves}
 use Rattle.mapf_tree.specs.PathCache.{PathCache, IsExtended}
-use Rattle.mapf_tree.proofs.PathCaches.{agents_at_node, limit_within, found_at}
+use Rattle.mapf_tree.proofs.PathCaches.{agents_at_node, bound_within, found_at}
 use Rattle.mapf_tree.proofs.own_paths.path_cache.PathCache.find_by_number.Goals as goal
 
 pub find_own_path-requires : goal.find_own_path-requires
 find_own_path-requires c =
     let inside : c.agent_of-agent.result < length c.args.self.now.problem.inst.starts = search rules in
-    limit_within c.args.self.now.problem c.args.node.now c.agent_of-agent.result c.bound_for-bound.result (omega (arith, inside, agents_at_node c.args.self.now.problem c.args.node.now c.requires.node))
+    bound_within c.args.self.now.problem c.args.node.now c.agent_of-agent.result c.bound_for-bound.result (omega (arith, inside, agents_at_node c.args.self.now.problem c.args.node.now c.requires.node))
     (subst (λ (b : PathCache). Leaves b.problem c.args.node.now.plan c.agent_of-agent.result c.bound_for-bound.result) c.self.view_is c.bound_for-bound.ensures.leaves)
 
 pub returns : goal.returns

@@ -1,6 +1,6 @@
 use Rattle.std.proofs.Common.{◌≡◌, ◌≤◌, Some, subst, sym, ap, ◌∙◌, arith}
 use Rattle.std.specs.Prelude.{IfSome, slice_get}
-use Rattle.mapf_plan.specs.Plan.{most_bound}
+use Rattle.mapf_plan.specs.declared.answer.TheConstants.{MOST_BOUND}
 use Rattle.mapf_tree.specs.Family.{IsChildOf}
 use Rattle.mapf_tree.specs.PathCache.{PathCache, IsFoundAt}
 use Rattle.mapf_tree.proofs.PathCaches.{none_at, small_at, child_at}
@@ -20,8 +20,8 @@ with_change-requires-clause-small c =
     subst (λ (b : PathCache). slice_get b.paths number ≡ Some path) c.in_ok-found.ensures.same c.in_ok-change.ensures.path in
     let is : node.conflict ≡ Some c.unwrap-conflict.result = cc in
     let small = small_at cache node side c.unwrap-conflict.result c.in_ok-change.change.value.agent number path c.requires.node found at is (c.in_ok-change.ensures.agent ∙ c.agent_of.ensures) in
-    let few : cache.problem.bound ≤ most_bound =
-    subst (λ n. n ≤ most_bound) (c.bound-bound.ensures.bound ∙ ap (λ (b : PathCache). b.problem.bound) (c.self.view_is ∙ c.conflict_with.ensures.same ∙ c.change_of.ensures.same ∙ c.in_ok-found.ensures.same)) c.bound-bound.ensures.small in
+    let few : cache.problem.bound ≤ MOST_BOUND =
+    subst (λ n. n ≤ MOST_BOUND) (c.bound-bound.ensures.bound ∙ ap (λ (b : PathCache). b.problem.bound) (c.self.view_is ∙ c.conflict_with.ensures.same ∙ c.change_of.ensures.same ∙ c.in_ok-found.ensures.same)) c.bound-bound.ensures.small in
     omega (arith, small.1, few)
 
 pub returns-clause-child : goal.returns-clause-child
