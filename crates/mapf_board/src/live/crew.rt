@@ -68,7 +68,10 @@ pub fn close_behind<W: Work>(
     ensures slots { IfOk result (λ left. keys left.items ≡ slots_below (size_of live) (currents owner)) }
     ensures jobs { IfOk result (λ left. All (λ x. current_in owner x.0 ≡ Some (job_in x.1)) left.items) }
 {
-    live.close(alloc, owner, seats?).map_err(|_| NoMemory)
+    match live.close(alloc, owner, seats?) {
+        Ok(left) => Ok(left),
+        Err(_) => Err(NoMemory),
+    }
 }
 
 /// The owner's part, and beside it each worker takes its turns at the board in a thread of its own. The crew comes back; an
