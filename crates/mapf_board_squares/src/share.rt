@@ -29,7 +29,10 @@ fn work_all<R: Threads + Sync>(
     map_vec(
         rt,
         seats,
-        &|seat| live.take_turns(&Squares, &NoGate, &AlwaysGrants, seat, TURNS),
+        &|mut seat| {
+            live.take_turns(&Squares, &NoGate, &AlwaysGrants, &mut seat, TURNS);
+            seat
+        },
     )
 }
 

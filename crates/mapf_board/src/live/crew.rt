@@ -11,11 +11,12 @@ use super::left::Left;
 use super::owner::Owner;
 use super::worker::WorkerSeat;
 use crate::gate::Gate;
+use crate::limits::MOST_WORKERS;
 use crate::no_memory::NoMemory;
 use crate::supply::Supply;
 use crate::work::{Pair, Work};
-use std::alloc::{AllocError, Global};
-use std::thread::{Threads, join, map_vec};
+use std::alloc::Global;
+use std::thread::{Threads, for_each_mut, join_mut};
 
 /// The seats of all workers of a live board, of whom none has a claim, and how many turns each takes at most.
 #[derive(Drop)]
@@ -44,88 +45,84 @@ impl<'s, W: Work> Crew<'s, W> {
     }
 }
 
-/// The seats of a crew of this board, where memory didn't run out for it.
-pub fn seats_of<W: Work>(
-    live: &Live<W>,
-    crew: Result<Crew<'_, W>, NoMemory>,
-) -> Result<Vec<WorkerSeat<W>>, NoMemory>
-    requires { IfOk crew (λ crew. crew.live.now ≡ live.now) }
-    ensures { IfOk result (λ seats. IsCrewOf live.now seats.items) }
-{
-    Ok(crew?.into_seats())
-}
-
 /// Closes a board behind its crew: what is left in each slot where the owner has a job still, slots rising. An error is that
-/// memory ran out, for the crew or to close the board.
+/// memory ran out.
 pub fn close_behind<W: Work>(
     alloc: Global,
     live: Live<W>,
     owner: Owner<W>,
-    seats: Result<Vec<WorkerSeat<W>>, NoMemory>,
+    seats: Vec<WorkerSeat<W>>,
 ) -> Result<Vec<(usize, Left<Pair<W>, W::Job>)>, NoMemory>
     requires owner { IsOwnerOf live owner }
-    requires crew { IfOk seats (λ seats. IsCrewOf live seats.items) }
+    requires crew { IsCrewOf live seats.items }
     ensures slots { IfOk result (λ left. keys left.items ≡ slots_below (size_of live) (currents owner)) }
     ensures jobs { IfOk result (λ left. All (λ x. current_in owner x.0 ≡ Some (job_in x.1)) left.items) }
 {
-    match live.close(alloc, owner, seats?) {
+    match live.close(alloc, owner, seats) {
         Ok(left) => Ok(left),
         Err(_) => Err(NoMemory),
     }
 }
 
-/// The owner's part, and beside it each worker takes its turns at the board in a thread of its own. The crew comes back; an
-/// error is that memory ran out for their threads.
-pub fn work_beside<
-    's,
-    R: Threads + Sync,
-    W: Work,
-    G: Gate,
-    S: Supply,
-    T: Send + Drop,
-    F: FnOnce() -> T + Send + Drop,
->(
-    rt: &R,
-    crew: Crew<'s, W>,
-    work: &W,
-    gate: &G,
-    supply: &S,
-    lead: F,
-) -> (Result<Crew<'s, W>, NoMemory>, T)
-    requires lead { F.pre lead }
-    ensures lead { F.post lead result.1 }
-    ensures live { IfOk result.0 (λ back. back.live.now ≡ crew.entry.live.now) }
-{
-    let (crew, led) = join(
-        rt,
-        || -> Result<Crew<'_, W>, AllocError>
-            ensures { IfOk result (λ back. back.live.now ≡ crew.entry.live.now) }
-        { work_all(rt, crew, work, gate, supply) },
-        lead,
-    );
-    (crew.map_err(|_| NoMemory), led)
+/// The owner's part of the work at a board.
+pub trait Lead {
+    /// What it gives.
+    type Outcome;
+
+    // it may begin
+    ghost may_lead: { Self → Type 0 };
+
+    // from what it began with to what it gave and left
+    ghost leads: { Self → Self.Outcome → Self → Type 0 };
+
+    /// Whether there is a job for a worker. Where there is none, no thread is started.
+    fn has_jobs(&self) -> bool;
+
+    /// Works to its end, and shuts the board.
+    fn lead(&mut self) -> Self::Outcome
+        requires { may_lead self.old }
+        ensures { leads self.old result self.new };
 }
 
-/// The turns of all workers, each in a thread of its own.
-fn work_all<'s, R: Threads + Sync, W: Work, G: Gate, S: Supply>(
+/// The owner's part, and beside it each worker of the crew takes its turns at the board in a thread of its own, if there is a job.
+pub fn work_beside<R: Threads + Sync, W: Work, G: Gate, S: Supply, L: Lead>(
     rt: &R,
-    crew: Crew<'s, W>,
+    crew: &mut Crew<'_, W>,
     work: &W,
     gate: &G,
     supply: &S,
-) -> Result<Crew<'s, W>, AllocError>
-    ensures { IfOk result (λ back. back.live.now ≡ crew.entry.live.now) }
+    lead: &mut L,
+) -> L::Outcome
+    requires lead { L.may_lead lead.old }
+    ensures lead { L.leads lead.old result lead.new }
+    ensures live { crew.new.live.now ≡ crew.old.live.now }
 {
-    let Crew { live, seats, turns } = crew;
-    let seats = map_vec(
+    if !lead.has_jobs() {
+        return lead.lead();
+    }
+    let live = crew.live;
+    let turns = crew.turns;
+    let seats = crew.seats.as_mut_slice();
+    let (_, outcome) = join_mut(
         rt,
-        seats,
-        &|seat|
-            requires worker { IsWorkerOf live.now seat }
-            requires idle { IsIdle seat }
-            ensures worker { IsWorkerOf live.entry.now result }
-            ensures idle { IsIdle result }
-        { live.take_turns(work, gate, supply, seat, turns) },
-    )?;
-    Ok(Crew { live, seats, turns })
+        &mut ||
+            requires { IsCrewOf live.now seats.now }
+            ensures { IsCrewOf live.entry.now seats.exit.now }
+        {
+            for_each_mut(
+                rt,
+                seats,
+                MOST_WORKERS,
+                &|_, seat|
+                    requires { IsWorkerOf live.now seat.now × IsIdle seat.now }
+                    ensures { IsWorkerOf live.entry.now seat.exit.now × IsIdle seat.exit.now }
+                { live.take_turns(work, gate, supply, seat, turns) },
+            );
+        },
+        &mut || -> L::Outcome
+            requires { L.may_lead lead.now }
+            ensures { L.leads lead.entry.now result lead.exit.now }
+        { lead.lead() },
+    );
+    outcome
 }

@@ -24,35 +24,34 @@ impl<W: Work> Live<W> {
         work: &W,
         gate: &G,
         supply: &S,
-        mut seat: WorkerSeat<W>,
+        seat: &mut WorkerSeat<W>,
         turns: u64,
-    ) -> WorkerSeat<W>
-        requires worker { IsWorkerOf self.now seat }
-        requires idle { IsIdle seat }
-        ensures worker { IsWorkerOf self.now result }
-        ensures idle { IsIdle result }
+    )
+        requires worker { IsWorkerOf self.now seat.old }
+        requires idle { IsIdle seat.old }
+        ensures worker { IsWorkerOf self.now seat.new }
+        ensures idle { IsIdle seat.new }
 
         // In each turn it looks once and tries one claim, and no look comes after one that found the board shut.
-        ensures looks { looks_of result ≤ looks_of seat + turns }
-        ensures tries { tries_of result ≤ tries_of seat + turns }
-        ensures shut { shut_looks_of result ≤ shut_looks_of seat + 1 }
+        ensures looks { looks_of seat.new ≤ looks_of seat.old + turns }
+        ensures tries { tries_of seat.new ≤ tries_of seat.old + turns }
+        ensures shut { shut_looks_of seat.new ≤ shut_looks_of seat.old + 1 }
     {
         let mut pause = Pause::new();
         let mut slot = seat.number % self.size;
         for _turn in 0..turns {
-            if !self.is_open(&mut seat) {
+            if !self.is_open(seat) {
                 break;
             }
-            match self.claim(&mut seat, slot) {
+            match self.claim(seat, slot) {
                 Ok(()) => {
-                    self.work_off(work, gate, supply, &mut seat);
+                    self.work_off(work, gate, supply, seat);
                     pause.shorten();
                 }
                 Err(_found) => pause.take(),
             }
             slot = (slot + 1) % self.size;
         }
-        seat
     }
 
     /// Performs the job of the claim between the two calls of the gate, where the supply grants memory for it, and leaves

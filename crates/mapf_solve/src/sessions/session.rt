@@ -1,6 +1,6 @@
 //! A session: a search goes on with a source whose owner works ahead, and workers beside it.
 
-ghost use Rattle.std.specs.Prelude.{◌≡◌, IfOk, None, Ok};
+ghost use Rattle.std.specs.Prelude.{◌≡◌, None, Ok};
 ghost use Rattle.mapf_board.specs.Owners.{IsOwnerOf, board_of, currents};
 ghost use Rattle.mapf_board.specs.Workers.{IsCrewOf, size_of};
 ghost use Rattle.mapf_board.specs.declared.limits.TheConstants.{MOST_SLOTS};
@@ -13,7 +13,7 @@ use crate::sessions::lookahead::Lookahead;
 use crate::sessions::side_job::SideWork;
 use crate::sessions::source::SessionSource;
 use mapf_board::{
-    Crew, Gate, Live, MOST_SLOTS, Owner, Supply, WorkerSeat, close_behind, seats_of, work_beside,
+    Crew, Gate, Lead, Live, MOST_SLOTS, Owner, Supply, WorkerSeat, close_behind, work_beside,
 };
 use mapf_grid::NoMemory;
 use mapf_tree::{Progress, Search};
@@ -28,70 +28,35 @@ pub(crate) struct SessionSearch<'p, P: OneProblem> {
     ghost of_problem: { search.problem ≡ P.problem },
 }
 
-/// A search and its source of children.
-///
-/// They are one value, so that a closure that has both has one lifetime of the problem, and not one for each of them.
+/// A search and its source of children, for so many nodes.
 #[derive(Drop)]
 struct Led<'p, 's, P: OneProblem, B: OneBoard, G> {
     search: Search<'p>,
     source: SessionSource<'p, 's, P, B, G>,
+    nodes: u64,
     ghost of_problem: { search.problem ≡ P.problem },
 }
 
-impl<'p, 's, P: OneProblem, B: OneBoard, G: Gate> Led<'p, 's, P, B, G> {
-    /// The owner's part of a session: so many nodes are taken, then the board is shut.
-    fn lead(self, nodes: u64) -> (Led<'p, 's, P, B, G>, Result<Progress, NoMemory>)
-        requires { self.search.outcome ≡ Ok None }
-        ensures { HasTaken P.problem nodes self.entry.search.last result.0.search result.1 }
-    {
-        let Led {
-            mut search,
-            mut source,
-        } = self;
-        let progress = search.go(&mut source, nodes);
-        source.desk.shut();
-        (Led { search, source }, progress)
-    }
-}
+/// The owner's part of a session: its nodes are taken, then the board is shut.
+impl<'p, 's, P: OneProblem, B: OneBoard, G: Gate> Lead for Led<'p, 's, P, B, G> {
+    ghost use Rattle.std.specs.Prelude.{◌≡◌, None, Ok};
+    ghost use Rattle.mapf_solve.specs.Sessions.{HasTaken};
 
-/// The owner's part of a session, and beside it that of the workers, where there is a job for them.
-fn lead_with_workers<
-    'p,
-    's,
-    P: OneProblem + Send + Sync,
-    B: OneBoard + Send + Sync,
-    R: Threads + Sync,
-    G: Gate,
-    S: Supply,
->(
-    means: &Means<'_, R, G, S>,
-    crew: Crew<'s, SideWork<'p>>,
-    led: Led<'p, 's, P, B, G>,
-) -> (
-    (Led<'p, 's, P, B, G>, Result<Progress, NoMemory>),
-    Result<Crew<'s, SideWork<'p>>, mapf_board::NoMemory>,
-)
-    requires { led.search.outcome ≡ Ok None }
-    ensures went { HasTaken P.problem means.now.pace.session_nodes led.entry.search.last
-        result.0.0.search result.0.1 }
-    ensures crew { IfOk result.1 (λ back. back.live.now ≡ crew.entry.live.now) }
-{
-    let nodes = means.pace.session_nodes;
-    if !led.source.desk.has_jobs() {
-        return (led.lead(nodes), Ok(crew));
+    type Outcome = Result<Progress, NoMemory>;
+
+    ghost may_lead = { λ l. l.search.outcome ≡ Ok None };
+
+    ghost leads = { λ l progress m. HasTaken P.problem l.nodes l.search.last m.search progress };
+
+    fn has_jobs(&self) -> bool {
+        self.source.desk.has_jobs()
     }
-    let (crew, led) = work_beside(
-        means.rt,
-        crew,
-        &SideWork::new(means.alloc),
-        means.gate,
-        means.supply,
-        ||
-            requires { led.search.outcome ≡ Ok None }
-            ensures { HasTaken P.problem nodes led.entry.search.last result.0.search result.1 }
-        { led.lead(nodes) },
-    );
-    (led, crew)
+
+    fn lead(&mut self) -> Result<Progress, NoMemory> {
+        let progress = self.search.go(&mut self.source, self.nodes);
+        self.source.desk.shut();
+        progress
+    }
 }
 
 /// What a session leaves at its board: the search, how it went on, the owner and the workers' seats.
@@ -99,18 +64,11 @@ type Seated<'p, P> = (
     SessionSearch<'p, P>,
     Result<Progress, NoMemory>,
     Owner<SideWork<'p>>,
-    Result<Vec<WorkerSeat<SideWork<'p>>>, mapf_board::NoMemory>,
+    Vec<WorkerSeat<SideWork<'p>>>,
 );
 
 /// A session at its board.
-fn session_at<
-    'p,
-    P: OneProblem + Send + Sync,
-    B: OneBoard + Send + Sync,
-    R: Threads + Sync,
-    G: Gate,
-    S: Supply,
->(
+fn session_at<'p, P: OneProblem, B: OneBoard, R: Threads + Sync, G: Gate, S: Supply>(
     means: &Means<'_, R, G, S>,
     live: &Live<SideWork<'p>>,
     owner: Owner<SideWork<'p>>,
@@ -127,26 +85,38 @@ fn session_at<
         result.0.search result.1 }
     ensures owns { IsOwnerOf live.now result.2 }
     ensures sides { AreSidesOf P.problem (currents result.2) }
-    ensures crew { IfOk result.3 (λ seats. IsCrewOf live.now seats.items) }
+    ensures crew { IsCrewOf live.now result.3.items }
 {
     let SessionSearch { search, lookahead } = sessions;
     let desk = Desk::<P, B>::new(live, owner);
     let source = SessionSource::begin(lookahead, desk, means.gate, search.waiting());
-    let led = Led { search, source };
-    let ((led, progress), crew) = lead_with_workers(
-        means,
-        Crew::of(live, seats, means.pace.worker_turns),
-        led,
+    let mut led = Led {
+        search,
+        source,
+        nodes: means.pace.session_nodes,
+    };
+    let mut crew = Crew::of(live, seats, means.pace.worker_turns);
+    let progress = work_beside(
+        means.rt,
+        &mut crew,
+        &SideWork::new(means.alloc),
+        means.gate,
+        means.supply,
+        &mut led,
     );
-    let Led { search, source } = led;
-    let (lookahead, owner) = source.into_parts();
+    let Led { search, source, .. } = led;
+    let SessionSource {
+        lookahead,
+        desk,
+        ..
+    } = source;
     let sessions = SessionSearch { search, lookahead };
-    (sessions, progress, owner, seats_of(live, crew))
+    (sessions, progress, desk.into_owner(), crew.into_seats())
 }
 
 /// One session: nodes are taken, and workers beside work out children of those that wait, unless it goes on alone. How the search went
 /// on, for as many nodes as a session takes.
-pub(crate) fn session<'p, P: OneProblem + Send + Sync, R: Threads + Sync, G: Gate, S: Supply>(
+pub(crate) fn session<'p, P: OneProblem, R: Threads + Sync, G: Gate, S: Supply>(
     means: &Means<'_, R, G, S>,
     sessions: SessionSearch<'p, P>,
 ) -> (SessionSearch<'p, P>, Result<Progress, NoMemory>)
@@ -161,13 +131,11 @@ pub(crate) fn session<'p, P: OneProblem + Send + Sync, R: Threads + Sync, G: Gat
     let (mut sessions, progress, owner, seats) = session_at::<P, Brand, R, G, S>(
         means, &live, owner, seats, sessions,
     );
-    match close_behind(means.alloc, live, owner, seats) {
-        Ok(left) => {
-            sessions
-                .lookahead
-                .end_session(left, means.pace.session_nodes);
-            (sessions, progress)
-        }
-        Err(_) => (sessions, Err(NoMemory)),
-    }
+    let Ok(left) = close_behind(means.alloc, live, owner, seats) else {
+        return (sessions, Err(NoMemory));
+    };
+    sessions
+        .lookahead
+        .end_session(left, means.pace.session_nodes);
+    (sessions, progress)
 }

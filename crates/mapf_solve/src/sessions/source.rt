@@ -1,17 +1,14 @@
 //! A session as a search's source of children.
 
 ghost use Rattle.std.specs.Prelude.{◌≡◌, IfSome, IsSome, IsTrue};
-ghost use Rattle.mapf_board.specs.Owners.{IsOwnerAt, currents};
-ghost use Rattle.mapf_board.specs.declared.limits.TheConstants.{MOST_SLOTS};
 ghost use Rattle.mapf_tree.specs.Family.{IsBranching};
 ghost use Rattle.mapf_tree.specs.Nodes.{AllStand};
-ghost use Rattle.mapf_solve.specs.Sessions.{AreSidesOf};
 
 use crate::sessions::brands::{OneBoard, OneProblem};
 use crate::sessions::desk::{Desk, Slot};
 use crate::sessions::lookahead::Lookahead;
-use crate::sessions::side_job::{SideJob, SideWork};
-use mapf_board::{Found, Gate, MOST_SLOTS, Owner};
+use crate::sessions::side_job::SideJob;
+use mapf_board::{Found, Gate, MOST_SLOTS};
 use mapf_grid::NoMemory;
 use mapf_tree::{Children, Node, OpenList, Problem, Side};
 
@@ -20,7 +17,7 @@ use mapf_tree::{Children, Node, OpenList, Problem, Side};
 /// Its methods know nothing of the gate: only as a source of children it calls it.
 #[derive(Drop)]
 pub(crate) struct SessionSource<'p, 's, P: OneProblem, B: OneBoard, G> {
-    lookahead: Lookahead<'p, P>,
+    pub(crate) lookahead: Lookahead<'p, P>,
     pub(crate) desk: Desk<'p, 's, P, B>,
     gate: &'s G,
     /// For so many nodes the waiting ones aren't looked at again.
@@ -51,19 +48,6 @@ impl<'p, 's, P: OneProblem, B: OneBoard, G> SessionSource<'p, 's, P, B, G> {
             source.looked = usize::MAX;
         }
         source
-    }
-
-    /// What sessions hand on, and the board's owner.
-    pub(crate) fn into_parts(self) -> (Lookahead<'p, P>, Owner<SideWork<'p>>)
-        ensures owns { IsOwnerAt B.board MOST_SLOTS result.1 }
-        ensures sides { AreSidesOf P.problem (currents result.1) }
-    {
-        let SessionSource {
-            lookahead,
-            desk,
-            ..
-        } = self;
-        (lookahead, desk.into_owner())
     }
 
     /// Collects what is done.

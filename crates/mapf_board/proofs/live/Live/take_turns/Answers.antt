@@ -9,7 +9,7 @@ pub loop-turn-preserved : goal.loop-turn-preserved
 loop-turn-preserved g c =
     let sofar = c.loop-turn.invariant.3 in
     let look = c.is_open.ensures.looked ∙ ap (looking (known_by c.loop-turn.seat)) c.if-not-is_open.false in
-    let first = known_by c.args.seat in
+    let first = known_by c.args.seat.now in
     let before = known_by c.loop-turn.seat in
     let seen = known_by c.is_open.new.seat in
     let after = known_by c.match-claim.seat in (
