@@ -1,14 +1,12 @@
 //! The answer on one thread.
 
 ghost use Rattle.std.specs.Prelude.{◌≡◌, ◌≢◌, ℕ, IfOk, IfErr, Some, None, Ok, Err};
-ghost use Rattle.mapf_tree.specs.Answered.{IsAnswerOf};
 ghost use Rattle.mapf_solve.specs.Out.{AreNumbers, IsTextFor, IsOut, IsBest, KeepsLimit, IsOnlyOut, IsWorkers};
 
 use crate::answers::{asked_instance, asked_problem, spell};
 use crate::{Ask, Refusal};
 use mapf_grid::{Instance, NoMemory};
-use mapf_plan::Answer;
-use mapf_tree::{OwnPaths, Problem, Search};
+use mapf_tree::{Problem, solve_alone};
 use std::alloc::Global;
 
 /// The text of the answer, or the first fault, as [`answer`](crate::answer) gives it: no thread is started, whatever number of
@@ -51,18 +49,9 @@ fn text_alone(alloc: Global, instance: Instance, ask: Ask) -> Result<Vec<u8>, No
     match Problem::new(alloc, instance, ask.bound as u32) {
         Ok(whole) => {
             let problem = asked_problem(whole, ask);
-            let answer = solve_by_own_paths(alloc, &problem)?;
+            let answer = solve_alone(alloc, &problem)?;
             spell(alloc, &problem, &answer)
         }
         Err((_instance, refused)) => Err(refused),
     }
-}
-
-/// Solves a problem on this thread, by a search that remembers the own paths that it searched.
-fn solve_by_own_paths(alloc: Global, problem: &Problem) -> Result<Answer, NoMemory>
-    ensures { IfOk result (IsAnswerOf problem.now) }
-{
-    let mut paths = OwnPaths::new(alloc, problem)?;
-    let search = Search::new(alloc, problem)?;
-    search.finish(&mut paths)
 }
