@@ -111,7 +111,7 @@ pub(crate) fn solve_from<R: Threads + Sync, G: Gate, S: Supply, W: Watch>(
 }
 
 /// The same, by a search that goes on in sessions.
-fn solve_in_sessions<P: OneProblem + Send + Sync, R: Threads + Sync, G: Gate, S: Supply, W: Watch>(
+fn solve_in_sessions<P: OneProblem, R: Threads + Sync, G: Gate, S: Supply, W: Watch>(
     means: &Means<'_, R, G, S>,
     problem: &Problem,
     first: u64,
