@@ -181,13 +181,8 @@ impl Node {
     pub fn copy(&self, alloc: Global) -> Result<Node, NoMemory>
         ensures { IfOk result (λ other. other ≡ self.now) }
     {
-        let key = Key {
-            cost: self.body.key.cost,
-            depth: self.body.key.depth,
-            name: self.body.key.name.copy(alloc)?,
-        };
         let body = Body {
-            key,
+            key: self.body.key.copy(alloc)?,
             rule: self.body.rule,
             root: Arc::try_clone(&self.body.root)?,
             changes: self.body.changes.copy()?,

@@ -1,8 +1,10 @@
-ghost use Rattle.std.specs.Prelude.{◌↔◌, IsTrue};
+ghost use Rattle.std.specs.Prelude.{◌≡◌, ◌↔◌, IfOk, IsTrue};
 ghost use Rattle.mapf_grid.specs.Least.{Precedes};
 ghost use Rattle.mapf_tree.specs.Tree.{key_rank};
 
 use crate::Name;
+use mapf_grid::NoMemory;
+use std::alloc::Global;
 
 /// Where a node stands in the order of a search: by cost, then by depth, then by name, left before right.
 #[derive(Debug, Drop, PartialEq, Eq, PartialOrd, Ord)]
@@ -21,5 +23,16 @@ impl Key {
         ensures { IsTrue result ↔ Precedes (key_rank self.now) (key_rank other.now) }
     {
         self.cmp(other).is_lt()
+    }
+
+    /// An equal key. An error is that memory ran out.
+    pub fn copy(&self, alloc: Global) -> Result<Key, NoMemory>
+        ensures { IfOk result (λ other. other ≡ self.now) }
+    {
+        Ok(Key {
+            cost: self.cost,
+            depth: self.depth,
+            name: self.name.copy(alloc)?,
+        })
     }
 }
