@@ -1,6 +1,6 @@
 //! What the owner of a session's board works with.
 
-ghost use Rattle.std.specs.Prelude.{◌≡◌, ◌<◌, IfOk, IfSome};
+ghost use Rattle.std.specs.Prelude.{◌≡◌, ◌<◌, IfOk};
 ghost use Rattle.mapf_board.specs.Owners.{IsOwnerOf, IsOwnerAt, board_of, currents};
 ghost use Rattle.mapf_board.specs.Workers.{size_of};
 ghost use Rattle.mapf_board.specs.declared.limits.TheConstants.{MOST_SLOTS};
@@ -96,9 +96,8 @@ impl<'p, 's, P: OneProblem, B: OneBoard> Desk<'p, 's, P, B> {
     pub(crate) fn post(&mut self, slot: Slot, job: SideJob<'p>)
         requires { job.query.problem ≡ P.problem }
     {
-        if self.live.post(&mut self.owner, slot.number, job).is_ok() {
-            self.used[slot.number] = true;
-        }
+        let _posted = self.live.post(&mut self.owner, slot.number, job);
+        self.used[slot.number] = true;
     }
 
     /// What a worker left in the slot. An error is the state that was found.
@@ -110,13 +109,13 @@ impl<'p, 's, P: OneProblem, B: OneBoard> Desk<'p, 's, P, B> {
         Ok(left)
     }
 
-    /// The job of the slot, where no worker claimed it.
-    pub(crate) fn withdraw(&mut self, slot: Slot) -> Option<SideJob<'p>>
-        ensures { IfSome result (λ job. job.query.problem ≡ P.problem) }
+    /// The job of the slot, where no worker claimed it. An error is the state that was found.
+    pub(crate) fn withdraw(&mut self, slot: Slot) -> Result<SideJob<'p>, Found>
+        ensures { IfOk result (λ job. job.query.problem ≡ P.problem) }
     {
-        let job = self.live.withdraw(&mut self.owner, slot.number).ok()?;
+        let job = self.live.withdraw(&mut self.owner, slot.number)?;
         self.used[slot.number] = false;
-        Some(job)
+        Ok(job)
     }
 
     /// Shuts the board.

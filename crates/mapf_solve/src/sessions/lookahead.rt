@@ -15,7 +15,7 @@ use crate::sessions_alone::SessionsAlone;
 use mapf_board::{Left, Pair, Work};
 use mapf_grid::NoMemory;
 use mapf_low::Lookup;
-use mapf_tree::{Key, Node, OwnPaths, Problem, Side, SideQuery};
+use mapf_tree::{Node, OwnPaths, Problem, Side, SideQuery};
 use std::alloc::Global;
 use std::cmp::Ordering;
 
@@ -30,7 +30,7 @@ pub(crate) struct Lookahead<'p, P: OneProblem> {
     /// The number of the next job.
     next: u64,
     /// How many sessions go on without workers.
-    alone: SessionsAlone,
+    pub(crate) alone: SessionsAlone,
     ghost is_of: { own_paths ≡ P.problem },
     ghost few: { workers ≤ MOST_WORKERS },
 }
@@ -77,11 +77,11 @@ impl<'p, P: OneProblem> Lookahead<'p, P> {
         ensures { IfSome result (λ job. job.query.problem ≡ P.problem) }
     {
         let query = self.unknown_query(node, side)?;
-        let copy = node.copy(self.alloc).ok()?;
-        self.add(node, side, ChildStage::Posted(slot));
         let number = self.next;
+        let job = SideJob::of(self.alloc, node, query, number).ok()?;
         self.next = number.saturating_add(1);
-        Some(SideJob::of(copy, query, number))
+        self.add(node, side, ChildStage::Posted(slot));
+        Some(job)
     }
 
     /// The own path that a side of a node asks for, where nothing is known of that child. None where memory runs out, too.
@@ -106,7 +106,7 @@ impl<'p, P: OneProblem> Lookahead<'p, P> {
     /// The work on a child of a node has come so far; that is forgotten where memory runs out.
     fn add(&mut self, node: &Node, side: Side, stage: ChildStage<'p, P>) {
         if let Err(place) = self.place_of(node, side) {
-            if let Some(key) = copy_of(self.alloc, node.key()) {
+            if let Ok(key) = node.key().copy(self.alloc) {
                 let _added = self.entries.insert(place, Entry { key, side, stage });
             }
         }
@@ -196,11 +196,6 @@ impl<'p, P: OneProblem> Lookahead<'p, P> {
         }
     }
 
-    /// Whether the session that begins goes on without workers.
-    pub(crate) fn is_alone(&self) -> bool {
-        self.alone.is_due()
-    }
-
     /// The children of the node that is expanded, of which what was worked ahead is used.
     pub(crate) fn children(&mut self, node: &Node) -> Result<(Option<Node>, Option<Node>), NoMemory>
         requires { IsBranching P.problem node.now }
@@ -227,13 +222,4 @@ impl<'p, P: OneProblem> Lookahead<'p, P> {
             ChildStage::Posted(_) | ChildStage::Unposted => Lookup::Unknown,
         }
     }
-}
-
-/// An equal key. None where memory runs out.
-fn copy_of(alloc: Global, key: &Key) -> Option<Key> {
-    Some(Key {
-        cost: key.cost,
-        depth: key.depth,
-        name: key.name.copy(alloc).ok()?,
-    })
 }

@@ -59,59 +59,55 @@ impl<'p, 's, P: OneProblem, B: OneBoard, G: Gate> Lead for Led<'p, 's, P, B, G> 
     }
 }
 
-/// What a session leaves at its board: the search, how it went on, the owner and the workers' seats.
-type Seated<'p, P> = (
-    SessionSearch<'p, P>,
-    Result<Progress, NoMemory>,
-    Owner<SideWork<'p>>,
-    Vec<WorkerSeat<SideWork<'p>>>,
-);
-
-/// A session at its board.
+/// A session at its board, which is closed behind it.
 fn session_at<'p, P: OneProblem, B: OneBoard, R: Threads + Sync, G: Gate, S: Supply>(
     means: &Means<'_, R, G, S>,
-    live: &Live<SideWork<'p>>,
+    live: Live<SideWork<'p>>,
     owner: Owner<SideWork<'p>>,
     seats: Vec<WorkerSeat<SideWork<'p>>>,
     sessions: SessionSearch<'p, P>,
-) -> Seated<'p, P>
-    requires board { board_of live.now ≡ B.board }
-    requires slots { size_of live.now ≡ MOST_SLOTS }
-    requires owns { IsOwnerOf live.now owner }
+) -> (SessionSearch<'p, P>, Result<Progress, NoMemory>)
+    requires board { board_of live ≡ B.board }
+    requires slots { size_of live ≡ MOST_SLOTS }
+    requires owns { IsOwnerOf live owner }
     requires sides { AreSidesOf P.problem (currents owner) }
-    requires crew { IsCrewOf live.now seats.items }
+    requires crew { IsCrewOf live seats.items }
     requires open_yet { sessions.search.outcome ≡ Ok None }
-    ensures went { HasTaken P.problem means.now.pace.session_nodes sessions.entry.search.last
+    ensures { HasTaken P.problem means.now.pace.session_nodes sessions.entry.search.last
         result.0.search result.1 }
-    ensures owns { IsOwnerOf live.now result.2 }
-    ensures sides { AreSidesOf P.problem (currents result.2) }
-    ensures crew { IsCrewOf live.now result.3.items }
 {
+    let nodes = means.pace.session_nodes;
+    let mut crew = Crew::of(&live, seats, means.pace.worker_turns);
+    let work = SideWork::new(means.alloc);
+    let desk = Desk::<P, B>::new(&live, owner);
     let SessionSearch { search, lookahead } = sessions;
-    let desk = Desk::<P, B>::new(live, owner);
     let source = SessionSource::begin(lookahead, desk, means.gate, search.waiting());
     let mut led = Led {
         search,
         source,
-        nodes: means.pace.session_nodes,
+        nodes,
     };
-    let mut crew = Crew::of(live, seats, means.pace.worker_turns);
     let progress = work_beside(
         means.rt,
         &mut crew,
-        &SideWork::new(means.alloc),
+        &work,
         means.gate,
         means.supply,
         &mut led,
     );
+    let seats = crew.into_seats();
     let Led { search, source, .. } = led;
     let SessionSource {
-        lookahead,
+        mut lookahead,
         desk,
         ..
     } = source;
-    let sessions = SessionSearch { search, lookahead };
-    (sessions, progress, desk.into_owner(), crew.into_seats())
+    let owner = desk.into_owner();
+    let Ok(left) = close_behind(means.alloc, live, owner, seats) else {
+        return (SessionSearch { search, lookahead }, Err(NoMemory));
+    };
+    lookahead.end_session(left, nodes);
+    (SessionSearch { search, lookahead }, progress)
 }
 
 /// One session: nodes are taken, and workers beside work out children of those that wait, unless it goes on alone. How the search went
@@ -128,14 +124,5 @@ pub(crate) fn session<'p, P: OneProblem, R: Threads + Sync, G: Gate, S: Supply>(
     else {
         return (sessions, Err(NoMemory));
     };
-    let (mut sessions, progress, owner, seats) = session_at::<P, Brand, R, G, S>(
-        means, &live, owner, seats, sessions,
-    );
-    let Ok(left) = close_behind(means.alloc, live, owner, seats) else {
-        return (sessions, Err(NoMemory));
-    };
-    sessions
-        .lookahead
-        .end_session(left, means.pace.session_nodes);
-    (sessions, progress)
+    session_at::<P, Brand, R, G, S>(means, live, owner, seats, sessions)
 }

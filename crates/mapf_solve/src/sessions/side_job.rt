@@ -14,8 +14,8 @@ use std::marker::{Model, PhantomData};
 /// A child of a node is wanted, on one side of the conflict of the node's plan.
 pub(crate) struct SideJob<'p> {
     node: Node,
-    /// The own path that the side asks for.
-    query: SideQuery<'p>,
+    /// The own path that the side asks for. Boxed, since jobs are moved often.
+    query: Box<SideQuery<'p>>,
     number: u64,
 }
 
@@ -37,22 +37,31 @@ impl<'p> Model for SideJob<'p> {
 
     ghost Value = { WantedChild };
 
-    ghost view = { λ j. record { query = j.query; node = j.node; number = j.number } };
+    ghost view = { λ j. record { query = j.query.value; node = j.node; number = j.number } };
 
-    ghost invariant = { λ j. IsBranching j.query.problem j.node × IsQueryOf j.node j.query };
+    ghost invariant = { λ j. IsBranching j.query.value.problem j.node × IsQueryOf j.node j.query.value };
 }
 
 impl<'p> SideJob<'p> {
-    /// The job for the side of a node that this query is of.
-    pub(crate) fn of(node: Node, query: SideQuery<'p>, number: u64) -> SideJob<'p>
-        requires node { IsBranching query.problem node }
-        requires query { IsQueryOf node query }
-        ensures { result ≡ record { query = query.entry; node = node; number = number } }
+    /// The job for the side of a node that this query is of. An error is that memory ran out.
+    pub(crate) fn of(
+        alloc: Global,
+        node: &Node,
+        query: SideQuery<'p>,
+        number: u64,
+    ) -> Result<SideJob<'p>, NoMemory>
+        requires node { IsBranching query.problem node.now }
+        requires query { IsQueryOf node.now query }
+        ensures { IfOk result (λ job. job ≡ record { query = query.entry; node = node.now; number = number }) }
     {
-        SideJob {
-            node,
-            query,
-            number,
+        let node = node.copy(alloc)?;
+        match Box::new(alloc, query) {
+            Ok(query) => Ok(SideJob {
+                node,
+                query,
+                number,
+            }),
+            Err(_refused) => Err(NoMemory),
         }
     }
 

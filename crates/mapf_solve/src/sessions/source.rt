@@ -41,23 +41,13 @@ impl<'p, 's, P: OneProblem, B: OneBoard, G> SessionSource<'p, 's, P, B, G> {
             gate,
             looked: 0,
         };
-        if !source.lookahead.is_alone() {
+        if !source.lookahead.alone.is_due() {
             source.post_all(waiting);
         }
         if !source.desk.has_jobs() {
             source.looked = usize::MAX;
         }
         source
-    }
-
-    /// Collects what is done.
-    fn collect_all(&mut self) {
-        for number in 0..MOST_SLOTS {
-            let slot = Slot::at(number);
-            if self.desk.is_used(slot) {
-                let _done = self.keep_done(slot);
-            }
-        }
     }
 
     /// Posts jobs for the children of the first waiting nodes of which nothing is known, left first, as long as there is a free
@@ -94,10 +84,10 @@ impl<'p, 's, P: OneProblem, B: OneBoard, G> SessionSource<'p, 's, P, B, G> {
             return None;
         };
         let job = self.desk.withdraw(slot);
-        if job.is_none() {
+        if job.is_err() {
             let _done = self.keep_done(slot);
         }
-        job
+        job.ok()
     }
 
     /// Keeps what is done in a slot. An error is the state that was found.
@@ -136,7 +126,12 @@ impl<'p, 's, P: OneProblem, B: OneBoard, G: Gate> Children for SessionSource<'p,
             self.looked -= 1;
             return;
         }
-        self.collect_all();
+        for number in 0..MOST_SLOTS {
+            let slot = Slot::at(number);
+            if self.desk.is_used(slot) {
+                let _done = self.keep_done(slot);
+            }
+        }
         self.post_all(waiting);
         self.looked = self.lookahead.workers.saturating_sub(1);
     }

@@ -1,0 +1,24 @@
+use Rattle.std.proofs.Common.{refl}
+use Rattle.mapf_board.specs.Views.{withdrawing}
+use Rattle.mapf_board.specs.Owners.{known_to}
+use Rattle.mapf_solve.proofs.Boards.{freed_sides}
+use Rattle.mapf_solve.proofs.sessions.desk.Desk.withdraw.Goals as goal
+
+pub invariant_of-self : goal.invariant_of-self
+invariant_of-self g c = record {
+  board = c.args.self.now.board;
+  slots = c.args.self.now.slots;
+  owns = c.withdraw.ensures.owner;
+  sides = freed_sides _ c.withdraw.result _ _ _ (withdrawing (known_to c.args.self.now.owner) c.args.slot.number) (λ x. refl) c.withdraw.ensures.withdrawn c.withdraw.ensures.found c.args.self.now.sides;
+}
+
+pub invariant_of-self-2 : goal.invariant_of-self-2
+invariant_of-self-2 g c = record {
+  board = c.args.self.now.board;
+  slots = c.args.self.now.slots;
+  owns = c.withdraw.ensures.owner;
+  sides = freed_sides _ c.withdraw.result _ _ _ (withdrawing (known_to c.args.self.now.owner) c.args.slot.number) (λ x. refl) c.withdraw.ensures.withdrawn c.withdraw.ensures.found c.args.self.now.sides;
+}
+
+pub returns : goal.returns
+returns g c = c.args.self.now.sides c.args.slot.number _ c.in_ok-job.ensures.current
