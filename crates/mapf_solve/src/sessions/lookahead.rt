@@ -22,7 +22,8 @@ use std::cmp::Ordering;
 /// The own paths that a search knows, what is known of children of its waiting nodes, and how jobs for them are numbered.
 pub(crate) struct Lookahead<'p, P: OneProblem> {
     alloc: Global,
-    own_paths: OwnPaths<'p>,
+    /// Boxed, since a session takes what is handed on and gives it back.
+    own_paths: Box<OwnPaths<'p>>,
     /// The greatest key first, and a right side before a left one: what is next to be asked for is the last.
     entries: Vec<Entry<'p, P>>,
     /// How many workers there are.
@@ -31,7 +32,7 @@ pub(crate) struct Lookahead<'p, P: OneProblem> {
     next: u64,
     /// How many sessions go on without workers.
     pub(crate) alone: SessionsAlone,
-    ghost is_of: { own_paths ≡ P.problem },
+    ghost is_of: { own_paths.value ≡ P.problem },
     ghost few: { workers ≤ MOST_WORKERS },
 }
 
@@ -60,9 +61,12 @@ impl<'p, P: OneProblem> Lookahead<'p, P> {
         requires problem { problem.now ≡ P.problem }
         requires workers { workers ≤ MOST_WORKERS }
     {
+        let Ok(own_paths) = Box::new(alloc, OwnPaths::new(alloc, problem)?) else {
+            return Err(NoMemory);
+        };
         Ok(Lookahead {
             alloc,
-            own_paths: OwnPaths::new(alloc, problem)?,
+            own_paths,
             entries: Vec::new(alloc),
             workers,
             next,
