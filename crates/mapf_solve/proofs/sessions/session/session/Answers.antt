@@ -1,4 +1,4 @@
-use Rattle.std.proofs.Common.{sym, ap, ◌∙◌, slice_index_or, None}
+use Rattle.std.proofs.Common.{None, sym, ap, ◌∙◌, slice_index_or}
 use Rattle.mapf_solve.proofs.Boards.{none_there}
 use Rattle.mapf_solve.proofs.sessions.session.session.Goals as goal
 
