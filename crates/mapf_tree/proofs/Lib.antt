@@ -1,10 +1,10 @@
-mod ConstraintSets
+pub mod ConstraintSets
 mod Distinct
-mod Universe
+pub mod Universe
 mod Followers
-mod Branch
+pub mod Branch
 pub mod Plans
-mod Measure
+pub mod Measure
 mod LeaderSides
 pub mod Unique
 mod OneAgent

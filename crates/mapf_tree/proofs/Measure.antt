@@ -1,5 +1,5 @@
 -- Each side's constraint is new, and there are so many constraints at most: so no name is long.
-use Rattle.std.proofs.Common.{◌≡◌, ◌≢◌, ℕ, ◌<◌, ◌≤◌, ◌+◌, ◌-◌, ◌*◌, List, [], ◌∷◌, length, get_or, subst, subst₂, sym, ◌∙◌, arith, length-set, length-append, All}
+use Rattle.std.proofs.Common.{◌≡◌, ◌≢◌, ℕ, ◌<◌, ◌≤◌, ◌+◌, ◌-◌, ◌*◌, List, [], ◌∷◌, length, get_or, subst, subst₂, sym, ◌∙◌, arith, length-set, length-append, All, Contains}
 use Rattle.std.specs.List.{sum_by}
 use Rattle.std.proofs.lemmas.List.{length-replicate, get_or-replicate}
 use Rattle.std.proofs.lemmas.List.Sums.{sum_by-set, sum_by-le}
@@ -15,7 +15,7 @@ use Rattle.mapf_plan.specs.Plan.{IsConflict, IsFirstConflict, path_of, place, co
 use Rattle.mapf_plan.proofs.Paths.{place_free, moves}
 use Rattle.mapf_plan.proofs.Conflicts.{first_early}
 use Rattle.mapf_low.specs.declared.constraint.Constraint.{Constraint}
-use Rattle.mapf_low.specs.Constraints.{Breaks}
+use Rattle.mapf_low.specs.Constraints.{Breaks, Obeys}
 use Rattle.mapf_tree.specs.Problem.{Problem}
 use Rattle.mapf_tree.specs.declared.tree.side.Side.{Side}
 use Rattle.mapf_tree.specs.declared.tree.side.Side.TheVariants.{Left, Right}
@@ -59,20 +59,25 @@ broke rule plan (Swapping t i j u v) Right h = (h.2, h.6, h.7)
 broke rule plan (Following t i j v) Left h = (parts plan i j v t h.1 h.5 h.6).0
 broke rule plan (Following t i j v) Right h = (parts plan i j v t h.1 h.5 h.6).1
 
--- so it is new to its agent, since the own path obeys the node's constraints
-pub constraint_is_new : ConstraintIsNew
-constraint_is_new problem node plan c s has is i =
-    let h : agent_on c s < length problem.inst.starts = subst (λ k. agent_on c s < k) has.agents (agent_below problem.rule plan c s is) in
+-- so it is new to the agent, if that's path obeys what it is forbidden
+pub broken_is_new : (problem : Problem) (node : TreeNode) (plan : List (List ℕ)) (c : Conflict) (s : Side) → IsConflict problem.rule plan c → Obeys (constraints_of node (agent_on c s)) (path_of plan (agent_on c s)) → ¬ Contains (constraints_of node (agent_on c s)) (constraint_on c s)
+broken_is_new problem node plan c s is obeys i =
     let Kept : Constraint → Type 0 = λ x. ¬ Breaks (path_of plan (agent_on c s)) x in
-    let obeys = All-from_recursion Kept (constraints_of node (agent_on c s)) (has.own (agent_on c s) h).member.obeys in
-    All-contains Kept (constraints_of node (agent_on c s)) (constraint_on c s) obeys i (broke problem.rule plan c s is)
+    All-contains Kept (constraints_of node (agent_on c s)) (constraint_on c s) (All-from_recursion Kept (constraints_of node (agent_on c s)) obeys) i (broke problem.rule plan c s is)
 
--- it is on cells of the grid, and at most at the bound
-side_fits : (problem : Problem) (node : TreeNode) (plan : List (List ℕ)) (c : Conflict) (s : Side) → HasPlan problem node plan → IsFirstConflict problem.rule plan c → Fits problem.inst.grid problem.bound (constraint_on c s)
-side_fits problem node plan c s has first = go c s first.member (first_early problem.rule plan problem.bound (plan_costs problem node plan has) c first)
+-- as own paths do
+pub constraint_is_new : ConstraintIsNew
+constraint_is_new problem node plan c s has is =
+    broken_is_new problem node plan c s is (has.own (agent_on c s) (subst (λ k. agent_on c s < k) has.agents (agent_below problem.rule plan c s is))).member.obeys
+
+-- that of a conflict up to the bound is on cells of the grid, and at most at the bound
+pub conflict_fits : (problem : Problem) (plan : List (List ℕ)) (c : Conflict) (s : Side) → length plan ≡ length problem.inst.starts →
+    ((i : ℕ) → i < length problem.inst.starts → IsPath problem.inst.grid (get_or problem.inst.starts i 0) (get_or problem.inst.goals i 0) (path_of plan i)) →
+    IsConflict problem.rule plan c → conflict_time c ≤ problem.bound → Fits problem.inst.grid problem.bound (constraint_on c s)
+conflict_fits problem plan c s agents paths is early = go c s is early
   where
     path : (i : ℕ) → i < length plan → IsPath problem.inst.grid (get_or problem.inst.starts i 0) (get_or problem.inst.goals i 0) (path_of plan i)
-    path i h = (has.own i (subst (λ k. i < k) has.agents h)).member.path
+    path i h = paths i (subst (λ k. i < k) agents h)
 
     cell : (i t v : ℕ) → i < length plan → place plan i t ≡ v → IsFree problem.inst.grid v
     cell i t v h e = subst (λ k. IsFree problem.inst.grid k) e (place_free problem.inst.grid _ _ (path_of plan i) (path i h) t)
@@ -87,6 +92,11 @@ side_fits problem node plan c s has first = go c s first.member (first_early pro
     go (Swapping t i j u v) Left h l = (edge i t u v (omega (arith, h.0, h.1)) h.2 h.4 h.5 h.3, h.3, l)
     go (Swapping t i j u v) Right h l = (edge j t v u h.1 h.2 h.6 h.7 (λ e. h.3 (sym e)), (λ e. h.3 (sym e)), l)
     go (Following t i j v) s h l = (cell i t v h.2 h.5, part_early _ t problem.bound l)
+
+-- and so it is of the first conflict
+side_fits : (problem : Problem) (node : TreeNode) (plan : List (List ℕ)) (c : Conflict) (s : Side) → HasPlan problem node plan → IsFirstConflict problem.rule plan c → Fits problem.inst.grid problem.bound (constraint_on c s)
+side_fits problem node plan c s has first =
+    conflict_fits problem plan c s has.agents (λ i h. (has.own i h).member.path) first.member (first_early problem.rule plan problem.bound (plan_costs problem node plan has) c first)
 
 -- a side has one constraint more, and all that held of the node holds of it
 grown_side : (problem : Problem) (node : TreeNode) (plan : List (List ℕ)) (c : Conflict) (s : Side) → Grown problem node → HasPlan problem node plan → IsFirstConflict problem.rule plan c → Grown problem (side_of node c s)

@@ -13,5 +13,6 @@ pub use open_list::{First, OpenList};
 pub use own_paths::OwnPaths;
 pub use search::{ByChild, Children, Progress, Search, solve_alone};
 pub use tree::{
-    Key, Name, Problem, Side, SideQuery, child, child_with, root, root_path, root_with,
+    Key, Name, Problem, Side, SideQuery, agent_of, child, child_with, constraint_of, own_path,
+    root, root_path, root_with,
 };

@@ -8,9 +8,10 @@ mod side;
 pub(crate) mod side_query;
 pub(crate) mod sides;
 
-pub use family::{child, child_with, root, root_path, root_with};
+pub use family::{child, child_with, own_path, root, root_path, root_with};
 pub use key::Key;
 pub use name::Name;
 pub use problem::Problem;
 pub use side::Side;
 pub use side_query::SideQuery;
+pub use sides::{agent_of, constraint_of};

@@ -92,7 +92,7 @@ fn root_paths(alloc: Global, problem: &Problem) -> Result<Option<Vec<Path>>, NoM
 }
 
 /// An agent's own path under these constraints, at a cost of at most the bound.
-pub(crate) fn own_path(
+pub fn own_path(
     alloc: Global,
     problem: &Problem,
     agent: usize,

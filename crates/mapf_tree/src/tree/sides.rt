@@ -8,7 +8,7 @@ use mapf_low::Constraint;
 use mapf_plan::Conflict;
 
 /// The agent of this side.
-pub(crate) fn agent_of(conflict: &Conflict, side: Side) -> usize
+pub fn agent_of(conflict: &Conflict, side: Side) -> usize
     ensures { result ≡ agent_on conflict.now side }
 {
     let (first, second) = match *conflict {
@@ -29,7 +29,7 @@ pub(crate) fn agent_of(conflict: &Conflict, side: Side) -> usize
 
 /// What this side forbids its agent: the cell at that time, or the step that the agent takes then. A follower may not be on
 /// the cell then, and its leader not one time step before.
-pub(crate) fn constraint_of(conflict: &Conflict, side: Side) -> Constraint
+pub fn constraint_of(conflict: &Conflict, side: Side) -> Constraint
     ensures { result ≡ constraint_on conflict.now side }
 {
     match *conflict {
