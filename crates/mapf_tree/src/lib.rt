@@ -14,5 +14,5 @@ pub use own_paths::OwnPaths;
 pub use search::{ByChild, Children, Progress, Search, solve_alone};
 pub use tree::{
     Key, Name, Problem, Side, SideQuery, agent_of, child, child_with, constraint_of, own_path,
-    root, root_path, root_with,
+    root, root_path, root_paths, root_with,
 };

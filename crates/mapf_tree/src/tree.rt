@@ -8,7 +8,7 @@ mod side;
 pub(crate) mod side_query;
 pub(crate) mod sides;
 
-pub use family::{child, child_with, own_path, root, root_path, root_with};
+pub use family::{child, child_with, own_path, root, root_path, root_paths, root_with};
 pub use key::Key;
 pub use name::Name;
 pub use problem::Problem;

@@ -75,8 +75,8 @@ pub fn root_path(alloc: Global, problem: &Problem, agent: usize) -> Result<Optio
     own_path(alloc, problem, agent, &free, problem.bound())
 }
 
-/// Each agent's own path under no constraints, if every agent has one; otherwise the root isn't in the tree.
-fn root_paths(alloc: Global, problem: &Problem) -> Result<Option<Vec<Path>>, NoMemory>
+/// Each agent's own path under no constraints, agent 0's first; none where an agent has none, so that the root isn't in the tree.
+pub fn root_paths(alloc: Global, problem: &Problem) -> Result<Option<Vec<Path>>, NoMemory>
     ensures { IfOk result (λ found.
         MatchOption found (IsRoot problem.now None) (λ paths. AreRootPaths problem.now paths.items)) }
 {
