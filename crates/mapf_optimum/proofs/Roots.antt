@@ -1,0 +1,93 @@
+-- The root of a search: each agent's own path under no constraints.
+use Rattle.std.proofs.Common.{◌≡◌, ℕ, ◌<◌, ◌≤◌, List, [], ◌++◌, length, get_or, replicate, Option, Some, None, MatchOption, subst, sym, ap, ◌∙◌, refl, arith, IsPermutation, All}
+use Rattle.std.specs.Option.{option_to_list}
+use Rattle.std.specs.List.{AllByRecursion}
+use Rattle.std.proofs.lemmas.List.{get_or-replicate, length-replicate}
+use Rattle.std.proofs.lemmas.List.Elements.{All-nil, All-cons}
+use Rattle.std.proofs.lemmas.List.Sorted.{All-permutation, Contains-permutation}
+use Rattle.mapf_grid.proofs.Members.{here}
+use Rattle.mapf_plan.specs.declared.conflict.Conflict.{Conflict}
+use Rattle.mapf_plan.specs.Plan.{path_of, plan_cost, IsFirstConflict, HasNoConflict, IsValid}
+use Rattle.mapf_plan.proofs.Conflicts.{first_early}
+use Rattle.mapf_low.specs.declared.constraint.Constraint.{Constraint}
+use Rattle.mapf_low.specs.Constraints.{Obeys}
+use Rattle.mapf_tree.specs.Problem.{Problem}
+use Rattle.mapf_tree.specs.Tree.{root_of}
+use Rattle.mapf_tree.specs.Laws.{ObeysNode}
+use Rattle.mapf_tree.specs.Family.{AreRootPaths, IsRoot}
+use Rattle.mapf_tree.proofs.Descent.{obeyed_is_in_cost}
+use Rattle.mapf_optimum.specs.FreeTree.{FreeNode, unnamed, IsFreeNode, IsChoice, IsCandidate, IsLeastPathOf, HaveLeastPaths, IsPairBound}
+use Rattle.mapf_optimum.specs.FreeSearch.{IsRootOf, IsUnderWay}
+use Rattle.mapf_optimum.proofs.LeastPaths.{own_is_least, least_paths_are_below}
+
+-- the first conflict of a node's plan is one that it may branch on
+pub choice_of : (p : Problem) (node : FreeNode) (found : Option Conflict) → IsFreeNode p node → MatchOption found (HasNoConflict p.rule node.plan) (λ c. IsFirstConflict p.rule node.plan c) →
+    MatchOption found (HasNoConflict p.rule node.plan) (IsChoice p node.plan)
+choice_of p node None is none = none
+choice_of p node (Some c) is first = (first.member, first_early p.rule node.plan p.bound (λ i h. (is.paths.each i (subst (λ k. i < k) is.paths.agents h)).allowed.within) c first)
+
+module _ (p : Problem) where
+  -- no constraint for any agent
+  abbrev free_sets : List (List Constraint)
+  free_sets = replicate (length p.inst.starts) []
+
+  free : (i : ℕ) → i < length p.inst.starts → get_or free_sets i [] ≡ []
+  free i h = get_or-replicate (length p.inst.starts) i [] [] h
+
+  -- each plan obeys them
+  obeys_free : (plan : List (List ℕ)) → ObeysNode p (unnamed free_sets) plan
+  obeys_free plan i h = subst (λ cs. Obeys cs (path_of plan i)) (sym (free i h)) tt
+
+  -- each valid plan within the bound is a candidate
+  pub is_candidate : (plan : List (List ℕ)) → IsValid p.rule p.inst plan → plan_cost plan ≤ p.bound → IsCandidate p free_sets plan
+  is_candidate plan valid within = record { valid = valid; within = within; obeys = obeys_free plan }
+
+  -- an agent has no own path: no plan
+  pub no_root : IsRoot p None → IsRootOf p None
+  no_root none plan valid within = let w = obeyed_is_in_cost p (root_of p) plan valid within (obeys_free plan) in none w.0 w.1
+
+  -- own paths are least paths
+  root_paths : (paths : List (List ℕ)) → AreRootPaths p paths → HaveLeastPaths p free_sets paths
+  root_paths paths are = record {
+    agents = are.each;
+    each = λ i h. subst (λ cs. IsLeastPathOf p i cs (path_of paths i)) (sym (free i h)) (own_is_least p i [] (path_of paths i) (are.own i h));
+  }
+
+  -- that cost too much: no plan
+  pub too_dear : (paths : List (List ℕ)) → AreRootPaths p paths → p.bound < plan_cost paths → IsRootOf p None
+  too_dear paths are dear plan valid within = absurd (omega (arith, dear, within, least_paths_are_below p free_sets paths (root_paths paths are) plan (is_candidate plan valid within)))
+
+  -- or that are the root's plan
+  pub root_is : (paths : List (List ℕ)) (node : FreeNode) → AreRootPaths p paths → plan_cost paths ≤ p.bound → node.sets ≡ free_sets → node.plan ≡ paths → node.pairs ≡ [] → node.label ≡ plan_cost paths → IsRootOf p (Some node)
+  root_is paths node are within sets plan pairs label = (
+    record {
+      agents = ap length sets ∙ length-replicate (length p.inst.starts) [];
+      paths = subst (λ l. HaveLeastPaths p l node.plan) (sym sets) (subst (λ q. HaveLeastPaths p free_sets q) (sym plan) (root_paths paths are));
+      pairs = subst (λ ps. AllByRecursion (IsPairBound p node.sets) ps) (sym pairs) tt;
+      dear = omega (arith, label, ap plan_cost plan);
+      within = omega (arith, label, within);
+      below = λ other candidate. omega (arith, label, least_paths_are_below p free_sets paths (root_paths paths are) other (subst (λ l. IsCandidate p l other) sets candidate));
+    },
+    sets,
+  )
+
+-- so it begins
+pub begins : (p : Problem) (found : Option FreeNode) (old new : List FreeNode) → IsRootOf p found → old ≡ [] → IsPermutation (option_to_list found ++ old) new → IsUnderWay p new
+begins p found old new root none put = in_order (option_to_list found ++ []) (subst (λ l. IsPermutation (option_to_list found ++ l) new) none put) (at_root found root)
+  where
+    at_root : (found : Option FreeNode) → IsRootOf p found → IsUnderWay p (option_to_list found ++ [])
+    at_root None is = record { free = All-nil (IsFreeNode p); covers = λ plan valid within. absurd (is plan valid within) }
+    at_root (Some node) is = record {
+      free = All-cons (IsFreeNode p) node [] is.0 (All-nil (IsFreeNode p));
+      covers = λ plan valid within. (node, here [] refl, subst (λ l. IsCandidate p l plan) (sym is.1) (is_candidate p plan valid within));
+    }
+
+    in_order : (l : List FreeNode) → IsPermutation l new → IsUnderWay p l → IsUnderWay p new
+    in_order l same way = record {
+      free = All-permutation (IsFreeNode p) l new same way.free;
+      covers = λ plan valid within. let w = way.covers plan valid within in (w.0, Contains-permutation l new w.0 same w.1, w.2);
+    }
+
+-- or with nothing
+pub begins_empty : (p : Problem) (new : List FreeNode) → IsRootOf p None → new ≡ [] → IsUnderWay p new
+begins_empty p new none empty = subst (IsUnderWay p) (sym empty) (record { free = All-nil (IsFreeNode p); covers = λ plan valid within. absurd (none plan valid within) })

@@ -1,0 +1,6 @@
+use Rattle.std.specs.List.{AllByRecursion}
+use Rattle.mapf_optimum.specs.FreeTree.{IsPairBound}
+use Rattle.mapf_optimum.proofs.pair_bounds.pair_bounds.Given as goal
+
+abbrev pub invariant-loop-conflict : goal.invariant-loop-conflict
+invariant-loop-conflict l = AllByRecursion (IsPairBound l.problem l.sets) l.pairs.items

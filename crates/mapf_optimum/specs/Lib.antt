@@ -1,0 +1,7 @@
+pub mod AnyAnswer
+pub mod FreeTree
+pub mod FreeSearch
+pub mod Pairs
+pub mod Laws
+pub mod Dependence
+pub mod Steps

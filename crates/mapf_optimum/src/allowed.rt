@@ -1,0 +1,158 @@
+//! Whether an agent may take a path, and whether a plan has a conflict: what is proposed by a guess is asked of these.
+
+ghost use Rattle.std.specs.Prelude.{◌≡◌, ◌≢◌, ℕ, ◌+◌, ◌<◌, length, IsFalse, IsTrue};
+ghost use Rattle.mapf_grid.specs.Grid.{Next};
+ghost use Rattle.mapf_low.specs.Constraints.{Breaks, Obeys};
+ghost use Rattle.mapf_plan.specs.Path.{at, cost, IsPath};
+ghost use Rattle.mapf_plan.specs.Plan.{IsConflict};
+ghost use Rattle.mapf_tree.specs.Tree.{IsAllowedFor};
+ghost use Rattle.mapf_optimum.specs.FreeTree.{IsChoice};
+
+use mapf_grid::{Cell, Map};
+use mapf_low::{Constraint, Constraints};
+use mapf_plan::{Conflict, Path, Plan, Rule};
+use mapf_tree::Problem;
+
+/// Whether the agent may take this path under these constraints.
+pub(crate) fn is_allowed(
+    problem: &Problem,
+    agent: usize,
+    constraints: &Constraints,
+    path: &Path,
+) -> bool
+    requires { agent < length problem.now.inst.starts }
+    ensures { IsTrue result → IsAllowedFor problem.now agent constraints.now path.now }
+{
+    let instance = problem.instance();
+    let (start, goal) = (instance.start(agent), instance.goal(agent));
+    let cost = path.cost();
+    if cost > problem.bound() {
+        return false;
+    }
+    leads(instance.map(), path, start, goal) && obeys(constraints, path)
+}
+
+/// Whether the path leads from start to goal by steps of the map, and doesn't wait on the goal at its end.
+fn leads(map: &Map, path: &Path, start: Cell, goal: Cell) -> bool
+    ensures { IsTrue result → IsPath map.now start goal path.now }
+{
+    // That a path has a cell is known from a call alone.
+    let _cells = path.cells();
+    if path.at(0) != start {
+        return false;
+    }
+    if path.at(path.cost()) != goal {
+        return false;
+    }
+    if waits_at_end(path, goal) {
+        return false;
+    }
+    if !map.is_free(start) {
+        return false;
+    }
+    goes_by_steps(map, path)
+}
+
+/// Whether the path is on the goal one time step before its end already.
+fn waits_at_end(path: &Path, goal: Cell) -> bool
+    ensures { IsFalse result → (t : ℕ) → t + 1 ≡ cost path.now → at path.now t ≢ goal }
+{
+    let cost = path.cost();
+    if cost == 0 {
+        return false;
+    }
+    path.at(cost - 1) == goal
+}
+
+/// Whether each step of the path is one of the map.
+fn goes_by_steps(map: &Map, path: &Path) -> bool
+    ensures { IsTrue result → (t : ℕ) → t < cost path.now → Next map.now (at path.now t) (at path.now (t + 1)) }
+{
+    for time in 0..path.cost() {
+        if !map.is_step(path.at(time), path.at(time + 1)) {
+            return false;
+        }
+    }
+    true
+}
+
+/// Whether the path obeys all of these constraints.
+fn obeys(constraints: &Constraints, path: &Path) -> bool
+    ensures { IsTrue result → Obeys constraints.now path.now }
+{
+    for constraint in constraints.as_slice() {
+        if breaks(path, constraint) {
+            return false;
+        }
+    }
+    true
+}
+
+/// Whether the path breaks the constraint.
+fn breaks(path: &Path, constraint: &Constraint) -> bool
+    ensures { IsFalse result → ¬ Breaks path.now constraint.now }
+{
+    match *constraint {
+        Constraint::Vertex { cell, time } => path.at(time) == cell,
+        Constraint::Edge { from, to, time } => {
+            time > 0 && path.at(time - 1) == from && path.at(time) == to
+        }
+    }
+}
+
+/// Whether the plan has this conflict by the problem's rule, and up to its bound.
+pub(crate) fn is_choice(problem: &Problem, plan: &Plan, conflict: &Conflict) -> bool
+    ensures { IsTrue result → IsChoice problem.now plan.now conflict.now }
+{
+    conflict.time() <= problem.bound() && has_conflict(problem.rule(), plan, conflict)
+}
+
+/// Whether the plan has this conflict by the rule.
+fn has_conflict(rule: Rule, plan: &Plan, conflict: &Conflict) -> bool
+    ensures { IsTrue result → IsConflict rule plan.now conflict.now }
+{
+    let agents = plan.paths().len();
+    match *conflict {
+        Conflict::Vertex {
+            time,
+            first,
+            second,
+            cell,
+        } => {
+            first < second
+                && second < agents
+                && plan.at(first, time) == cell
+                && plan.at(second, time) == cell
+        }
+        Conflict::Swapping {
+            time,
+            first,
+            second,
+            from,
+            to,
+        } => {
+            first < second
+                && second < agents
+                && time > 0
+                && from != to
+                && plan.at(first, time - 1) == from
+                && plan.at(first, time) == to
+                && plan.at(second, time - 1) == to
+                && plan.at(second, time) == from
+        }
+        Conflict::Following {
+            time,
+            follower,
+            leader,
+            cell,
+        } => {
+            rule == Rule::NoFollowing
+                && follower != leader
+                && follower < agents
+                && leader < agents
+                && time > 0
+                && plan.at(follower, time) == cell
+                && plan.at(leader, time - 1) == cell
+        }
+    }
+}

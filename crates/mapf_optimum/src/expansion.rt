@@ -1,0 +1,30 @@
+//! How a node is expanded.
+
+ghost use Rattle.std.specs.Prelude.{OnOk};
+ghost use Rattle.mapf_optimum.specs.FreeTree.{IsFreeNode, IsChoice};
+ghost use Rattle.mapf_optimum.specs.FreeSearch.{PutsSides};
+
+use crate::FreeNode;
+use crate::low_level::LowLevel;
+use crate::waiting::Waiting;
+use mapf_grid::NoMemory;
+use mapf_plan::Conflict;
+use mapf_tree::Side;
+use std::alloc::Global;
+
+/// Puts the sides of a node in, on a conflict of its plan.
+pub(crate) fn expand(
+    alloc: Global,
+    low: &LowLevel<'_>,
+    node: &FreeNode,
+    conflict: &Conflict,
+    waiting: &mut Waiting,
+) -> Result<(), NoMemory>
+    requires node { IsFreeNode low.now node.now }
+    requires choice { IsChoice low.now node.now.plan conflict.now }
+    ensures { OnOk result (PutsSides low.now node.now conflict.now waiting.old waiting.new) }
+{
+    waiting.put(node.side(alloc, low, conflict, Side::Left)?)?;
+    waiting.put(node.side(alloc, low, conflict, Side::Right)?)?;
+    Ok(())
+}

@@ -1,0 +1,12 @@
+//! What a search goes by and nothing rests on: which of several least paths to take, and which conflict to branch on. What is
+//! proposed here is looked at again by what is proved (`allowed`).
+
+mod branching;
+mod conflicts;
+mod few_conflicts;
+mod occupancy;
+
+pub(crate) use branching::branching_conflict;
+pub(crate) use conflicts::conflicts_of;
+pub(crate) use few_conflicts::few_conflicts;
+pub(crate) use occupancy::Occupancy;

@@ -1,0 +1,99 @@
+//! The conflict to branch on.
+
+ghost use Rattle.std.specs.Prelude.{IfOk, MatchOption, ⊤};
+ghost use Rattle.mapf_optimum.specs.FreeTree.{IsChoice};
+
+use crate::PairBound;
+use crate::allowed::is_choice;
+use crate::low_level::LowLevel;
+use crate::pairs::surplus_of;
+use mapf_grid::NoMemory;
+use mapf_low::Constraints;
+use mapf_plan::{Conflict, Plan};
+use mapf_tree::{Side, agent_of, constraint_of};
+use std::alloc::Global;
+
+/// How many conflicts of pairs that cost more are tried, at most.
+const MOST_TRIED: usize = 32;
+
+/// A conflict of the plan up to the bound, if one is found among these: one whose two sides cost more than the node; else one of
+/// which one side does; else the first one.
+///
+/// A conflict whose sides both cost more is one of a pair that costs more together, so those of no other pair are tried.
+pub(crate) fn branching_conflict(
+    alloc: Global,
+    low: &LowLevel<'_>,
+    sets: &[Constraints],
+    plan: &Plan,
+    pairs: &[PairBound],
+    conflicts: &[Conflict],
+) -> Result<Option<Conflict>, NoMemory>
+    ensures { IfOk result (λ found. MatchOption found ⊤ (IsChoice low.now plan.now)) }
+{
+    let mut best = None;
+    let mut greatest = (0, 0);
+    let mut tried = 0;
+    for conflict in conflicts {
+        if !is_choice(low.problem(), plan, conflict) {
+            continue;
+        }
+        if best.is_none() {
+            best = Some(*conflict);
+        }
+        if tried < MOST_TRIED && costs_more(plan, pairs, conflict) {
+            tried += 1;
+            let rises = rises(alloc, low, sets, plan, conflict)?;
+            if rises > greatest {
+                greatest = rises;
+                best = Some(*conflict);
+            }
+        }
+    }
+    Ok(best)
+}
+
+/// How much more the agents of both sides pay there, the lesser number first.
+fn rises(
+    alloc: Global,
+    low: &LowLevel<'_>,
+    sets: &[Constraints],
+    plan: &Plan,
+    conflict: &Conflict,
+) -> Result<(u32, u32), NoMemory>
+    requires { IsChoice low.now plan.now conflict.now }
+{
+    let one = rise(alloc, low, sets, plan, conflict, Side::Left)?;
+    let other = rise(alloc, low, sets, plan, conflict, Side::Right)?;
+    Ok((one.min(other), one.max(other)))
+}
+
+/// Whether the two agents of the conflict cost more together than now.
+fn costs_more(plan: &Plan, pairs: &[PairBound], conflict: &Conflict) -> bool {
+    let (one, other) = (
+        agent_of(conflict, Side::Left),
+        agent_of(conflict, Side::Right),
+    );
+    pairs.iter().any(|pair| {
+        (pair.first, pair.second) == (one, other) && surplus_of(plan, pair) > 0
+    })
+}
+
+/// How much more the side's agent pays there; the greatest number where it has no path.
+fn rise(
+    alloc: Global,
+    low: &LowLevel<'_>,
+    sets: &[Constraints],
+    plan: &Plan,
+    conflict: &Conflict,
+    side: Side,
+) -> Result<u32, NoMemory>
+    requires { IsChoice low.now plan.now conflict.now }
+{
+    let agent = agent_of(conflict, side);
+    let (Some(set), Some(path)) = (sets.get(agent), plan.paths().get(agent)) else {
+        return Ok(0);
+    };
+    let more = set.with(constraint_of(conflict, side))?;
+    let found = low.cost_under(alloc, agent, &more)?;
+    Ok(found.map_or(u32::MAX, |cost| cost.saturating_sub(path.cost())))
+}

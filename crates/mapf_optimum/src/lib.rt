@@ -1,0 +1,22 @@
+//! Any optimum, by a search that may branch on any conflict.
+#![tactic(auto)]
+
+mod agents;
+mod allowed;
+mod expansion;
+mod guesses;
+pub mod laws;
+mod low_level;
+mod node;
+mod pair_bound;
+mod pair_bounds;
+mod pairs;
+mod settling;
+mod solving;
+mod waiting;
+mod watch;
+
+pub use node::FreeNode;
+pub use pair_bound::PairBound;
+pub use solving::{solve_any, solve_any_from};
+pub use watch::OptimumWatch;

@@ -1,0 +1,271 @@
+//! The nodes of a search that may branch on any conflict.
+
+ghost use Rattle.std.specs.Prelude.{◌≡◌, ◌+◌, ◌<◌, ◌≤◌, length, IfOk, MatchOption, slice_set};
+ghost use Rattle.mapf_plan.specs.Path.{cost};
+ghost use Rattle.mapf_plan.specs.Plan.{path_of, plan_cost, HasNoConflict};
+ghost use Rattle.mapf_plan.specs.declared.answer.TheConstants.{MOST_BOUND};
+ghost use Rattle.mapf_tree.specs.Family.{Leaves, AreRootPaths};
+ghost use Rattle.mapf_optimum.specs.FreeTree.{IsFreeNode, IsChoice};
+ghost use Rattle.mapf_optimum.specs.FreeSearch.{IsRootOf, IsSideOf, IsBounded};
+
+mod order;
+
+use crate::PairBound;
+use crate::agents::{copy_paths, copy_sets, empty_sets};
+use crate::guesses::{Occupancy, branching_conflict, conflicts_of};
+use crate::low_level::LowLevel;
+use crate::pair_bounds::{pair_bounds, pairs_without};
+use crate::pairs::disjoint_surplus;
+use crate::settling::settled;
+use mapf_grid::NoMemory;
+use mapf_low::Constraints;
+use mapf_plan::{Conflict, Path, Plan};
+use mapf_tree::{Problem, Side, agent_of, constraint_of};
+use std::alloc::Global;
+use std::marker::Model;
+
+/// Each agent's set of constraints, a plan of least paths under them, and a label: what each valid plan that obeys the sets costs
+/// at least.
+pub struct FreeNode {
+    sets: Vec<Constraints>,
+    plan: Plan,
+    /// What two agents cost together at least, of those pairs of which it is known.
+    pairs: Vec<PairBound>,
+    label: u64,
+    /// How many pairs of agents collide in the plan.
+    collisions: usize,
+    /// Whether the label was found from the pairs.
+    is_bounded: bool,
+}
+
+// By hand, so that a proof about what holds one sees a call where it is dropped, and not its fields.
+impl Drop for FreeNode {
+    fn drop(self) {
+        let FreeNode {
+            sets: _,
+            plan: _,
+            pairs: _,
+            label: _,
+            collisions: _,
+            is_bounded: _,
+        } = self;
+    }
+}
+
+impl Model for FreeNode {
+    ghost use Rattle.mapf_optimum.specs.FreeTree.{FreeNode};
+
+    ghost Value = { FreeNode };
+
+    ghost view = { λ n. record {
+      sets = n.sets.items;
+      plan = n.plan;
+      pairs = n.pairs.items;
+      label = n.label;
+      collisions = n.collisions;
+      is_bounded = n.is_bounded;
+    } };
+}
+
+impl FreeNode {
+    /// The node without constraints, from each agent's own path; none where these cost more than the bound.
+    pub(crate) fn root(
+        alloc: Global,
+        problem: &Problem,
+        paths: Vec<Path>,
+    ) -> Result<Option<FreeNode>, NoMemory>
+        requires { AreRootPaths problem.now paths.items }
+        ensures { IfOk result (IsRootOf problem.now) }
+    {
+        // An instance has one agent at least, and at most 1,000.
+        let agents = problem.instance().agents();
+        let plan = Plan::of(paths);
+        let label = plan.cost();
+        if label > u64::from(problem.bound()) {
+            return Ok(None);
+        }
+        Ok(Some(FreeNode {
+            sets: empty_sets(alloc, agents)?,
+            plan,
+            pairs: Vec::new(alloc),
+            label,
+            collisions: 0,
+            is_bounded: false,
+        }))
+    }
+
+    /// A conflict of the plan, any one up to the bound; none where the plan has no conflict.
+    pub(crate) fn choice(
+        &self,
+        alloc: Global,
+        low: &LowLevel<'_>,
+        occupancy: &mut Occupancy,
+    ) -> Result<Option<Conflict>, NoMemory>
+        requires { IsFreeNode low.now self.now }
+        ensures { IfOk result (λ found.
+            MatchOption found (HasNoConflict low.now.rule self.now.plan) (IsChoice low.now self.now.plan)) }
+    {
+        let problem = low.problem();
+        let conflicts = conflicts_of(alloc, problem.rule(), self.plan.paths(), occupancy)?;
+        let guess = branching_conflict(
+            alloc,
+            low,
+            &self.sets,
+            &self.plan,
+            &self.pairs,
+            &conflicts,
+        )?;
+        match guess {
+            Some(conflict) => Ok(Some(conflict)),
+            None => Ok(self.first_conflict(problem)),
+        }
+    }
+
+    /// The first conflict of the plan.
+    fn first_conflict(&self, problem: &Problem) -> Option<Conflict>
+        requires { IsFreeNode problem.now self.now }
+        ensures { MatchOption result (HasNoConflict problem.now.rule self.now.plan)
+            (IsChoice problem.now self.now.plan) }
+    {
+        self.plan.first_conflict_by(problem.rule())
+    }
+
+    /// What each valid plan costs at least that obeys the sets.
+    pub(crate) fn label(&self) -> u64
+        ensures { result ≡ self.now.label }
+    {
+        self.label
+    }
+
+    /// Whether the label was found from the pairs.
+    pub(crate) fn is_bounded(&self) -> bool
+        ensures { result ≡ self.now.is_bounded }
+    {
+        self.is_bounded
+    }
+
+    /// The plan.
+    pub(crate) fn into_plan(self) -> Plan
+        ensures { result ≡ self.plan }
+    {
+        let FreeNode {
+            sets: _,
+            plan,
+            pairs: _,
+            label: _,
+            collisions: _,
+            is_bounded: _,
+        } = self;
+        plan
+    }
+
+    /// The node with the label that its pairs give, if that is greater; none where it is over the bound. Its agents take least paths
+    /// with few conflicts.
+    pub(crate) fn bounded(
+        self,
+        alloc: Global,
+        low: &LowLevel<'_>,
+        occupancy: &mut Occupancy,
+    ) -> Result<Option<FreeNode>, NoMemory>
+        requires { IsFreeNode low.now self }
+        ensures { IfOk result (IsBounded low.now self) }
+    {
+        let problem = low.problem();
+        let FreeNode {
+            sets,
+            plan,
+            pairs: known,
+            label,
+            collisions: _,
+            is_bounded: _,
+        } = self;
+        let plan = settled(alloc, low, &sets, &plan, occupancy)?;
+        let conflicts = conflicts_of(alloc, problem.rule(), plan.paths(), occupancy)?;
+        let pairs = pair_bounds(alloc, problem, &sets, &plan, known, &conflicts)?;
+        let surplus = disjoint_surplus(alloc, &plan, &pairs)?;
+        let label = label.max(plan.cost().saturating_add(surplus));
+        if label > u64::from(problem.bound()) {
+            return Ok(None);
+        }
+        let collisions = conflicts.len();
+        Ok(Some(FreeNode {
+            sets,
+            plan,
+            pairs,
+            label,
+            collisions,
+            is_bounded: true,
+        }))
+    }
+
+    /// The node on this side of a conflict of its plan; none where that has no candidate.
+    pub(crate) fn side(
+        &self,
+        alloc: Global,
+        low: &LowLevel<'_>,
+        conflict: &Conflict,
+        side: Side,
+    ) -> Result<Option<FreeNode>, NoMemory>
+        requires node { IsFreeNode low.now self.now }
+        requires choice { IsChoice low.now self.now.plan conflict.now }
+        ensures { IfOk result (IsSideOf low.now self.now conflict.now side) }
+    {
+        let agent = agent_of(conflict, side);
+        let set = self.sets[agent].with(constraint_of(conflict, side))?;
+        let bound = self.left_for(low, agent);
+        let least = self.plan.paths()[agent].cost();
+        let Some(path) = low.least_path(alloc, agent, &set, bound, least)? else {
+            return Ok(None);
+        };
+        let plan = self.plan_with(alloc, agent, path)?;
+        let label = self.label.max(plan.cost());
+        let sets = self.sets_with(alloc, agent, set)?;
+        let pairs = pairs_without(alloc, &self.pairs, agent)?;
+        Ok(Some(FreeNode {
+            sets,
+            plan,
+            pairs,
+            label,
+            collisions: self.collisions,
+            is_bounded: false,
+        }))
+    }
+
+    /// What the other agents' paths leave of the bound.
+    fn left_for(&self, low: &LowLevel<'_>, agent: usize) -> u32
+        requires agent { agent < length self.now.plan }
+        requires within { plan_cost self.now.plan ≤ low.now.bound }
+        ensures leaves { Leaves low.now self.now.plan agent result }
+        ensures small { result ≤ MOST_BOUND }
+    {
+        let problem = low.problem();
+        let own = self.plan.paths()[agent].cost();
+        let others = self.plan.cost() - u64::from(own);
+        (u64::from(problem.bound()) - others) as u32
+    }
+
+    /// The plan, where this agent has another path.
+    fn plan_with(&self, alloc: Global, agent: usize, path: Path) -> Result<Plan, NoMemory>
+        requires { agent < length self.now.plan }
+        ensures { IfOk result (λ plan. plan ≡ slice_set self.now.plan agent path) }
+    {
+        let mut paths = copy_paths(alloc, self.plan.paths())?;
+        paths[agent] = path;
+        Ok(Plan::of(paths))
+    }
+
+    /// The sets, where this agent has another one.
+    fn sets_with(
+        &self,
+        alloc: Global,
+        agent: usize,
+        set: Constraints,
+    ) -> Result<Vec<Constraints>, NoMemory>
+        requires { agent < length self.now.sets }
+        ensures { IfOk result (λ sets. sets.items ≡ slice_set self.now.sets agent set) }
+    {
+        let mut sets = copy_sets(alloc, self.sets.as_slice())?;
+        sets[agent] = set;
+        Ok(sets)
+    }
+}

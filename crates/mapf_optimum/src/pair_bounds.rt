@@ -1,0 +1,99 @@
+//! What is known of the pairs of agents that collide in a plan.
+
+ghost use Rattle.std.specs.Prelude.{◌≡◌, length, IfOk, MatchOption, Contains, ⊤};
+ghost use Rattle.std.specs.List.{AllByRecursion};
+ghost use Rattle.mapf_optimum.specs.FreeTree.{HaveLeastPaths, IsPairBound};
+
+use crate::PairBound;
+use crate::agents::agent_at;
+use crate::low_level::LowLevel;
+use crate::pairs::extra_cost;
+use mapf_grid::NoMemory;
+use mapf_low::Constraints;
+use mapf_plan::{Conflict, Plan};
+use mapf_tree::{Problem, Side, agent_of};
+use std::alloc::Global;
+
+/// How many pairs of cells are looked at for a pair of agents, at most.
+const BUDGET: usize = 5_000;
+
+/// What is known of pairs, and what each pair that has one of these conflicts costs together at least, if it isn't known.
+pub(crate) fn pair_bounds(
+    alloc: Global,
+    problem: &Problem,
+    sets: &[Constraints],
+    plan: &Plan,
+    known: Vec<PairBound>,
+    conflicts: &[Conflict],
+) -> Result<Vec<PairBound>, NoMemory>
+    requires sets { length sets.now ≡ length problem.now.inst.starts }
+    requires paths { HaveLeastPaths problem.now sets.now plan.now }
+    requires known { AllByRecursion (IsPairBound problem.now sets.now) known.items }
+    ensures { IfOk result (λ pairs. AllByRecursion (IsPairBound problem.now sets.now) pairs.items) }
+{
+    let mut pairs = known;
+    for conflict in conflicts {
+        let (first, second) = (
+            agent_of(conflict, Side::Left),
+            agent_of(conflict, Side::Right),
+        );
+        if !is_known(&pairs, first, second) {
+            if let Some(pair) = pair_bound(alloc, problem, sets, plan, first, second)? {
+                pairs.push(pair)?;
+            }
+        }
+    }
+    Ok(pairs)
+}
+
+/// Those of these pairs that this agent isn't in.
+pub(crate) fn pairs_without(
+    alloc: Global,
+    pairs: &[PairBound],
+    agent: usize,
+) -> Result<Vec<PairBound>, NoMemory>
+    ensures { IfOk result (λ kept. AllByRecursion (Contains pairs.now) kept.items) }
+{
+    let mut kept = Vec::new(alloc);
+    for pair in pairs {
+        if pair.first != agent && pair.second != agent {
+            kept.push(*pair)?;
+        }
+    }
+    Ok(kept)
+}
+
+/// Whether the list has the pair.
+fn is_known(pairs: &[PairBound], first: usize, second: usize) -> bool {
+    pairs
+        .iter()
+        .any(|pair| (pair.first, pair.second) == (first, second))
+}
+
+/// What two agents cost together at least; none unless they are two, in their order.
+fn pair_bound(
+    alloc: Global,
+    problem: &Problem,
+    sets: &[Constraints],
+    plan: &Plan,
+    first: usize,
+    second: usize,
+) -> Result<Option<PairBound>, NoMemory>
+    requires sets { length sets.now ≡ length problem.now.inst.starts }
+    requires paths { HaveLeastPaths problem.now sets.now plan.now }
+    ensures { IfOk result (λ found. MatchOption found ⊤ (IsPairBound problem.now sets.now)) }
+{
+    if first >= second || second >= plan.paths().len() {
+        return Ok(None);
+    }
+    let costs = (plan.paths()[first].cost(), plan.paths()[second].cost());
+    let one = agent_at(problem, first, &sets[first], costs.0);
+    let other = agent_at(problem, second, &sets[second], costs.1);
+    let extra = extra_cost(alloc, problem.rule(), &one, &other, BUDGET)?;
+    let least = u64::from(costs.0) + u64::from(costs.1) + u64::from(extra);
+    Ok(Some(PairBound {
+        first,
+        second,
+        least,
+    }))
+}

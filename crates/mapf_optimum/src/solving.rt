@@ -1,0 +1,100 @@
+//! Any optimum of a problem.
+
+ghost use Rattle.std.specs.Prelude.{IfOk, MatchOption, None};
+ghost use Rattle.mapf_tree.specs.Family.{AreRootPaths, IsRoot};
+ghost use Rattle.mapf_optimum.specs.AnyAnswer.{IsAnyAnswer};
+ghost use Rattle.mapf_optimum.specs.FreeSearch.{IsUnderWay};
+
+use crate::expansion::expand;
+use crate::guesses::Occupancy;
+use crate::low_level::LowLevel;
+use crate::waiting::Waiting;
+use crate::{FreeNode, OptimumWatch};
+use mapf_grid::NoMemory;
+use mapf_plan::{Answer, Path};
+use mapf_tree::{Problem, root_paths};
+use std::alloc::Global;
+
+/// A plan without conflict that costs least, whichever of several; none exactly where no plan without conflict costs at most the
+/// bound; or, at the problem's limit on nodes, a lower bound.
+///
+/// The watch is told of each node that is expanded, and last of the end. An error is that memory ran out.
+pub fn solve_any<W: OptimumWatch>(
+    alloc: Global,
+    problem: &Problem,
+    watch: &mut W,
+) -> Result<Answer, NoMemory>
+    ensures { IfOk result (IsAnyAnswer problem.now) }
+{
+    let paths = root_paths(alloc, problem)?;
+    solve_any_from(alloc, problem, paths, watch)
+}
+
+/// The same from each agent's own path under no constraints; none where some agent has none.
+pub fn solve_any_from<W: OptimumWatch>(
+    alloc: Global,
+    problem: &Problem,
+    paths: Option<Vec<Path>>,
+    watch: &mut W,
+) -> Result<Answer, NoMemory>
+    requires { MatchOption paths (IsRoot problem.now None) (λ paths. AreRootPaths problem.now paths.items) }
+    ensures { IfOk result (IsAnyAnswer problem.now) }
+{
+    let waiting = begin(alloc, problem, paths)?;
+    let low = LowLevel::new(alloc, problem)?;
+    let mut occupancy = Occupancy::new(alloc, problem.instance().map())?;
+    search(alloc, &low, waiting, &mut occupancy, watch)
+}
+
+/// The root alone, if there is one.
+fn begin(alloc: Global, problem: &Problem, paths: Option<Vec<Path>>) -> Result<Waiting, NoMemory>
+    requires { MatchOption paths (IsRoot problem.now None) (λ paths. AreRootPaths problem.now paths.items) }
+    ensures { IfOk result (IsUnderWay problem.now) }
+{
+    let mut waiting = Waiting::new(alloc);
+    if let Some(paths) = paths {
+        waiting.put(FreeNode::root(alloc, problem, paths)?)?;
+    }
+    Ok(waiting)
+}
+
+/// Takes nodes, the least label first, until one has a plan without conflict, or none is left, or the limit on nodes is reached.
+fn search<W: OptimumWatch>(
+    alloc: Global,
+    low: &LowLevel<'_>,
+    waiting: Waiting,
+    occupancy: &mut Occupancy,
+    watch: &mut W,
+) -> Result<Answer, NoMemory>
+    requires { IsUnderWay low.now waiting }
+    ensures { IfOk result (IsAnyAnswer low.now) }
+{
+    let problem = low.problem();
+    let mut waiting = waiting;
+    let mut nodes = 0;
+    'steps: loop {
+        let Some(node) = waiting.take_least() else {
+            let bound = problem.bound();
+            watch.nodes_expanded(problem, nodes, u64::from(bound) + 1);
+            return Ok(Answer::None { bound });
+        };
+        if !node.is_bounded() {
+            waiting.put(node.bounded(alloc, low, occupancy)?)?;
+            continue 'steps;
+        }
+        watch.nodes_expanded(problem, nodes, node.label());
+        let Some(conflict) = node.choice(alloc, low, occupancy)? else {
+            let plan = node.into_plan();
+            let stated = plan.cost();
+            return Ok(Answer::Plan { plan, stated });
+        };
+        if let Some(most) = problem.nodes() {
+            if nodes >= most {
+                let least = node.label();
+                return Ok(Answer::GaveUp { nodes: most, least });
+            }
+        }
+        expand(alloc, low, &node, &conflict, &mut waiting)?;
+        nodes = nodes.saturating_add(1);
+    }
+}
