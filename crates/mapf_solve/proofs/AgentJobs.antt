@@ -1,5 +1,5 @@
 -- A job for each agent, and what the answers to them are.
-use Rattle.std.proofs.Common.{◌≡◌, ℕ, zero, suc, ◌+◌, ◌<◌, List, [], ◌∷◌, ◌++◌, length, get_or, map, Option, Some, None, Contains, refl, sym, ap, ◌∙◌, subst, arith}
+use Rattle.std.proofs.Common.{◌≡◌, ℕ, zero, suc, ◌+◌, ◌<◌, List, [], ◌∷◌, ◌++◌, length, get_or, map, Option, Some, None, Result, Ok, Err, IfOk, Contains, MatchOption, refl, sym, ap, ◌∙◌, subst, arith}
 use Rattle.std.specs.List.{AllZip, range_with_len}
 use Rattle.std.proofs.lemmas.List.{get_or-map, length-map, map-id}
 use Rattle.std.proofs.lemmas.List.FromFn.{length-map-range_with_len, map-range_with_len_more}
@@ -52,15 +52,21 @@ module _ (p : Problem) (first : ℕ) (jobs : List WantedPath) (found : List (Opt
   each = answered_each FitsPath (wanted_path p first) None (length p.inst.starts) jobs found are all
 
   -- where each agent has a path, those are the root's
-  pub root_paths : (paths : List (List ℕ)) → found ≡ map Some paths → AreRootPaths p paths
+  root_paths : (paths : List (List ℕ)) → found ≡ map Some paths → AreRootPaths p paths
   root_paths paths is = record {
     each = sym (length-map paths Some) ∙ sym (ap length is) ∙ each.0;
     own = λ i h. subst (IsOwn p i []) (ap (λ l. get_or l i None) is ∙ get_or-map Some paths i [] None (omega (arith, h, each.0, ap length is, length-map paths Some))) (each.1 i h);
   }
 
   -- where one has none, there is no root
-  pub no_root : Contains found None → IsRoot p None
+  no_root : Contains found None → IsRoot p None
   no_root (i, low, is) plan has =
       let h : i < length p.inst.starts = omega (arith, low, each.0) in
       let none : IsOwn p i [] None = subst (IsOwn p i []) is (each.1 i h) in
       none (path_of plan i) (subst (λ cs. IsAllowedFor p i cs (path_of plan i)) (free_at_root p i h) (has.own i h).member)
+
+  -- so what is found of all is what a root is made of
+  pub found_paths : {V E : Type 0} (all_of : V → List (List ℕ)) (r : Result (Option V) E) → IfOk r (λ paths. MatchOption paths (Contains found None) (λ v. found ≡ map Some (all_of v))) → IfOk r (λ paths. MatchOption paths (IsRoot p None) (λ v. AreRootPaths p (all_of v)))
+  found_paths all_of (Ok (Some paths)) is = root_paths (all_of paths) is
+  found_paths all_of (Ok None) is = no_root is
+  found_paths all_of (Err e) is = tt

@@ -1,21 +1,24 @@
 -- What an instance's answer means for its text.
 use Rattle.std.proofs.Common.{◌≡◌, ◌≢◌, ℕ, suc, ◌<◌, ◌≤◌, ◌⊎◌, List, [], ◌∷◌, length, get_or, slice_index, Option, Some, None, Result, Ok, Err, IfOk, inl, inr, subst, refl, sym, ap, ◌∙◌, arith}
 use Rattle.std.specs.List.{AllByRecursion}
+use Rattle.std.proofs.lemmas.Option.{same_Some}
 use Rattle.mapf_grid.specs.Grid.{HasSizes, cells}
 use Rattle.mapf_grid.specs.Instance.{Instance}
-use Rattle.mapf_plan.specs.Plan.{plan_cost, path_of, IsValid}
+use Rattle.mapf_plan.specs.Plan.{plan_cost, path_of, IsValid, IsOptimum}
 use Rattle.mapf_plan.specs.declared.answer.TheConstants.{MOST_BOUND}
 use Rattle.mapf_plan.specs.Text.{text, CanWrite}
 use Rattle.mapf_plan.specs.declared.answer.Answer.{Answer}
 use Rattle.mapf_plan.specs.declared.answer.Answer.TheVariants as answer
 use Rattle.mapf_plan.proofs.Paths.{cells_below}
 use Rattle.mapf_tree.specs.Problem.{Problem, IsLimit}
-use Rattle.mapf_tree.specs.Tree.{PlannedNode, HasPlan, IsAnswer}
+use Rattle.mapf_tree.specs.Tree.{PlannedNode}
 use Rattle.mapf_tree.specs.Cut.{IsCutAt}
 use Rattle.mapf_tree.specs.Answered.{stated, IsStated, IsAnswerUpTo, IsAnswerOf}
 use Rattle.mapf_tree.proofs.Descent.{answer_is_optimum, none_is_none}
 use Rattle.mapf_tree.proofs.Limits.{as_given_up, cut_is_below, stated_is_unique}
+use Rattle.mapf_optimum.specs.AnyAnswer.{IsAnyAnswer}
 use Rattle.mapf_solve.specs.Out.{problem_of, without_limit, IsText, IsBest, KeepsLimit}
+use Rattle.mapf_solve.specs.AnyOut.{IsAnyText, KeepsAnyLimit}
 use Rattle.mapf_solve.specs.declared.ask.Ask.{Ask}
 use Rattle.mapf_solve.proofs.WithoutLimit.{same_answer}
 
@@ -24,52 +27,81 @@ all_paths : (P : List ℕ → Type 0) (plan : List (List ℕ)) → ((i : ℕ) �
 all_paths P [] each = tt
 all_paths P (p ∷ plan) each = (each 0 (omega arith), all_paths P plan (λ i h. each (suc i) (omega (arith, h))))
 
--- every cell of the plan lies on the map
-plan_inside : (problem : Problem) (plan : List (List ℕ)) → HasSizes problem.inst.grid → IsAnswer problem (Some plan) → AllByRecursion (AllByRecursion (λ c. c < cells problem.inst.grid)) plan
-plan_inside problem plan sizes (node, first) =
-    all_paths (AllByRecursion (λ c. c < cells problem.inst.grid)) plan (λ i h. path_inside i (subst (λ n. i < n) has.agents h))
+-- every cell of a valid plan lies on the map
+plan_inside : (problem : Problem) (plan : List (List ℕ)) → HasSizes problem.inst.grid → IsValid problem.rule problem.inst plan → AllByRecursion (AllByRecursion (λ c. c < cells problem.inst.grid)) plan
+plan_inside problem plan sizes valid =
+    all_paths (AllByRecursion (λ c. c < cells problem.inst.grid)) plan (λ i h. path_inside i (subst (λ n. i < n) valid.agents h))
   where
-    has : HasPlan problem node plan
-    has = first.member.planned.plan
-
     path_inside : (i : ℕ) → i < length problem.inst.starts → AllByRecursion (λ c. c < cells problem.inst.grid) (path_of plan i)
     path_inside i h =
         subst (λ n. AllByRecursion (λ c. c < n) (path_of plan i)) sizes.each_cell
-        (cells_below problem.inst.grid (slice_index problem.inst.starts i) (slice_index problem.inst.goals i) (path_of plan i) (has.own i h).member.path)
+        (cells_below problem.inst.grid (slice_index problem.inst.starts i) (slice_index problem.inst.goals i) (path_of plan i) (valid.paths i h))
 
--- the answer without a limit on nodes has a text
-stated_can_write : (problem : Problem) (given : Answer) → HasSizes problem.inst.grid → problem.bound ≤ MOST_BOUND → IsStated problem given → CanWrite problem.inst.grid given
-stated_can_write problem given sizes small (Some plan, is, e) =
-    let within : plan_cost plan ≤ problem.bound = is.1.member.planned.plan.within in
-    subst (CanWrite problem.inst.grid) (sym e) (omega (arith, within, small), plan_inside problem plan sizes is)
-stated_can_write problem given sizes small (None, is, e) = subst (CanWrite problem.inst.grid) (sym e) small
-
--- and so has that with a limit
-pub can_write : (problem : Problem) (given : Answer) → HasSizes problem.inst.grid → problem.bound ≤ MOST_BOUND → IsLimit problem.nodes → IsAnswerOf problem given → CanWrite problem.inst.grid given
-can_write problem given sizes small = go problem.nodes
-  where
-    go : (o : Option ℕ) → IsLimit o → IsAnswerUpTo o problem given → CanWrite problem.inst.grid given
-    go None limit is = stated_can_write problem given sizes small is
-    go (Some n) limit (inl (m, cut, e)) =
-        subst (CanWrite problem.inst.grid) (sym e) (limit.0, limit.1, omega (arith, cut.0.member.plan.within, small))
-    go (Some n) limit (inr (never, is)) = stated_can_write problem given sizes small is
+-- so an optimum, none or a lower bound has a text
+pub can_write : (problem : Problem) (given : Answer) → HasSizes problem.inst.grid → problem.bound ≤ MOST_BOUND → IsLimit problem.nodes → IsAnyAnswer problem given → CanWrite problem.inst.grid given
+can_write problem (answer.Plan plan cost) sizes small limit is =
+    let within : plan_cost plan ≤ problem.bound = is.0.within in
+    (omega (arith, within, small, is.1), plan_inside problem plan sizes is.0.valid)
+can_write problem (answer.None bound) sizes small limit is = omega (arith, small, is.0)
+can_write problem (answer.GaveUp nodes least) sizes small limit is =
+    let may : IsLimit (Some nodes) = subst IsLimit is.0 limit in (may.0, may.1, omega (arith, is.1, small))
 
 -- a stated answer is an optimum, or none where there is no valid plan within the bound
-stated_is_best : (map scen : List ℕ) (ask : Ask) (bytes : List ℕ) (is : IsText map scen ask bytes) → IsStated (problem_of is.inst ask) is.given → IsBest map scen ask bytes
-stated_is_best map scen ask bytes is (Some plan, first, e) = record {
+stated_is_any : (problem : Problem) (given : Answer) → IsStated problem given → IsAnyAnswer problem given
+stated_is_any problem given (Some plan, first, e) = subst (IsAnyAnswer problem) (sym e) (answer_is_optimum problem plan first, refl)
+stated_is_any problem given (None, never, e) = subst (IsAnyAnswer problem) (sym e) (refl, (none_is_none problem).0 never)
+
+-- and what is stated at the limit costs no more than any valid plan
+pub first_is_any : (problem : Problem) (given : Answer) → IsAnswerOf problem given → IsAnyAnswer problem given
+first_is_any problem given = go problem.nodes refl
+  where
+    go : (o : Option ℕ) → problem.nodes ≡ o → IsAnswerUpTo o problem given → IsAnyAnswer problem given
+    go None at is = stated_is_any problem given is
+    go (Some n) at (inl (m, cut, e)) =
+        subst (IsAnyAnswer problem) (sym e) (at, cut.0.member.plan.within, cut_is_below problem n m cut)
+    go (Some n) at (inr (never, is)) = stated_is_any problem given is
+
+-- so the text of the first solution is that of any optimum
+text_is_any : (map scen : List ℕ) (ask : Ask) (bytes : List ℕ) → IsText map scen ask bytes → IsAnyText map scen ask bytes
+text_is_any map scen ask bytes is = record {
+  bound = is.bound;
+  workers = is.workers;
+  nodes = is.nodes;
   inst = is.inst;
   asked = is.asked;
-  best = inl (plan, answer_is_optimum (problem_of is.inst ask) plan first, is.spelled ∙ ap (text is.inst.grid) e);
+  given = is.given;
+  answer = first_is_any (problem_of is.inst ask) is.given is.answer;
+  spelled = is.spelled;
 }
-stated_is_best map scen ask bytes is (None, never, e) = record {
-  inst = is.inst;
-  asked = is.asked;
-  best = inr ((none_is_none (problem_of is.inst ask)).0 never, is.spelled ∙ ap (text is.inst.grid) e);
-}
+
+-- the text of any optimum, where the search didn't give up, is best
+pub any_text_is_best : (map scen : List ℕ) (ask : Ask) (bytes : List ℕ) → ask.nodes ≡ None → IsAnyText map scen ask bytes → IsBest map scen ask bytes
+any_text_is_best map scen ask bytes unlimited is = record { inst = is.inst; asked = is.asked; best = best is.given is.answer is.spelled }
+  where
+    best : (given : Answer) → IsAnyAnswer (problem_of is.inst ask) given → bytes ≡ text is.inst.grid given →
+        ((plan : List (List ℕ)) × IsOptimum ask.rule is.inst ask.bound plan × (bytes ≡ text is.inst.grid (answer.Plan plan (plan_cost plan))))
+        ⊎ (((plan : List (List ℕ)) → IsValid ask.rule is.inst plan → plan_cost plan ≤ ask.bound → ⊥) × (bytes ≡ text is.inst.grid (answer.None ask.bound)))
+    best (answer.Plan plan cost) given e = inl (plan, given.0, e ∙ ap (λ c. text is.inst.grid (answer.Plan plan c)) given.1)
+    best (answer.None bound) given e = inr (given.1, e ∙ ap (λ b. text is.inst.grid (answer.None b)) given.0)
+    best (answer.GaveUp nodes least) given e = let both : Some nodes ≡ None = sym given.0 ∙ unlimited in cc
+
+-- at a limit it is best, or says that the search gave up
+pub any_text_keeps_limit : (map scen : List ℕ) (ask : Ask) (n : ℕ) (bytes : List ℕ) → ask.nodes ≡ Some n → IsAnyText map scen ask bytes → KeepsAnyLimit map scen ask n bytes
+any_text_keeps_limit map scen ask n bytes limit is = record { inst = is.inst; asked = is.asked; best = best is.given is.answer is.spelled }
+  where
+    best : (given : Answer) → IsAnyAnswer (problem_of is.inst ask) given → bytes ≡ text is.inst.grid given →
+        ((least : ℕ) × (bytes ≡ text is.inst.grid (answer.GaveUp n least)) × ((plan : List (List ℕ)) → IsValid ask.rule is.inst plan → least ≤ plan_cost plan)) ⊎ IsBest map scen ask bytes
+    best (answer.Plan plan cost) given e =
+        inr (record { inst = is.inst; asked = is.asked; best = inl (plan, given.0, e ∙ ap (λ c. text is.inst.grid (answer.Plan plan c)) given.1) })
+    best (answer.None bound) given e =
+        inr (record { inst = is.inst; asked = is.asked; best = inr (given.1, e ∙ ap (λ b. text is.inst.grid (answer.None b)) given.0) })
+    best (answer.GaveUp nodes least) given e =
+        let same : nodes ≡ n = sym (same_Some n nodes (sym limit ∙ given.0)) in
+        inl (least, e ∙ ap (λ k. text is.inst.grid (answer.GaveUp k least)) same, given.2)
 
 -- so the text without a limit is best
 pub text_is_best : (map scen : List ℕ) (ask : Ask) (bytes : List ℕ) → ask.nodes ≡ None → IsText map scen ask bytes → IsBest map scen ask bytes
-text_is_best map scen ask bytes e is = stated_is_best map scen ask bytes is (subst (λ o. IsAnswerUpTo o (problem_of is.inst ask) is.given) e is.answer)
+text_is_best map scen ask bytes e is = any_text_is_best map scen ask bytes e (text_is_any map scen ask bytes is)
 
 -- a stated answer isn't that the search gave up: its text has another first byte
 none_given_up : (inst : Instance) (ask : Ask) (given : Answer) (n least : ℕ) → IsStated (problem_of inst ask) given → text inst.grid given ≢ text inst.grid (answer.GaveUp n least)
@@ -115,18 +147,14 @@ module _ (map scen : List ℕ) (ask : Ask) (n : ℕ) (bytes : List ℕ) (e : ask
   else_is_same never (inr (none, given)) =
       (stated_without map scen ask bytes is given, λ least same. none_given_up is.inst ask is.given n least given (sym is.spelled ∙ same))
 
-  best_up_to : IsAnswerUpTo (Some n) p is.given
-      → ((least : ℕ) × (bytes ≡ text is.inst.grid (answer.GaveUp n least)) × ((plan : List (List ℕ)) → IsValid ask.rule is.inst plan → least ≤ plan_cost plan)) ⊎ IsBest map scen ask bytes
-  best_up_to (inl (m, cut, said)) = inl (plan_cost m.1, is.spelled ∙ ap (text is.inst.grid) said, cut_is_below p n m cut)
-  best_up_to (inr (none, given)) = inr (stated_is_best map scen ask bytes is given)
-
   pub text_keeps_limit : KeepsLimit map scen ask n bytes
+  unfolding any_text_keeps_limit text_is_any
   text_keeps_limit = record {
     inst = is.inst;
     asked = is.asked;
     cut = cut_is_stated;
     same = λ never. else_is_same never limited;
-    best = best_up_to limited;
+    best = (any_text_keeps_limit map scen ask n bytes e (text_is_any map scen ask bytes is)).best;
   }
 
 -- so what is answered is best
@@ -140,3 +168,14 @@ pub answered_keeps_limit : {T : Type 0} {E : Type 0} (bytes : T → List ℕ) (m
     IfOk r (λ t. IsText map scen ask (bytes t)) → IfOk r (λ t. (n : ℕ) → ask.nodes ≡ Some n → KeepsLimit map scen ask n (bytes t))
 answered_keeps_limit bytes map scen ask (Ok t) is = λ n e. text_keeps_limit map scen ask n (bytes t) e is
 answered_keeps_limit bytes map scen ask (Err f) is = tt
+
+-- and so it is of any optimum
+pub any_answered_is_best : {T : Type 0} {E : Type 0} (bytes : T → List ℕ) (map scen : List ℕ) (ask : Ask) (r : Result T E) →
+    IfOk r (λ t. IsAnyText map scen ask (bytes t)) → IfOk r (λ t. ask.nodes ≡ None → IsBest map scen ask (bytes t))
+any_answered_is_best bytes map scen ask (Ok t) is = λ e. any_text_is_best map scen ask (bytes t) e is
+any_answered_is_best bytes map scen ask (Err f) is = tt
+
+pub any_answered_keeps_limit : {T : Type 0} {E : Type 0} (bytes : T → List ℕ) (map scen : List ℕ) (ask : Ask) (r : Result T E) →
+    IfOk r (λ t. IsAnyText map scen ask (bytes t)) → IfOk r (λ t. (n : ℕ) → ask.nodes ≡ Some n → KeepsAnyLimit map scen ask n (bytes t))
+any_answered_keeps_limit bytes map scen ask (Ok t) is = λ n e. any_text_keeps_limit map scen ask n (bytes t) e is
+any_answered_keeps_limit bytes map scen ask (Err f) is = tt

@@ -51,23 +51,29 @@ IsRefusal map scen ask named =
 abbrev pub problem_of : Instance → Ask → Problem
 problem_of inst ask = record { inst = inst; bound = ask.bound; nodes = ask.nodes; rule = ask.rule }
 
--- the text of the answer of conflict-based search: the plan of the constraint tree's first solution, or that it gave up at the
--- limit on nodes
-pub record IsText (map scen : List ℕ) (ask : Ask) (bytes : List ℕ) : Type 0 where
+-- the problem of these files and this ask
+pub record IsProblemOf (map scen : List ℕ) (ask : Ask) (problem : Problem) : Type 0 where
+  pub bound : IsBound ask
+  pub workers : IsWorkers ask
+  pub nodes : IsNodes ask
+  pub asked : IsAsked map scen ask.agents problem.inst
+  pub is : problem ≡ problem_of problem.inst ask
+
+-- the text of an answer to what is asked, by what is said to answer a problem
+pub record IsTextBy (Answers : Problem → Answer → Type 0) (map scen : List ℕ) (ask : Ask) (bytes : List ℕ) : Type 0 where
   pub bound : IsBound ask
   pub workers : IsWorkers ask
   pub nodes : IsNodes ask
   pub inst : Instance
   pub asked : IsAsked map scen ask.agents inst
   pub given : Answer
-  pub answer : IsAnswerOf (problem_of inst ask) given
+  pub answer : Answers (problem_of inst ask) given
   pub spelled : bytes ≡ text inst.grid given
 
--- the text of that answer for this instance
-pub record IsTextFor (inst : Instance) (ask : Ask) (bytes : List ℕ) : Type 0 where
-  pub given : Answer
-  pub answer : IsAnswerOf (problem_of inst ask) given
-  pub spelled : bytes ≡ text inst.grid given
+-- the text of the answer of conflict-based search: the plan of the constraint tree's first solution, or that it gave up at the
+-- limit on nodes
+abbrev pub IsText : (map scen : List ℕ) → Ask → (bytes : List ℕ) → Type 0
+IsText map scen ask bytes = IsTextBy IsAnswerOf map scen ask bytes
 
 -- the text, or the named fault, unless memory ran out
 abbrev pub IsOut : List ℕ → List ℕ → Ask → Result (List ℕ) Refusal → Type 0

@@ -4,7 +4,12 @@ use Rattle.mapf_plan.specs.Files.{File, End, Written, Broken, Refused, Leaves}
 use Rattle.mapf_plan.specs.declared.device.fault.DeviceFault.{DeviceFault}
 use Rattle.mapf_plan.specs.declared.device.fault.DeviceFault.TheVariants as device
 use Rattle.mapf_plan.specs.declared.device.fault.FileName.TheVariants as file
-use Rattle.mapf_solve.specs.Out.{IsText, IsRefusal, IsBest, KeepsLimit, IsOnlyOut, IsWorkers}
+use Rattle.mapf_plan.specs.declared.answer.Answer.{Answer}
+use Rattle.mapf_tree.specs.Problem.{Problem}
+use Rattle.mapf_tree.specs.Answered.{IsAnswerOf}
+use Rattle.mapf_optimum.specs.AnyAnswer.{IsAnyAnswer}
+use Rattle.mapf_solve.specs.Out.{IsTextBy, IsRefusal, IsBest, KeepsLimit, IsOnlyOut, IsWorkers}
+use Rattle.mapf_solve.specs.AnyOut.{KeepsAnyLimit}
 use Rattle.mapf_solve.specs.declared.ask.Ask.{Ask}
 use Rattle.mapf_solve.specs.declared.refusal.Refusal.{Refusal}
 use Rattle.mapf_solve.specs.declared.refusal.Refusal.TheVariants as refusal
@@ -31,11 +36,19 @@ files map scen = record { name = file.Map; bytes = map } ∷ record { name = fil
 abbrev pub OfFiles : Option (List ℕ) → Option (List ℕ) → (List ℕ → List ℕ → Type 0) → Type 0
 OfFiles map scen P = IfSome map (λ m. IfSome scen (P m))
 
--- the writer got the text of the answer, or the files and the ask were refused
-abbrev pub LeavesText : (map scen : Option (List ℕ)) → Ask → (old new : Option (List ℕ)) → Result (Unit {0}) RunFault → Type 0
-LeavesText map scen ask old new result =
-    Leaves (λ done text. OfFiles map scen (λ m s. IsText m s ask text)) (λ named. OfFiles map scen (λ m s. IsRefusal m s ask named))
+-- the writer got the text of an answer, by what is said to answer a problem, or the files and the ask were refused
+abbrev pub LeavesTextBy : (Answers : Problem → Answer → Type 0) → (map scen : Option (List ℕ)) → Ask → (old new : Option (List ℕ)) → Result (Unit {0}) RunFault → Type 0
+LeavesTextBy Answers map scen ask old new result =
+    Leaves (λ done text. OfFiles map scen (λ m s. IsTextBy Answers m s ask text)) (λ named. OfFiles map scen (λ m s. IsRefusal m s ask named))
     old new (end_of result)
+
+-- that of the answer of conflict-based search
+abbrev pub LeavesText : (map scen : Option (List ℕ)) → Ask → (old new : Option (List ℕ)) → Result (Unit {0}) RunFault → Type 0
+LeavesText map scen ask old new result = LeavesTextBy IsAnswerOf map scen ask old new result
+
+-- that of any optimum
+abbrev pub LeavesAnyText : (map scen : Option (List ℕ)) → Ask → (old new : Option (List ℕ)) → Result (Unit {0}) RunFault → Type 0
+LeavesAnyText map scen ask old new result = LeavesTextBy IsAnyAnswer map scen ask old new result
 
 -- that text is that of a plan that has no conflict by the ask's rule and costs least of all such plans, or of `none` where no
 -- such plan costs at most the bound
@@ -47,6 +60,11 @@ LeavesBest map scen ask old new result =
 abbrev pub LeavesLimit : (map scen : Option (List ℕ)) → Ask → ℕ → (old new : Option (List ℕ)) → Result (Unit {0}) RunFault → Type 0
 LeavesLimit map scen ask n old new result =
     Leaves (λ done text. OfFiles map scen (λ m s. KeepsLimit m s ask n text)) (λ named. Unit {0}) old new (end_of result)
+
+-- with a limit of n nodes it is that of any optimum, or that the search gave up
+abbrev pub LeavesAnyLimit : (map scen : Option (List ℕ)) → Ask → ℕ → (old new : Option (List ℕ)) → Result (Unit {0}) RunFault → Type 0
+LeavesAnyLimit map scen ask n old new result =
+    Leaves (λ done text. OfFiles map scen (λ m s. KeepsAnyLimit m s ask n text)) (λ named. Unit {0}) old new (end_of result)
 
 -- with any number of workers from 1 to 64 there is no other text and no other refusal
 abbrev pub LeavesOnly : (map scen : Option (List ℕ)) → Ask → (old new : Option (List ℕ)) → Result (Unit {0}) RunFault → Type 0

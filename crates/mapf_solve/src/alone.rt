@@ -1,11 +1,10 @@
 //! The answer on one thread.
 
 ghost use Rattle.std.specs.Prelude.{◌≡◌, ◌≢◌, ℕ, IfOk, IfErr, Some, None, Ok, Err};
-ghost use Rattle.mapf_solve.specs.Out.{AreNumbers, IsTextFor, IsOut, IsBest, KeepsLimit, IsOnlyOut, IsWorkers};
+ghost use Rattle.mapf_solve.specs.Out.{IsProblemOf, IsOut, IsBest, KeepsLimit, IsOnlyOut, IsWorkers};
 
 use crate::answers::{asked_instance, asked_problem, spell};
 use crate::{Ask, Refusal};
-use mapf_grid::{Instance, NoMemory};
 use mapf_tree::{Problem, solve_alone};
 use std::alloc::Global;
 
@@ -37,21 +36,24 @@ fn text_or_fault_alone(alloc: Global, map: &[u8], scen: &[u8], ask: Ask) -> Resu
     ensures text { IfOk result (λ bytes. IsOut map.now scen.now ask (Ok bytes.items)) }
     ensures fault { IfErr result (λ fault. fault ≢ Refusal.NoMemory → IsOut map.now scen.now ask (Err fault)) }
 {
-    let instance = asked_instance(alloc, map, scen, ask)?;
-    Ok(text_alone(alloc, instance, ask)?)
+    let problem = problem_alone(alloc, map, scen, ask)?;
+    let answer = solve_alone(alloc, &problem)?;
+    Ok(spell(alloc, &problem, &answer)?)
 }
 
-/// The text of the answer for this instance, on this thread.
-fn text_alone(alloc: Global, instance: Instance, ask: Ask) -> Result<Vec<u8>, NoMemory>
-    requires { AreNumbers ask }
-    ensures { IfOk result (λ bytes. IsTextFor instance ask bytes.items) }
+/// The problem that is asked for, or else the first fault, on this thread.
+pub(crate) fn problem_alone(
+    alloc: Global,
+    map: &[u8],
+    scen: &[u8],
+    ask: Ask,
+) -> Result<Problem, Refusal>
+    ensures asked { IfOk result (IsProblemOf map.now scen.now ask) }
+    ensures fault { IfErr result (λ fault. fault ≢ Refusal.NoMemory → IsOut map.now scen.now ask (Err fault)) }
 {
+    let instance = asked_instance(alloc, map, scen, ask)?;
     match Problem::new(alloc, instance, ask.bound as u32) {
-        Ok(whole) => {
-            let problem = asked_problem(whole, ask);
-            let answer = solve_alone(alloc, &problem)?;
-            spell(alloc, &problem, &answer)
-        }
-        Err((_instance, refused)) => Err(refused),
+        Ok(whole) => Ok(asked_problem(whole, ask)),
+        Err((_instance, refused)) => Err(Refusal::from(refused)),
     }
 }

@@ -5,8 +5,8 @@ ghost use Rattle.mapf_grid.specs.Asked.{IsAsked};
 ghost use Rattle.mapf_plan.specs.declared.answer.TheConstants.{MOST_BOUND};
 ghost use Rattle.mapf_plan.specs.Text.{text};
 ghost use Rattle.mapf_tree.specs.Problem.{IsLimit};
-ghost use Rattle.mapf_tree.specs.Answered.{IsAnswerOf};
-ghost use Rattle.mapf_solve.specs.Out.{AreNumbers, IsRefusal, IsTextFor, IsOut, IsBest, KeepsLimit, IsOnlyOut, IsWorkers, problem_of};
+ghost use Rattle.mapf_optimum.specs.AnyAnswer.{IsAnyAnswer};
+ghost use Rattle.mapf_solve.specs.Out.{AreNumbers, IsRefusal, IsProblemOf, IsOut, IsBest, KeepsLimit, IsOnlyOut, IsWorkers, problem_of};
 
 use crate::means::Means;
 use crate::rounds::tables;
@@ -90,27 +90,28 @@ pub(crate) fn text_or_fault<R: Threads + Sync, G: Gate, W: Watch>(
     ensures text { IfOk result (λ bytes. IsOut map.now scen.now ask (Ok bytes.items)) }
     ensures fault { IfErr result (λ fault. fault ≢ Refusal.NoMemory → IsOut map.now scen.now ask (Err fault)) }
 {
-    let instance = asked_instance(means.alloc, map, scen, ask)?;
-    means.workers = ask.workers as usize;
-    Ok(text_of_instance(&means, instance, ask, watch)?)
+    let problem = problem_by_rounds(&mut means, map, scen, ask)?;
+    let goals = problem.instance().agents() as u64;
+    let answer = solve_from(&means, &problem, goals, watch)?;
+    Ok(spell(means.alloc, &problem, &answer)?)
 }
 
-/// The text of the answer for this instance.
-fn text_of_instance<R: Threads + Sync, G: Gate, W: Watch>(
-    means: &Means<'_, R, G, AlwaysGrants>,
-    instance: Instance,
+/// The problem that is asked for, or else the first fault. Its tables are the jobs of a round, and from then on there are as many
+/// workers as the ask has.
+pub(crate) fn problem_by_rounds<R: Threads + Sync, G: Gate>(
+    means: &mut Means<'_, R, G, AlwaysGrants>,
+    map: &[u8],
+    scen: &[u8],
     ask: Ask,
-    watch: &mut W,
-) -> Result<Vec<u8>, NoMemory>
-    requires { AreNumbers ask }
-    ensures { IfOk result (λ bytes. IsTextFor instance ask bytes.items) }
+) -> Result<Problem, Refusal>
+    ensures asked { IfOk result (IsProblemOf map.now scen.now ask) }
+    ensures fault { IfErr result (λ fault. fault ≢ Refusal.NoMemory → IsOut map.now scen.now ask (Err fault)) }
 {
-    let goals = instance.agents() as u64;
+    let instance = asked_instance(means.alloc, map, scen, ask)?;
+    means.workers = ask.workers as usize;
     let tables = tables(means, &instance)?;
     let whole = Problem::with(instance, tables, ask.bound as u32);
-    let problem = asked_problem(whole, ask);
-    let answer = solve_from(means, &problem, goals, watch)?;
-    spell(means.alloc, &problem, &answer)
+    Ok(asked_problem(whole, ask))
 }
 
 /// The instance that is asked for, where the ask's numbers may be; or else the first fault.
@@ -192,7 +193,7 @@ fn with_rule(problem: Problem, rule: Rule) -> Problem
 pub(crate) fn spell(alloc: Global, problem: &Problem, answer: &Answer) -> Result<Vec<u8>, NoMemory>
     requires bound { problem.now.bound ≤ MOST_BOUND }
     requires limit { IsLimit problem.now.nodes }
-    requires answer { IsAnswerOf problem.now answer.now }
+    requires answer { IsAnyAnswer problem.now answer.now }
     ensures { IfOk result (λ bytes. bytes.items ≡ text problem.now.inst.grid answer.now) }
 {
     write(alloc, answer, problem.instance().map())

@@ -3,6 +3,8 @@
 
 mod alone;
 mod answers;
+mod any_answers;
+mod any_runs;
 mod ask;
 pub mod laws;
 mod means;
@@ -18,7 +20,10 @@ mod watch;
 
 pub use alone::answer_alone;
 pub use answers::{answer, answer_watched};
+pub use any_answers::{answer_any, answer_any_alone, answer_any_watched};
+pub use any_runs::{run_any, run_any_watched};
 pub use ask::Ask;
+pub use mapf_optimum::OptimumWatch;
 pub use means::Means;
 pub use pace::{MOST_SESSION_NODES, MOST_WORKER_TURNS, Pace};
 pub use refusal::Refusal;

@@ -6,5 +6,5 @@ mod root;
 mod round;
 mod tables;
 
-pub(crate) use root::root;
+pub(crate) use root::{root, root_paths};
 pub(crate) use tables::tables;

@@ -5,7 +5,8 @@ ghost use Rattle.mapf_tree.specs.LowerBound.{IsBelowAll};
 ghost use Rattle.mapf_solve.specs.Watch.{IsTold};
 
 use crate::sessions::OneProblem;
-use mapf_tree::Search;
+use mapf_optimum::OptimumWatch;
+use mapf_tree::{Problem, Search};
 
 /// Is told how far a search has come, again and again, on the thread that asked for the answer. No answer depends on it.
 pub trait Watch {
@@ -25,6 +26,10 @@ pub struct NoWatch;
 
 impl Watch for NoWatch {
     fn nodes_taken<P: OneProblem>(&mut self, _nodes: u64, _least: u64) {}
+}
+
+impl OptimumWatch for NoWatch {
+    fn nodes_expanded(&mut self, _problem: &Problem, _nodes: u64, _least: u64) {}
 }
 
 /// Tells a watch how far a search has come, unless the tree has no root or memory ran out.

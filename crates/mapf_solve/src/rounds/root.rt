@@ -1,7 +1,7 @@
 //! The root, whose paths are the jobs of a round.
 
 ghost use Rattle.std.specs.Prelude.{◌≡◌, ◌≤◌, Contains, IfOk, MatchOption, None, Some, length, map};
-ghost use Rattle.mapf_tree.specs.Family.{IsRoot};
+ghost use Rattle.mapf_tree.specs.Family.{AreRootPaths, IsRoot};
 ghost use Rattle.mapf_solve.specs.Rounds.{AreOfAgents};
 ghost use Rattle.mapf_board.specs.declared.limits.TheConstants.{MOST_TICKETS};
 
@@ -15,8 +15,7 @@ use mapf_tree::{Node, Problem, root_with};
 use std::alloc::Global;
 use std::thread::Threads;
 
-/// The root of a problem's tree; none exactly where it isn't in the tree. Each agent's own path is a job, and the jobs
-/// are numbered from `first` on.
+/// The root of a problem's tree; none exactly where it isn't in the tree. Its paths are those of [`root_paths`].
 pub(crate) fn root<R: Threads + Sync, G: Gate, S: Supply>(
     means: &Means<'_, R, G, S>,
     problem: &Problem,
@@ -24,12 +23,24 @@ pub(crate) fn root<R: Threads + Sync, G: Gate, S: Supply>(
 ) -> Result<Option<Node>, NoMemory>
     ensures { IfOk result (IsRoot problem.now) }
 {
-    let jobs = path_jobs(means.alloc, problem, first)?;
-    let found = answer_round(means, PathWork::new(means.alloc), jobs)?;
-    match all_of(means.alloc, found)? {
+    match root_paths(means, problem, first)? {
         Some(paths) => root_with(means.alloc, problem, paths),
         None => Ok(None),
     }
+}
+
+/// Each agent's own path without constraints; none where one has none. Each is a job, and the jobs are numbered from `first` on.
+pub(crate) fn root_paths<R: Threads + Sync, G: Gate, S: Supply>(
+    means: &Means<'_, R, G, S>,
+    problem: &Problem,
+    first: u64,
+) -> Result<Option<Vec<Path>>, NoMemory>
+    ensures { IfOk result (λ paths. MatchOption paths (IsRoot problem.now None)
+        (λ paths. AreRootPaths problem.now paths.items)) }
+{
+    let jobs = path_jobs(means.alloc, problem, first)?;
+    let found = answer_round(means, PathWork::new(means.alloc), jobs)?;
+    all_of(means.alloc, found)
 }
 
 /// All of these paths; none where one is missing.
