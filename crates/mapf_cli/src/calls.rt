@@ -10,7 +10,7 @@ use crate::progress_lines::{ProgressLines, say};
 use clap::error::ErrorKind;
 use mapf_check::Verdict;
 use mapf_plan::{Counted, FileName, Sink, write_text};
-use mapf_solve::{RunFault, run, run_watched};
+use mapf_solve::{RunFault, run, run_any, run_any_watched, run_watched};
 use std::alloc::{AllocError, Global};
 use std::fs;
 use std::rt::Files;
@@ -20,8 +20,8 @@ use std::time::Clock;
 /// Does what the words ask for, the program's name being the first, and answers the program's status.
 ///
 /// `mapf solve` prints a plan (status 0), `none` (1) or that it gave up (6) on `out`, and `mapf check` one verdict line:
-/// valid (0), or not valid or no plan given (1). Help and the version go to `out` (0). With `--progress`, `mapf solve` says
-/// on `err` how far the search has come. A refusal is one line on `err`: of the command line, whose text is `clap`'s (2), of
+/// valid (0), or not valid or no plan given (1). With `--any-optimum` the plan is any of those that cost least. Help and the version
+/// go to `out` (0). With `--progress`, `mapf solve` says on `err` how far the search has come. A refusal is one line on `err`: of the command line, whose text is `clap`'s (2), of
 /// bytes and numbers (3), out of memory (4), a file that couldn't be opened or read, or an output that couldn't be written
 /// (5). Faults of `err` itself are ignored.
 pub fn call<R: Files + Threads + Clock + Sync, O: Sink, E: Sink>(
@@ -87,13 +87,21 @@ fn solve_files<R: Files + Threads + Clock + Sync, O: Sink, E: Sink>(
     };
     if solve.progress {
         let mut lines = ProgressLines::new(rt, alloc, err);
-        let ended = run_watched(
-            rt, alloc, &mut map, &mut scen, &mut text, solve.ask, &mut lines,
-        );
+        let ended = if solve.any_optimum {
+            run_any_watched(
+                rt, alloc, &mut map, &mut scen, &mut text, solve.ask, &mut lines,
+            )
+        } else {
+            run_watched(
+                rt, alloc, &mut map, &mut scen, &mut text, solve.ask, &mut lines,
+            )
+        };
         if !matches!(ended, Err(RunFault::Refusal(_))) {
             lines.end();
         }
         ended?;
+    } else if solve.any_optimum {
+        run_any(rt, alloc, &mut map, &mut scen, &mut text, solve.ask)?;
     } else {
         run(rt, alloc, &mut map, &mut scen, &mut text, solve.ask)?;
     }

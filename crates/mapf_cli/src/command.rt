@@ -14,6 +14,8 @@ pub(crate) struct Solve<'a> {
     pub(crate) scen: &'a str,
     /// The numbers.
     pub(crate) ask: Ask,
+    /// Whether any optimum will do.
+    pub(crate) any_optimum: bool,
     /// Whether lines say how far the search has come.
     pub(crate) progress: bool,
 }
@@ -66,6 +68,7 @@ fn solve_of<'a>(matches: &ArgMatches<'a>) -> Option<Solve<'a>> {
             nodes: matches.get_one::<u64>("nodes"),
             rule: rule_of(matches),
         },
+        any_optimum: matches.get_flag("any-optimum"),
         progress: matches.get_flag("progress"),
     })
 }
@@ -115,6 +118,11 @@ fn solve_command<'a>(alloc: Global) -> Result<Command<'a>, AllocError> {
         "How many nodes the search may take before it gives up, 1 to 1000000; no limit without it",
     )
     .required(false))?
+    .arg(flag(
+        alloc,
+        "any-optimum",
+        "Print a plan that costs least, whichever of several: many agents take less time so",
+    ))?
     .arg(flag(
         alloc,
         "progress",

@@ -1,7 +1,8 @@
 //! The lines that say how far a search has come.
 
 use mapf_plan::{Sink, write_whole};
-use mapf_solve::{OneProblem, Watch};
+use mapf_solve::{OneProblem, OptimumWatch, Watch};
+use mapf_tree::Problem;
 use std::alloc::Global;
 use std::time::{Clock, Duration, Instant};
 
@@ -50,6 +51,13 @@ impl<'a, R: Clock, E: Sink> ProgressLines<'a, R, E> {
         }
     }
 
+    fn hear(&mut self, standing: Standing) {
+        self.told = Some(standing);
+        if self.is_due(standing.nodes) {
+            self.write(standing);
+        }
+    }
+
     fn is_due(&self, nodes: u64) -> bool {
         match self.written {
             Some(written) => written < nodes && self.has_passed(Duration::from_secs(SECONDS)),
@@ -78,11 +86,13 @@ impl<'a, R: Clock, E: Sink> ProgressLines<'a, R, E> {
 
 impl<R: Clock, E: Sink> Watch for ProgressLines<'_, R, E> {
     fn nodes_taken<P: OneProblem>(&mut self, nodes: u64, least: u64) {
-        let standing = Standing { nodes, least };
-        self.told = Some(standing);
-        if self.is_due(nodes) {
-            self.write(standing);
-        }
+        self.hear(Standing { nodes, least });
+    }
+}
+
+impl<R: Clock, E: Sink> OptimumWatch for ProgressLines<'_, R, E> {
+    fn nodes_expanded(&mut self, _problem: &Problem, nodes: u64, least: u64) {
+        self.hear(Standing { nodes, least });
     }
 }
 
