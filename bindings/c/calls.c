@@ -22,7 +22,13 @@ static void expect(const char *name, const char *what, int holds)
     }
 }
 
-/* A call's files and numbers. No plan: mapf_solve, else mapf_check. */
+/* What solves where no plan is given: mapf_solve or mapf_solve_any. */
+typedef int32_t solver(const uint8_t *, size_t, const uint8_t *, size_t, uint64_t, uint64_t, uint64_t, uint8_t, uint8_t *, size_t,
+                       uint64_t *);
+
+static solver *solve = mapf_solve;
+
+/* A call's files and numbers. No plan: the solver, else mapf_check. */
 struct call {
     const char *name;
     const char *map, *scen, *plan;
@@ -51,7 +57,7 @@ static int32_t make(const struct call *call, uint8_t *out, size_t room, uint64_t
         memset(out, FENCE, room + FENCE_LENGTH);
     *needed = UINT64_MAX;
     if (plan == NULL)
-        status = mapf_solve(map, map_len, scen, scen_len, call->agents, call->bound, call->nodes, call->no_following, out, room, needed);
+        status = solve(map, map_len, scen, scen_len, call->agents, call->bound, call->nodes, call->no_following, out, room, needed);
     else
         status = mapf_check(map, map_len, scen, scen_len, plan, plan_len, call->agents, call->no_following, out, room, needed);
     for (i = 0; out != NULL && i < FENCE_LENGTH; i++)
@@ -101,7 +107,8 @@ static const char round_it[] = "version 1\n0\tm\t2\t2\t0\t0\t1\t0\t0\n0\tm\t2\t2
                                "0\tm\t2\t2\t1\t1\t0\t1\t0\n0\tm\t2\t2\t0\t1\t0\t0\t0\n";
 static const char swap_it[] = "version 1\n0\tm\t2\t2\t0\t0\t1\t0\t0\n0\tm\t2\t2\t1\t0\t0\t0\t0\n";
 
-static void solves(void)
+/* What both solvers answer alike: one plan alone costs least, or there is none, or the call is refused. */
+static void solves_alike(void)
 {
     static const struct call plan = {"a plan", corridor, one, NULL, 1, 2, 0, 0};
     static const struct call none = {"none", corridor, one, NULL, 1, 1, 0, 0};
@@ -116,9 +123,7 @@ static void solves(void)
     static const struct call turning = {"a ring that turns", ring, round_it, NULL, 4, 4, 0, 0};
     static const struct call still = {"a ring that may not follow", ring, round_it, NULL, 4, 4, 0, 1};
     static const struct call still_too = {"any other byte", ring, round_it, NULL, 4, 4, 0, 200};
-    static const struct call swapped = {"a swap", ring, swap_it, NULL, 2, 4, 0, 0};
-    static const struct call limited = {"a limit of one node", ring, swap_it, NULL, 2, 4, 1, 0};
-    static const struct call within = {"a limit that is kept", ring, swap_it, NULL, 2, 4, 1000000, 0};
+    static const struct call crossed = {"no swap at that cost", ring, swap_it, NULL, 2, 3, 0, 0};
 
     expect_call(&plan, MAPF_OK, "plan 1 2\n0,0 1,0 2,0\n");
     expect_call(&none, MAPF_NONE, "none 1\n");
@@ -133,9 +138,30 @@ static void solves(void)
     expect_call(&turning, MAPF_OK, "plan 4 4\n0,0 1,0\n1,0 1,1\n1,1 0,1\n0,1 0,0\n");
     expect_call(&still, MAPF_NONE, "none 4\n");
     expect_call(&still_too, MAPF_NONE, "none 4\n");
+    expect_call(&crossed, MAPF_NONE, "none 3\n");
+}
+
+static void solves(void)
+{
+    static const struct call swapped = {"a swap", ring, swap_it, NULL, 2, 4, 0, 0};
+    static const struct call limited = {"a limit of one node", ring, swap_it, NULL, 2, 4, 1, 0};
+    static const struct call within = {"a limit that is kept", ring, swap_it, NULL, 2, 4, 1000000, 0};
+
     expect_call(&swapped, MAPF_OK, "plan 2 4\n0,0 0,1 1,1 1,0\n1,0 0,0\n");
     expect_call(&limited, MAPF_GAVE_UP, "gave up 1 3\n");
     expect_call(&within, MAPF_OK, "plan 2 4\n0,0 0,1 1,1 1,0\n1,0 0,0\n");
+}
+
+/* Either plan that costs least: one agent goes round the other. */
+static void solves_any(void)
+{
+    static const struct call swapped = {"any swap", ring, swap_it, NULL, 2, 4, 0, 0};
+    static const char first[] = "plan 2 4\n0,0 0,1 1,1 1,0\n1,0 0,0\n", second[] = "plan 2 4\n0,0 1,0\n1,0 1,1 0,1 0,0\n";
+    uint8_t out[sizeof first + 100 + FENCE_LENGTH];
+    uint64_t needed;
+
+    expect("any swap", "status", make(&swapped, out, sizeof first + 100, &needed) == MAPF_OK);
+    expect_call(&swapped, MAPF_OK, memcmp(out, first, strlen(first)) == 0 ? first : second);
 }
 
 static void checks(void)
@@ -200,7 +226,11 @@ static void version(void)
 
 int main(void)
 {
+    solves_alike();
     solves();
+    solve = mapf_solve_any;
+    solves_alike();
+    solves_any();
     checks();
     long_files();
     version();

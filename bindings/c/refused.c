@@ -35,11 +35,16 @@ static const char map[] = "type octile\nheight 3\nwidth 3\nmap\n...\n...\n...\n"
 static const char scen[] = "version 1\n0\tm\t3\t3\t1\t0\t1\t2\t0\n0\tm\t3\t3\t0\t1\t2\t1\t0\n0\tm\t3\t3\t2\t2\t0\t0\t0\n";
 static const char no_memory[] = "43 no memory\n";
 
+/* Whether any optimum will do. */
+static int any_optimum;
+
 /* The call of this plan, or of the solver at null. */
 static int32_t make(const uint8_t *plan, uint64_t plan_len, uint8_t *out, uint64_t *needed)
 {
     const uint8_t *m = (const uint8_t *)map, *s = (const uint8_t *)scen;
 
+    if (plan == NULL && any_optimum)
+        return mapf_solve_any(m, strlen(map), s, strlen(scen), 3, 20, 0, 0, out, 512, needed);
     if (plan == NULL)
         return mapf_solve(m, strlen(map), s, strlen(scen), 3, 20, 0, 0, out, 512, needed);
     return mapf_check(m, strlen(map), s, strlen(scen), plan, (size_t)plan_len, 3, 0, out, 512, needed);
@@ -76,8 +81,11 @@ int main(void)
 {
     uint8_t plan[512], verdict[512];
     uint64_t plan_len, verdict_len;
+    int differs;
 
     if (make(NULL, 0, plan, &plan_len) != MAPF_OK || make(plan, plan_len, verdict, &verdict_len) != MAPF_OK)
         return 1;
-    return refuse_each("mapf_solve", NULL, 0, plan, plan_len) | refuse_each("mapf_check", plan, plan_len, verdict, verdict_len);
+    differs = refuse_each("mapf_solve", NULL, 0, plan, plan_len) | refuse_each("mapf_check", plan, plan_len, verdict, verdict_len);
+    any_optimum = 1;
+    return make(NULL, 0, plan, &plan_len) != MAPF_OK || refuse_each("mapf_solve_any", NULL, 0, plan, plan_len) || differs;
 }

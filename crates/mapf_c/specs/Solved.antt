@@ -6,7 +6,8 @@ use Rattle.mapf_plan.specs.Text.{text}
 use Rattle.mapf_plan.specs.declared.answer.Answer.{Answer}
 use Rattle.mapf_plan.specs.declared.answer.Answer.TheVariants as answer
 use Rattle.mapf_plan.specs.declared.device.fault.DeviceFault.TheVariants as device
-use Rattle.mapf_solve.specs.Out.{IsText, IsOut, IsBest, KeepsLimit, IsOnlyOut}
+use Rattle.mapf_solve.specs.Out.{IsText, IsRefusal, IsOut, IsBest, KeepsLimit, IsOnlyOut}
+use Rattle.mapf_solve.specs.AnyOut.{IsAnyText, KeepsAnyLimit}
 use Rattle.mapf_solve.specs.Run.{files}
 use Rattle.mapf_solve.specs.declared.ask.Ask.{Ask}
 use Rattle.mapf_solve.specs.declared.refusal.Refusal.TheVariants as refusal
@@ -44,9 +45,30 @@ IsSolveFault map scen ask (fault.Text named) = ⊥
 IsSolveFault map scen ask (fault.Device (device.TooLong name)) = UpTo IsTooLong name (files (Some map) (Some scen))
 IsSolveFault map scen ask (fault.Device other) = ⊥
 
+-- the same where any optimum will do
+pub record IsAnyAnswered (map scen : List ℕ) (ask : Ask) (status : ℕ) (bytes : List ℕ) : Type 0 where
+  pub map_read : IsRead map
+  pub scen_read : IsRead scen
+  pub text : IsAnyText map scen ask bytes
+  pub status_is : status ≡ status_of_answer text.given
+  pub best : ask.nodes ≡ None → IsBest map scen ask bytes
+  pub limit : (n : ℕ) → ask.nodes ≡ Some n → KeepsAnyLimit map scen ask n bytes
+
+abbrev pub IsAnySolveFault : List ℕ → List ℕ → Ask → Fault → Type 0
+IsAnySolveFault map scen ask (fault.Refusal named) = named ≢ refusal.NoMemory → IsRead map × IsRead scen × IsRefusal map scen ask named
+IsAnySolveFault map scen ask (fault.Text named) = ⊥
+IsAnySolveFault map scen ask (fault.Device (device.TooLong name)) = UpTo IsTooLong name (files (Some map) (Some scen))
+IsAnySolveFault map scen ask (fault.Device other) = ⊥
+
 -- the call has left its reply: the answer, or the line of a fault
-pub record Solves (map scen : List ℕ) (ask : Ask) (old new : List ℕ) (needed : ℕ) (result : ℤ) : Type 0 where
+pub record Replies (Answered : ℕ → List ℕ → Type 0) (Faulty : Fault → Type 0) (old new : List ℕ) (needed : ℕ) (result : ℤ) : Type 0 where
   pub status : ℕ
   pub bytes : List ℕ
   pub put : IsPut status bytes old new needed result
-  pub reply : IsAnswered map scen ask status bytes ⊎ ((named : Fault) × IsSolveFault map scen ask named × IsStatusFor named status)
+  pub reply : Answered status bytes ⊎ ((named : Fault) × Faulty named × IsStatusFor named status)
+
+abbrev pub Solves : (map scen : List ℕ) → Ask → (old new : List ℕ) → (needed : ℕ) → (result : ℤ) → Type 0
+Solves map scen ask old new needed result = Replies (IsAnswered map scen ask) (IsSolveFault map scen ask) old new needed result
+
+abbrev pub SolvesAny : (map scen : List ℕ) → Ask → (old new : List ℕ) → (needed : ℕ) → (result : ℤ) → Type 0
+SolvesAny map scen ask old new needed result = Replies (IsAnyAnswered map scen ask) (IsAnySolveFault map scen ask) old new needed result
