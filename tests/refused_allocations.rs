@@ -12,7 +12,7 @@ use mapf_check::Verdict;
 use mapf_cli::{CheckFault, call, check_run};
 use mapf_grid::{NoMemory, instance_of};
 use mapf_plan::{Counted, DeviceFault, Rule};
-use mapf_solve::{Ask, Refusal, answer};
+use mapf_solve::{Ask, Refusal, answer, answer_any};
 use mapf_tree::{ByChild, Node, OpenList, Problem, Progress, Search, Side, child, root};
 use std::alloc::Global;
 use std::rt::Files;
@@ -62,15 +62,24 @@ enum Outcome {
     Wrong,
 }
 
-fn answered<R: Threads + Sync>(rt: &R, alloc: Global, worked: &Worked, workers: u64) -> Outcome {
-    let ask = Ask {
+fn ask_of(worked: &Worked, workers: u64) -> Ask {
+    Ask {
         agents: 2,
         bound: worked.bound,
         workers,
         nodes: None,
         rule: Rule::Classical,
-    };
-    match answer(rt, alloc, worked.map, worked.scen, ask, &NoGate) {
+    }
+}
+
+fn answered<R: Threads + Sync>(rt: &R, alloc: Global, worked: &Worked, workers: u64) -> Outcome {
+    let ask = ask_of(worked, workers);
+    came_to(worked, answer(rt, alloc, worked.map, worked.scen, ask, &NoGate))
+}
+
+/// What an answer came to where one plan alone is right.
+fn came_to(worked: &Worked, given: Result<Vec<u8>, Refusal>) -> Outcome {
+    match given {
         Ok(text) if text.as_slice() == worked.plan => Outcome::Right,
         Err(Refusal::NoMemory) => Outcome::NoMemory,
         _ => Outcome::Wrong,
@@ -339,6 +348,10 @@ fn unprepared<R: Threads + Sync>(rt: &R, alloc: Global, letter: u8) -> Outcome {
         b'c' => answered(rt, alloc, &CROSSING, 1),
         b'd' => answered(rt, alloc, &CROSSING, 2),
         b'e' => judged(alloc, &BAY),
+        b'k' => {
+            let ask = ask_of(&BAY, 2);
+            came_to(&BAY, answer_any(rt, alloc, BAY.map, BAY.scen, ask, &NoGate))
+        }
         _ => closed(alloc),
     }
 }

@@ -1,4 +1,5 @@
 mod answers;
+mod any_optimum;
 mod changed_bytes;
 mod counting;
 mod devices;

@@ -24,6 +24,14 @@ fn what_solve_prints(rt: HostRuntime) -> Result<(), Fail> {
             printed(6, "gave up 5 4\n"),
         ),
         (
+            "--agents 2 --bound 4 --workers 2 --any-optimum",
+            printed(0, "plan 2 4\n1,0 1,1 1,0\n0,0 1,0 2,0\n"),
+        ),
+        (
+            "--agents 2 --bound 3 --workers 1 --any-optimum",
+            printed(1, "none 3\n"),
+        ),
+        (
             "--agents 0 --bound 1000001 --workers 0",
             refused("mapf: 41 bound\n"),
         ),
