@@ -121,7 +121,7 @@ fn solve_command<'a>(alloc: Global) -> Result<Command<'a>, AllocError> {
     .arg(flag(
         alloc,
         "any-optimum",
-        "Print a plan that costs least, whichever of several: many agents take less time so",
+        "Print any plan that costs least, whichever of several: for many agents it is found sooner",
     ))?
     .arg(flag(
         alloc,
