@@ -1,11 +1,11 @@
 //! A plain search of free choice for an optimum, to be timed beside `mapf solve --any-optimum`: docs/BENCHMARK.md.
 //!
-//! Usage: plain_optimum MAP SCEN AGENTS [--bound B] [--no-following] [--statistics]. It prints a plan of least cost, or `none B`,
-//! as `mapf solve` does, and statistics on standard error. Nothing is proved and no fault told; one thread. It expects good files.
+//! Usage: plain_optimum MAP SCEN AGENTS [--bound B] [--no-following] [--statistics]. It prints a plan of least cost, or
+//! `none B`, as `mapf solve` does, and statistics on standard error. Nothing is proved and no fault told; one thread.
 //!
-//! A node has for each agent its demands and a least path that meets them, and a label: no valid plan that meets the demands costs
-//! less. The node of the least label is taken. If its plan has a conflict, it branches in two: by a conflict, or by the lengths of
-//! two paths. One agent of a child has other demands, and its new path is one that meets few others.
+//! A node has for each agent its demands and a least path that meets them, and a label: no valid plan that meets them
+//! costs less. The node of the least label is taken. If its plan has a conflict, it branches in two, by one conflict or
+//! the lengths of two paths. One agent of a child has other demands; its new path is one that meets few others.
 use std::cmp::Reverse;
 use std::collections::{BTreeMap, HashMap};
 use std::rc::Rc;
@@ -13,15 +13,15 @@ use std::time::Instant;
 
 type Cell = u32;
 type Path = Rc<Vec<Cell>>;
+/// What each of two agents would be forbidden.
+type Sides = [Constraint; 2];
 
-/// Stands for any cell, and for no number of steps.
+/// Stands for any cell, for no number of steps and for no cost.
 const NONE: u32 = u32::MAX;
 /// Stands for no agent.
 const NOBODY: u16 = u16::MAX;
 /// How many pairs of cells are looked at until it isn't known whether two agents depend on one another.
 const MOST_STATES: usize = 20000;
-/// What two agents cost more than apart is looked for up to here.
-const MOST_MORE: usize = 30;
 
 /// The agent may not arrive on the cell then from this one, or from any.
 #[derive(Clone, Copy, PartialEq, Eq, Hash, PartialOrd, Ord)]
@@ -31,15 +31,16 @@ struct Constraint {
     from: Cell,
 }
 
-/// Two agents that collide; each valid plan obeys what one of them would be forbidden.
+/// Two agents that collide; each valid plan obeys one of the sides.
 #[derive(Clone, Copy)]
 struct Conflict {
     agents: [usize; 2],
-    sides: [Constraint; 2],
+    sides: Sides,
 }
 
-/// An instance. For each cell the free ones among it and its four sides, none where it is blocked; for each agent the steps from
-/// each cell to its goal, and what its path may cost; whose goal each cell is; whether an agent may follow another.
+/// An instance. For each cell the free ones among it and its four sides, none where it is blocked; for each agent the
+/// steps from each cell to its goal, and what its path may cost; whose goal each cell is; whether one may follow
+/// another.
 struct World {
     width: usize,
     near: Vec<Vec<Cell>>,
@@ -65,10 +66,7 @@ fn read_map(name: &str) -> (usize, Vec<Vec<Cell>>) {
             (cell % width + 1 < width).then_some(cell + 1),
             (cell + width < free.len()).then_some(cell + width),
         ];
-        if !free[cell] {
-            return vec![];
-        }
-        sides.into_iter().flatten().filter(|side| free[*side]).map(|side| side as Cell).collect()
+        sides.into_iter().flatten().filter(|side| free[cell] && free[*side]).map(|side| side as Cell).collect()
     };
     (width, (0..free.len()).map(near).collect())
 }
@@ -124,10 +122,6 @@ struct Marks {
 }
 
 impl Marks {
-    fn clear(&mut self) {
-        self.round += 1;
-    }
-
     fn set(&mut self, cell: Cell, place: usize) {
         self.marks[cell as usize] = (self.round, place as u32);
     }
@@ -166,7 +160,8 @@ fn allow(now: &[Constraint], from: Cell, to: Cell) -> bool {
     now.iter().all(|each| each.to != to || each.from != NONE && each.from != from)
 }
 
-/// For each time step the cells on which an agent is on the paths that meet its demands and cost exactly so much.
+/// For each time step the cells that an agent reaches as it meets its demands, and from which its goal is near enough
+/// for one cost. On each path that meets the demands and costs so much it is on these cells.
 struct Layers {
     cells: Vec<Cell>,
     starts: Vec<usize>,
@@ -193,7 +188,7 @@ impl Layers {
         for time in 1..=cost {
             let now = demands.at(time);
             let begin = reached.cells.len();
-            marks.clear();
+            marks.round += 1;
             for place in reached.starts[time as usize - 1]..begin {
                 let from = reached.cells[place];
                 for &to in &world.near[from as usize] {
@@ -209,32 +204,7 @@ impl Layers {
             }
             reached.starts.push(reached.cells.len());
         }
-        Some(reached.without_dead_ends(world, marks, demands))
-    }
-
-    fn without_dead_ends(&self, world: &World, marks: &mut Marks, demands: &Demands) -> Layers {
-        let mut leads = vec![true; self.cells.len()];
-        for time in (0..self.cost()).rev() {
-            let now = demands.at(time as u32 + 1);
-            marks.clear();
-            for place in self.starts[time + 1]..self.starts[time + 2] {
-                if leads[place] {
-                    marks.set(self.cells[place], place);
-                }
-            }
-            for place in self.starts[time]..self.starts[time + 1] {
-                let from = self.cells[place];
-                let goes = |to: &Cell| marks.get(*to).is_some() && allow(now, from, *to);
-                leads[place] = world.near[from as usize].iter().any(goes);
-            }
-        }
-        let mut kept = Layers { cells: vec![], starts: vec![0] };
-        for time in 0..=self.cost() {
-            let places = (self.starts[time]..self.starts[time + 1]).filter(|place| leads[*place]);
-            kept.cells.extend(places.map(|place| self.cells[place]));
-            kept.starts.push(kept.cells.len());
-        }
-        kept
+        Some(reached)
     }
 }
 
@@ -251,7 +221,7 @@ impl Moves {
         self.places.clear();
         self.starts.push(0);
         let now = demands.at(time as u32 + 1);
-        marks.clear();
+        marks.round += 1;
         for (place, cell) in layers.at(time + 1).iter().enumerate() {
             marks.set(*cell, place);
         }
@@ -269,14 +239,20 @@ impl Moves {
     }
 }
 
-/// Demands by number; of each the least cost of a path that meets them, none if there is no path within the agent's limit, and the
-/// layers of that cost, of one more, and so on, as far as they were asked for.
+/// How the demands of a child's agent differ from its parent's.
+#[derive(Clone, Copy)]
+enum Change {
+    Forbid(Constraint),
+    /// The path costs more than its least.
+    Lengthen,
+}
+
+/// Demands by number, and the layers of their least cost; none if no path within the agent's limit meets them.
 #[derive(Default)]
 struct Known {
     demands: Vec<Demands>,
     numbers: HashMap<Demands, usize>,
-    costs: Vec<Option<u32>>,
-    layers: Vec<Vec<Option<Rc<Layers>>>>,
+    layers: Vec<Option<Layers>>,
 }
 
 impl Known {
@@ -287,54 +263,34 @@ impl Known {
         }
         let last = demands.constraints.last().map_or(0, |each| each.time).max(from);
         let most = world.limits[demands.agent].min(last.saturating_add(world.near.len() as u32));
-        let mut costs = from..=most;
-        let found = costs.find_map(|cost| Layers::of(world, marks, &demands, cost));
-        self.costs.push(found.as_ref().map(|layers| layers.cost() as u32));
-        self.layers.push(vec![found.map(Rc::new)]);
+        self.layers.push((from..=most).find_map(|cost| Layers::of(world, marks, &demands, cost)));
         self.numbers.insert(demands.clone(), self.demands.len());
         self.demands.push(demands);
         self.demands.len() - 1
     }
 
+    fn least(&self, set: usize) -> &Layers {
+        self.layers[set].as_ref().unwrap()
+    }
+
     fn cost(&self, set: usize) -> u32 {
-        self.costs[set].unwrap()
+        self.least(set).cost() as u32
     }
 
-    fn least(&self, set: usize) -> &Rc<Layers> {
-        self.layers[set][0].as_ref().unwrap()
-    }
-
-    /// The layers of so much more than the least cost.
-    fn dearer(&mut self, world: &World, marks: &mut Marks, set: usize, more: usize) -> Option<Rc<Layers>> {
-        while self.layers[set].len() <= more {
-            let cost = self.cost(set) + self.layers[set].len() as u32;
-            let demands = &self.demands[set];
-            let is_within = cost <= world.limits[demands.agent];
-            let found = is_within.then(|| Layers::of(world, marks, demands, cost)).flatten();
-            self.layers[set].push(found.map(Rc::new));
-        }
-        self.layers[set][more].clone()
-    }
-
-    /// Whether each least path that meets the demands does what the constraint forbids, if one of them does.
-    fn must(&self, set: usize, constraint: Constraint) -> bool {
-        let (layers, time) = (self.least(set), constraint.time as usize);
-        layers.at(time).len() == 1 && (constraint.from == NONE || layers.at(time - 1).len() == 1)
-    }
-
-    fn forbid(&mut self, world: &World, marks: &mut Marks, set: usize, constraint: Constraint) -> usize {
+    fn change(&mut self, world: &World, marks: &mut Marks, set: usize, change: Change) -> usize {
         let mut demands = self.demands[set].clone();
-        let place = demands.constraints.binary_search(&constraint).unwrap_err();
-        demands.constraints.insert(place, constraint);
-        let from = self.cost(set) + self.must(set, constraint) as u32;
+        let mut from = self.cost(set);
+        match change {
+            Change::Forbid(constraint) => {
+                let place = demands.constraints.binary_search(&constraint).unwrap_err();
+                demands.constraints.insert(place, constraint);
+            }
+            Change::Lengthen => {
+                from += 1;
+                demands.least = from;
+            }
+        }
         self.number(world, marks, demands, from)
-    }
-
-    /// The demands that the path costs so much more than its least.
-    fn lengthen(&mut self, world: &World, marks: &mut Marks, set: usize, more: u32) -> usize {
-        let least = self.cost(set) + more;
-        let demands = Demands { least, ..self.demands[set].clone() };
-        self.number(world, marks, demands, least)
     }
 }
 
@@ -342,7 +298,7 @@ fn at(path: &[Cell], time: usize) -> Cell {
     path[time.min(path.len() - 1)]
 }
 
-/// The paths of a plan or a part of it: for each time step and cell a chain of the agents that are there, until they have arrived.
+/// The paths of some agents: for each time step and cell a chain of those that are there, until they have arrived.
 struct Table {
     cells: usize,
     first: Vec<u16>,
@@ -405,9 +361,8 @@ impl Table {
         }
     }
 
-    /// Each conflict that an agent which isn't in the table has as it goes from the one cell to the other, but for those on the
-    /// other: whom it meets, and what the two would be forbidden.
-    fn each_between(&self, world: &World, time: usize, from: Cell, to: Cell, mut work: impl FnMut(usize, [Constraint; 2])) {
+    /// Each swapping or following conflict of an agent that isn't in the table, on its way from one cell to another.
+    fn each_between(&self, world: &World, time: usize, from: Cell, to: Cell, mut work: impl FnMut(usize, Sides)) {
         if from == to {
             return;
         }
@@ -446,7 +401,8 @@ impl Table {
                     self.each_between(world, time + 1, from, layers.cells[to], |_, _| met += 1);
                     (met, to)
                 };
-                best[layers.starts[time] + place] = moves.of(place as u32).iter().map(after).min().unwrap();
+                best[layers.starts[time] + place] =
+                    moves.of(place as u32).iter().map(after).min().unwrap_or((u32::MAX / 2, 0));
             }
         }
         let mut place = 0;
@@ -472,17 +428,10 @@ impl Table {
     }
 }
 
-/// Two agents and what they cost more than apart, at least.
-#[derive(Clone, Copy)]
-struct Pair {
-    more: u32,
-    agents: [usize; 2],
-}
-
-/// What pairs cost more, by the numbers of their demands.
+/// Which agents depend on one another, by the numbers of their demands.
 #[derive(Default)]
 struct Pairs {
-    known: HashMap<[usize; 2], u32>,
+    known: HashMap<[usize; 2], bool>,
     moves: [Moves; 2],
     seen: Vec<u32>,
     round: u32,
@@ -490,41 +439,31 @@ struct Pairs {
 }
 
 impl Pairs {
-    /// What two agents cost more than their least, at least; each sharing of what they may cost more is tried.
-    fn more(&mut self, world: &World, marks: &mut Marks, known: &mut Known, sets: [usize; 2]) -> u32 {
-        if let Some(&more) = self.known.get(&sets) {
-            return more;
+    /// Whether it is known that two agents collide on whichever least paths they take that meet their demands.
+    fn depend(&mut self, world: &World, marks: &mut Marks, known: &Known, sets: [usize; 2]) -> bool {
+        if let Some(&depend) = self.known.get(&sets) {
+            return depend;
         }
-        let mut left = MOST_STATES;
-        let mut collide = |more: usize| {
-            (0..=more).all(|first| {
-                let ones = known.dearer(world, marks, sets[0], first);
-                let others = known.dearer(world, marks, sets[1], more - first);
-                let (Some(ones), Some(others)) = (ones, others) else { return true };
-                let demands = sets.map(|set| &known.demands[set]);
-                self.collide(world, marks, demands, [&ones, &others], &mut left)
-            })
-        };
-        let more = (0..MOST_MORE).find(|more| !collide(*more)).unwrap_or(MOST_MORE) as u32;
-        self.known.insert(sets, more);
-        more
+        let depend = self.collide(world, marks, known, sets);
+        self.known.insert(sets, depend);
+        depend
     }
 
-    /// Whether it is known that two agents collide on whichever paths of these layers. All pairs of cells are looked at on which
-    /// they may be without a collision, time step by time step.
-    fn collide(&mut self, world: &World, marks: &mut Marks, demands: [&Demands; 2], layers: [&Layers; 2], left: &mut usize) -> bool {
-        let end = layers[0].cost().max(layers[1].cost());
+    /// All pairs of cells are looked at on which they may be without a collision, time step by time step.
+    fn collide(&mut self, world: &World, marks: &mut Marks, known: &Known, sets: [usize; 2]) -> bool {
+        let layers = sets.map(|set| known.least(set));
+        let mut left = MOST_STATES;
         let mut now = vec![[0, 0]];
-        for time in 0..end {
+        for time in 0..layers[0].cost().max(layers[1].cost()) {
             for side in 0..2 {
-                self.moves[side].fill(world, marks, demands[side], layers[side], time);
+                self.moves[side].fill(world, marks, &known.demands[sets[side]], layers[side], time);
             }
             now = self.apart(world, layers, time, &now);
             self.states += now.len();
-            if now.is_empty() || now.len() > *left {
+            if now.is_empty() || now.len() > left {
                 return now.is_empty();
             }
-            *left -= now.len();
+            left -= now.len();
         }
         false
     }
@@ -557,34 +496,35 @@ impl Pairs {
     }
 }
 
-/// What disjoint pairs cost more, the dearest first; of these pairs without one agent's.
-fn disjoint(pairs: &[Pair], without: Option<usize>) -> u32 {
-    let mut used: Vec<usize> = without.into_iter().collect();
-    let mut sum = 0;
-    for pair in pairs.iter().take_while(|pair| pair.more > 0) {
-        if pair.agents.iter().all(|agent| !used.contains(agent)) {
-            used.extend(pair.agents);
-            sum += pair.more;
+/// How many of these pairs are disjoint, as they come, without those of the used agents.
+fn disjoint(pairs: &[[usize; 2]], mut used: Vec<usize>) -> u32 {
+    let mut count = 0;
+    for pair in pairs {
+        if pair.iter().all(|agent| !used.contains(agent)) {
+            used.extend(pair);
+            count += 1;
         }
     }
-    sum
+    count
 }
 
-/// A node: of each agent its demands, by number, and a least path that meets them; what they cost; the label; all conflicts; the
-/// pairs that have one, by what they cost more.
+/// A node: of each agent its demands, by number, and a least path that meets them; what they cost; the label; all
+/// conflicts; how many pairs have one, and those of them that depend on one another.
+#[derive(Default)]
 struct Node {
     sets: Vec<usize>,
     paths: Vec<Path>,
     cost: u32,
     label: u32,
     conflicts: Vec<Conflict>,
-    pairs: Vec<Pair>,
+    colliding: usize,
+    dependent: Vec<[usize; 2]>,
 }
 
-/// A node that waits, or a child to be made of its parent when it is taken: this agent has these demands.
+/// A node that waits, or a child that is made of its parent when it is taken: the agent's demands change.
 enum Waiting {
     Node(Rc<Node>),
-    Child(Rc<Node>, usize, usize),
+    Child(Rc<Node>, usize, Change),
 }
 
 struct Search {
@@ -597,7 +537,6 @@ struct Search {
     waiting: BTreeMap<(u32, usize, usize), Waiting>,
     bound: u32,
     entered: usize,
-    made: usize,
     expanded: usize,
 }
 
@@ -613,7 +552,6 @@ impl Search {
             waiting: BTreeMap::new(),
             bound,
             entered: 0,
-            made: 0,
             expanded: 0,
         }
     }
@@ -630,118 +568,101 @@ impl Search {
 
     /// The node gets its pairs, and its label rises by what they say.
     fn label(&mut self, node: &mut Node) {
-        
-
-        let mut agents: Vec<[usize; 2]> = node.conflicts.iter().map(|conflict| conflict.agents).collect();
-        agents.iter_mut().for_each(|pair| pair.sort());
-        agents.sort();
-        agents.dedup();
-        let Search { world, marks, known, pairs, .. } = self;
-        let pair = |agents: [usize; 2]| {
-            let more = pairs.more(world, marks, known, agents.map(|agent| node.sets[agent]));
-            Pair { more, agents }
-        };
-        node.pairs = agents.into_iter().map(pair).collect();
-        node.pairs.sort_by_key(|pair| Reverse(pair.more));
-        node.label = node.label.max(node.cost + disjoint(&node.pairs, None));
-        self.made += 1;
+        let mut pairs: Vec<[usize; 2]> = node.conflicts.iter().map(|conflict| conflict.agents).collect();
+        pairs.iter_mut().for_each(|pair| pair.sort());
+        pairs.sort();
+        pairs.dedup();
+        node.colliding = pairs.len();
+        let sets = |pair: &[usize; 2]| pair.map(|agent| node.sets[agent]);
+        pairs.retain(|pair| self.pairs.depend(&self.world, &mut self.marks, &self.known, sets(pair)));
+        node.dependent = pairs;
+        node.label = node.label.max(node.cost + disjoint(&node.dependent, vec![]));
     }
 
     /// None if an agent has no path within the bound.
     fn root(&mut self) -> Option<Node> {
         let agents = self.world.starts.len();
-        let paths = vec![Rc::new(vec![]); agents];
-        let mut root = Node { sets: vec![], paths, cost: 0, label: 0, conflicts: vec![], pairs: vec![] };
+        let mut root = Node { paths: vec![Rc::default(); agents], ..Node::default() };
         for agent in 0..agents {
             let least = self.world.steps[agent][self.world.starts[agent] as usize];
             let demands = Demands { agent, least: 0, constraints: vec![] };
             root.sets.push(self.known.number(&self.world, &mut self.marks, demands, least));
-            root.cost += self.known.costs[agent]?;
+            root.cost += self.known.layers[agent].as_ref()?.cost() as u32;
             self.add_path(&mut root, agent);
         }
         self.label(&mut root);
         Some(root)
     }
 
-    fn child(&mut self, parent: &Node, agent: usize, set: usize, label: u32) -> Node {
-        let cost = parent.cost - self.known.cost(parent.sets[agent]) + self.known.cost(set);
+    /// None if the agent has no path.
+    fn child(&mut self, parent: &Node, agent: usize, change: Change, label: u32) -> Option<Node> {
+        let old = parent.sets[agent];
+        let set = self.known.change(&self.world, &mut self.marks, old, change);
+        let cost = parent.cost - self.known.cost(old) + self.known.layers[set].as_ref()?.cost() as u32;
         let conflicts = parent.conflicts.iter().filter(|each| !each.agents.contains(&agent)).copied().collect();
         let (sets, paths) = (parent.sets.clone(), parent.paths.clone());
-        let mut node = Node { sets, paths, cost, label, conflicts, pairs: vec![] };
+        let mut node = Node { sets, paths, cost, label, conflicts, ..Node::default() };
         node.sets[agent] = set;
         self.table.show(&node.paths);
         self.table.take(agent);
         self.add_path(&mut node, agent);
         self.label(&mut node);
-        node
+        Some(node)
     }
 
-    /// What the side of a conflict costs more. Only where each least path is forbidden it is worked out.
+    /// What a side of a conflict costs more, at least. An agent that had arrived would have to arrive later.
     fn rise(&mut self, set: usize, side: Constraint) -> u32 {
-        if !self.known.must(set, side) {
-            return 0;
+        let cost = self.known.cost(set);
+        if side.from == NONE && cost <= side.time {
+            return side.time + 1 - cost;
         }
-        let child = self.known.forbid(&self.world, &mut self.marks, set, side);
-        self.known.costs[child].map_or(NONE, |cost| cost - self.known.cost(set))
+        let child = self.known.change(&self.world, &mut self.marks, set, Change::Forbid(side));
+        self.known.layers[child].as_ref().map_or(NONE, |layers| layers.cost() as u32 - cost)
     }
 
-    /// The two children of a node: each an agent and its demands. A conflict whose two sides cost more goes before the dearest
-    /// pair, by lengths; that goes before any other conflict.
-    fn split(&mut self, node: &Node) -> [(usize, usize); 2] {
-        let mut best = ((0, 0, Reverse(NONE)), node.conflicts[0]);
-        for &conflict in &node.conflicts {
+    /// Of each child its agent, how the demands change, and what that costs more, at least. A conflict whose two sides
+    /// cost more goes before the lengths of two agents that depend on one another; these go before other conflicts.
+    fn split(&mut self, node: &Node) -> [(usize, Change, u32); 2] {
+        let mut rank = |conflict: &Conflict| {
             let rises = [0, 1].map(|side| self.rise(node.sets[conflict.agents[side]], conflict.sides[side]));
-            let rank = (rises[0].min(rises[1]), rises[0].max(rises[1]), Reverse(conflict.sides[0].time));
-            if rank > best.0 {
-                best = (rank, conflict);
-            }
+            let more = [rises[0].min(rises[1]), rises[0].max(rises[1])];
+            (more, Reverse(conflict.sides[0].time), rises)
+        };
+        let ranked = node.conflicts.iter().map(|conflict| (rank(conflict), conflict));
+        let ((more, _, rises), conflict) = ranked.max_by_key(|each| each.0).unwrap();
+        if let Some(pair) = node.dependent.first().filter(|_| more[0] == 0) {
+            return pair.map(|agent| (agent, Change::Lengthen, 1));
         }
-        let Search { world, marks, known, .. } = self;
-        let Pair { more, agents } = node.pairs[0];
-        if best.0 .0 == 0 && more > 0 {
-            return [0, 1].map(|side| {
-                let agent = agents[side];
-                (agent, known.lengthen(world, marks, node.sets[agent], [1, more][side]))
-            });
-        }
-        [0, 1].map(|side| {
-            let agent = best.1.agents[side];
-            (agent, known.forbid(world, marks, node.sets[agent], best.1.sides[side]))
-        })
+        [0, 1].map(|side| (conflict.agents[side], Change::Forbid(conflict.sides[side]), rises[side]))
     }
 
-    fn enter(&mut self, label: u32, pairs: usize, waiting: Waiting) {
+    fn enter(&mut self, label: u32, colliding: usize, waiting: Waiting) {
         if label <= self.bound {
             self.entered += 1;
-            self.waiting.insert((label, pairs, self.entered), waiting);
+            self.waiting.insert((label, colliding, self.entered), waiting);
         }
-    }
-
-    fn enter_node(&mut self, node: Node) {
-        self.enter(node.label, node.pairs.len(), Waiting::Node(Rc::new(node)));
     }
 
     fn expand(&mut self, node: Rc<Node>) {
         self.expanded += 1;
-        for (agent, set) in self.split(&node) {
-            let Some(cost) = self.known.costs[set] else { continue };
-            let cost = node.cost - self.known.cost(node.sets[agent]) + cost;
-            let label = node.label.max(cost + disjoint(&node.pairs, Some(agent)));
-            self.enter(label, node.pairs.len(), Waiting::Child(node.clone(), agent, set));
+        for (agent, change, more) in self.split(&node) {
+            let cost = node.cost.saturating_add(more);
+            let label = node.label.max(cost.saturating_add(disjoint(&node.dependent, vec![agent])));
+            self.enter(label, node.colliding, Waiting::Child(node.clone(), agent, change));
         }
     }
 
     /// A node whose plan has no conflict, and costs least.
     fn optimum(&mut self) -> Option<Rc<Node>> {
         let root = self.root()?;
-        self.enter_node(root);
+        self.enter(root.label, root.colliding, Waiting::Node(Rc::new(root)));
         while let Some(((label, _, _), waiting)) = self.waiting.pop_first() {
             match waiting {
                 Waiting::Node(node) if node.conflicts.is_empty() => return Some(node),
                 Waiting::Node(node) => self.expand(node),
-                Waiting::Child(parent, agent, set) => {
-                    let node = self.child(&parent, agent, set, label);
-                    self.enter_node(node);
+                Waiting::Child(parent, agent, change) => {
+                    let Some(node) = self.child(&parent, agent, change, label) else { continue };
+                    self.enter(node.label, node.colliding, Waiting::Node(Rc::new(node)));
                 }
             }
         }
@@ -771,8 +692,8 @@ fn main() {
         None => println!("none {bound}"),
     }
     if place("--statistics").is_some() {
-        let Search { expanded, made, known, pairs, .. } = &search;
-        let (micros, sets, states) = (begin.elapsed().as_micros(), known.demands.len(), pairs.states);
-        eprintln!("micros={micros} expanded={expanded} made={made} sets={sets} pairs={} states={states}", pairs.known.len());
+        let (micros, expanded, sets) = (begin.elapsed().as_micros(), search.expanded, search.known.demands.len());
+        let (pairs, states) = (search.pairs.known.len(), search.pairs.states);
+        eprintln!("micros={micros} expanded={expanded} sets={sets} pairs={pairs} states={states}");
     }
 }
