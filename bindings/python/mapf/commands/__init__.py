@@ -7,10 +7,10 @@ import sys
 from typing import List, Optional
 
 from ..faults import BackendFailure, Fault, NotBuilt
-from . import check, convert, series
+from . import check, convert, score, series
 from .status import status_of
 
-COMMANDS = (convert, check, series)
+COMMANDS = (convert, check, score, series)
 
 
 def main(words: Optional[List[str]] = None) -> int:
