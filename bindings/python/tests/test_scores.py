@@ -1,4 +1,4 @@
-"""`python3 -m mapf score`, and the names by which its rows, those of `check` and those of `series` are put side by side."""
+"""`python3 -m mapf score`, and the names by which rows of `check` and of `series` are put side by side."""
 import csv
 import io
 import json
@@ -81,7 +81,8 @@ class Scores(unittest.TestCase):
                 self.plans(one={"bay_2": text})
                 status, rows, totals = self.rows()
                 row = rows["one", "bay.scen"]
-                self.assertEqual((row["verdict"], row["stated"], row["found"], row["ratio"]), (line, stated, found, None))
+                said = tuple(row[name] for name in ("verdict", "stated", "found", "ratio"))
+                self.assertEqual(said, (line, stated, found, None))
                 self.assertEqual((status, row["wrong_claim"], totals[0]["wrong_claims"]), (wrong, wrong, wrong))
 
     def test_what_is_refused_is_no_claim(self):
@@ -95,7 +96,8 @@ class Scores(unittest.TestCase):
         self.bounds([("bay.map", "bay.scen", 2, "gave_up", "", 5)])
         self.plans(one={"bay_2": OPTIMUM})
         status, rows, _ = self.rows()
-        self.assertEqual((status, rows["one", "bay.scen"]["message"]), (1, "the series' bound is above this valid plan"))
+        message = "the series' bound is above this valid plan"
+        self.assertEqual((status, rows["one", "bay.scen"]["message"]), (1, message))
 
     def test_no_following(self):
         self.bounds([("bay.map", "bay.scen", 2, "solved", 7, "")], "no_following")
@@ -123,7 +125,8 @@ class Scores(unittest.TestCase):
         self.plans(best={"bay_2": OPTIMUM}, late={"bay_2": LATE})
         status, out, _ = self.score("--csv")
         rows = list(csv.DictReader(io.StringIO(out)))
-        self.assertEqual((status, [row["planner"] for row in rows]), (0, ["best", "best", "late", "late", "best", "late"]))
+        planners = ["best", "best", "late", "late", "best", "late"]
+        self.assertEqual((status, [row["planner"] for row in rows]), (0, planners))
         self.assertEqual([row["mean_ratio"] for row in rows], ["", "", "", "", "1.0", "1.5"])
         status, out, _ = self.score()
         self.assertIn("| late | bay.map | bay.scen | 2 | valid 6 | 6 | 6 | 4 |  | 1.5 | 0 |\n", out)
@@ -132,7 +135,8 @@ class Scores(unittest.TestCase):
     def test_files_that_do_not_fit(self):
         cases = (
             ("one/bay.plan", OPTIMUM, "no plan by its name"), ("one/lost-2.plan", OPTIMUM, "no scenario for a plan"),
-            ("one/again/bay-2.plan", OPTIMUM, "two plans of one instance"), ("../rows.csv", "mine\n", "no head at line 1"))
+            ("one/again/bay-2.plan", OPTIMUM, "two plans of one instance"),
+            ("../rows.csv", "mine\n", "no head at line 1"))
         for name, text, said in cases:
             with self.subTest(name):
                 self.plans(one={"bay_2": OPTIMUM})

@@ -29,7 +29,7 @@ def add(commands: Any) -> None:
     parser = commands.add_parser("score", help="score planners", description=ABOUT)
     parser.add_argument("--maps", required=True, metavar="DIR", help="the folder of maps, or a map")
     parser.add_argument("--scens", required=True, nargs="+", metavar="DIR", help="folders of scenarios, or scenarios")
-    parser.add_argument("--plans", required=True, metavar="DIR", help="a folder for each planner: SCENARIO-AGENTS.FORMAT")
+    parser.add_argument("--plans", required=True, metavar="DIR", help="folders of planners: SCENARIO-AGENTS.FORMAT")
     parser.add_argument("--bounds", required=True, metavar="CSV", help="a series, which has optima and lower bounds")
     parser.add_argument("--suffix", help="how plans end, besides a dot and the format's name")
     parser.add_argument("--from", dest="source", choices=FORMATS, default="plan", help="the format of those (plan)")
