@@ -6,12 +6,9 @@ import resource
 import subprocess
 import time
 
-from series_support import FIRST_HEAD, HEAD, WithStandIn, rows_of
+from series_support import FIRST_HEAD, HEAD, Folder, WithStandIn, rows_of
 from support import EXAMPLES, command, process, scen_of, with_program, written
 
-from mapf._program import program_path
-
-PROGRAM = program_path()
 ASK = "10,1000000,,,following,7.8.9,"
 ROW = "wide.map,a.scen,5,solved,50,,,0.100\n"
 
@@ -204,18 +201,17 @@ class Options(WithStandIn):
         status, out, _ = command("series", "--csv", self.csv, "--rates")
         self.assertEqual((status, out.splitlines()[2:]), (0, ["| wide.map | 4 | 100 % | 100 % of 3 | 0 % of 3 |"]))
 
+    def test_the_limit_on_memory_is_the_one_that_was_asked_for(self):
+        self.program(f'ulimit -v >>"{self.folder}/limits"')
+        self.assertEqual(command(*self.words("--to", 5, "--memory", 500)), (0, "", ""))
+        self.assertEqual(self.contents("limits").split(), [b"512000"] * 3)
+
 
 @with_program
-class Memory(WithStandIn):
+class Memory(Folder):
     def test_a_limit_on_memory(self):
-        os.environ["MAPF_PROGRAM"] = PROGRAM
         scen = os.path.join(EXAMPLES, "grid-32-32.scen")
         words = ("series", "--maps", EXAMPLES, "--scens", scen, "--from", 40, "--to", 40, "--seconds", 60)
         self.assertEqual(command(*words, "--memory", 32, "--csv", self.csv), (0, "", ""))
         (row,) = rows_of(self.csv)
         self.assertEqual(row[:5], ["grid-32-32.map", "grid-32-32.scen", "40", "out_of_memory", ""])
-
-    def test_the_limit_is_the_one_that_was_asked_for(self):
-        self.program(f'ulimit -v >>"{self.folder}/limits"')
-        self.assertEqual(command(*self.words("--to", 5, "--memory", 500)), (0, "", ""))
-        self.assertEqual(self.contents("limits").split(), [b"512000"] * 3)

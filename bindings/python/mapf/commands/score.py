@@ -8,7 +8,6 @@ from concurrent.futures import ThreadPoolExecutor
 from typing import Any, Dict, Iterator, List, Optional, Sequence
 
 from .. import calls
-from .._backend import Backend, chosen
 from ..converters import FORMATS
 from ..faults import Fault, PlanFault
 from ..scores.bounds import Bound, bounds_of
@@ -48,11 +47,10 @@ def run(asked: argparse.Namespace) -> int:
     scenarios = {scenario.name: scenario for scenario in scenarios_in(asked.maps, asked.scens)}
     bounds = bounds_of(asked.bounds, "no_following" if asked.no_following else "following")
     planners = planners_in(asked.plans, suffixes_of(asked.source, asked.suffix))
-    backend = chosen()
 
     def judge(task: Score) -> Score:
         plan = planners[task.planner].get((task.scenario, task.agents))
-        return _score(backend, plan, scenarios[task.scenario], asked.no_following, task)
+        return _score(plan, scenarios[task.scenario], asked.no_following, task)
 
     with ThreadPoolExecutor(asked.jobs) as threads:
         scores = list(threads.map(judge, list(_tasks(planners, scenarios, bounds))))
@@ -73,14 +71,14 @@ def _tasks(planners: Planners, scenarios: Dict[str, Scenario], bounds: Dict[Key,
         yield from (missing(planner, key, bounds.get(key, Bound())) for key in sorted(keys))
 
 
-def _score(backend: Backend, plan: Optional[PlanFile], scenario: Scenario, no_following: bool, task: Score) -> Score:
+def _score(plan: Optional[PlanFile], scenario: Scenario, no_following: bool, task: Score) -> Score:
     """The task with the verdict on this plan, where there is one."""
     if plan is None:
         return task
     task = task._replace(plan=plan.path)
     try:
         text, given = text_of(plan.source, Job(plan.path, scenario.map_path, scenario.path, task.agents))
-        verdict = calls.check_by(backend, scenario.map_path, scenario.path, given, task.agents, no_following)
+        verdict = calls.check(scenario.map_path, scenario.path, given, task.agents, no_following)
     except Fault as fault:
         return task._replace(verdict=fault.text, message=str(fault))
     return judged(task, text, verdict)
