@@ -107,9 +107,16 @@ def series_of(text: str, path: str) -> Series:
     return Series(asked, list(rows.values()))
 
 
+def _fields(line: str) -> List[str]:
+    try:
+        return next(csv.reader([line]), [])
+    except csv.Error:
+        return []
+
+
 def _names(line: str, path: str) -> List[str]:
     """The columns of the ask."""
-    fields = next(csv.reader([line]), [])
+    fields = _fields(line)
     names = fields[: -len(Row._fields)]
     if tuple(fields[len(names):]) != Row._fields or len(set(names)) != len(names) or not set(names) <= set(COLUMNS):
         raise Fault(None, "no head at line 1", path, shown(line), line_of([*COLUMNS, *Row._fields]).strip())
@@ -118,7 +125,7 @@ def _names(line: str, path: str) -> List[str]:
 
 def _row(line: str, asked: int, path: str, number: int) -> Tuple[List[str], Row]:
     """What a line says of the ask, in so many fields, and of its run."""
-    fields = next(csv.reader([line]), [])
+    fields = _fields(line)
     if len(fields) == asked + len(Row._fields):
         map_name, scenario, agents, status, *counts, seconds = fields[asked:]
         if NUMBER.fullmatch(agents) and status in STATUSES and SECONDS.fullmatch(seconds):

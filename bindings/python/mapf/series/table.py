@@ -23,16 +23,11 @@ class Table:
         self.rows: List[Row] = []
         self._asked = asked
         self._lock = threading.Lock()
-        self._file = _locked(path, "xb" if again is None else "ab")
-        if again is not None:
-            self.rows = [row for row in _known(path, asked) if row.status not in AGAIN or row.key not in again]
-        contents = _bytes_of(asked, self.rows)
-        with open(path, "rb") as file:
-            whole = file.read() == contents
-        if not whole:
-            _replace(path, contents)
-            with self._file:
-                self._file = _locked(path, "ab")
+        with _locked(path, "xb" if again is None else "ab"):
+            if again is not None:
+                self.rows = [row for row in _known(path, asked) if row.status not in AGAIN or row.key not in again]
+            _replace(path, _bytes_of(asked, self.rows))
+            self._file = _locked(path, "ab")
 
     def add(self, row: Row) -> None:
         """Adds a row, or nothing where there is no room."""
