@@ -5,6 +5,7 @@ import re
 import subprocess
 import threading
 import time
+from contextlib import suppress
 from typing import Dict, List, NamedTuple, Optional, Set, Tuple
 
 from .._program import Program
@@ -56,7 +57,8 @@ class Runner:
         with self._lock:
             self.stopped = True
             for process in self._running:
-                process.kill()
+                with suppress(ProcessLookupError):
+                    process.kill()
 
     def _words(self, scenario: Scenario, agents: int) -> List[str]:
         words = [self._program.path, "solve", f"--map={scenario.map_path}", f"--scen={scenario.path}", "--agents", str(agents)]
