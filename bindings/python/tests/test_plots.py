@@ -45,7 +45,7 @@ class Plots(Folder):
 
     def test_rates(self):
         picture, (rates, _) = self.drawn(self.series("fast.csv", FAST), self.series("slow.csv", SLOW))
-        for words in ("wide.map, 3 scenarios", "agents", "solved, in a hundred", "5", "10", "15"):
+        for words in ("wide.map, 3 scenarios", "agents", "solved (%)", "5", "10", "15"):
             self.assertIn(words, self.texts(rates))
         for words in ("fast, limit 10 s", "slow, limit 10 s"):
             self.assertIn(words, self.texts(picture))

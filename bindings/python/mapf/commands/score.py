@@ -5,6 +5,7 @@ import argparse
 import os
 import sys
 from concurrent.futures import ThreadPoolExecutor
+from itertools import chain
 from typing import Any, Dict, Iterator, List, Optional, Sequence
 
 from .. import calls
@@ -53,22 +54,25 @@ def run(asked: argparse.Namespace) -> int:
         return _score(plan, scenarios[task.scenario], asked.no_following, task)
 
     with ThreadPoolExecutor(asked.jobs) as threads:
-        scores = list(threads.map(judge, list(_tasks(planners, scenarios, bounds))))
+        scores = list(threads.map(judge, _tasks(planners, scenarios, bounds)))
     totals = [total(planner, [score for score in scores if score.planner == planner]) for planner in sorted(planners)]
     _write(asked.out, scores, totals)
     return 1 if any(score.wrong_claim or score.message for score in scores) else 0
 
 
-def _tasks(planners: Planners, scenarios: Dict[str, Scenario], bounds: Dict[Key, Bound]) -> Iterator[Score]:
+def _tasks(planners: Planners, scenarios: Dict[str, Scenario], bounds: Dict[Key, Bound]) -> List[Score]:
     """For each planner each instance that the series or a planner has, without a verdict."""
     keys = {key for key in bounds if key[1] in scenarios and scenarios[key[1]].map_name == key[0]}
-    for plans in planners.values():
-        for (name, agents), plan in plans.items():
-            if name not in scenarios:
-                raise PlanFault(None, "no scenario for a plan", plan.path, name, "the name of a scenario of --scens")
-            keys.add((scenarios[name].map_name, name, agents))
-    for planner in sorted(planners):
-        yield from (missing(planner, key, bounds.get(key, Bound())) for key in sorted(keys))
+    keys.update(_keys(planners, scenarios))
+    return [missing(planner, key, bounds.get(key, Bound())) for planner in sorted(planners) for key in sorted(keys)]
+
+
+def _keys(planners: Planners, scenarios: Dict[str, Scenario]) -> Iterator[Key]:
+    """The instances of all plans."""
+    for (name, agents), plan in chain.from_iterable(plans.items() for plans in planners.values()):
+        if name not in scenarios:
+            raise PlanFault(None, "no scenario for a plan", plan.path, name, "the name of a scenario of --scens")
+        yield scenarios[name].map_name, name, agents
 
 
 def _score(plan: Optional[PlanFile], scenario: Scenario, no_following: bool, task: Score) -> Score:

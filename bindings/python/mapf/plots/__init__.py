@@ -79,5 +79,5 @@ def _panels(name: str, by_solver: Dict[int, Dict[int, List[float]]]) -> Tuple[Pa
     across = axes.counts([point.agents for points in rates.values() for point in points])
     taken = [point.value for points in seconds.values() for point in points] or [1.0]
     return (
-        Panel(title, "solved, in a hundred", across, axes.percents(), rates),
+        Panel(title, "solved (%)", across, axes.percents(), rates),
         Panel(title, "seconds (median)", across, axes.decades(taken), seconds))

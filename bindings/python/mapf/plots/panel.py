@@ -22,15 +22,19 @@ class Panel(NamedTuple):
     upright: Axis
     points: Dict[int, List[Point]]
 
-    def draw(self, x: float, y: float) -> str:
+    def draw(self, left: float, top: float) -> str:
         """The panel with its upper left there."""
         parts = [*self._frame(), *self._agents(), *self._values()]
         for solver, points in self.points.items():
-            places = [(self._x(point.agents), self._y(point.value)) for point in points]
-            parts.append(curve(places, places, [point.title for point in points], style_of(solver)))
-            noted = [(place, point.note) for place, point in zip(places, points) if point.note]
-            parts += [text(x + 4, y - 7, note, font_size=9) for (x, y), note in noted]
-        return element("g", "\n".join(["", *parts, ""]), transform=f"translate({x:.1f} {y:.1f})")
+            parts += self._curve(solver, points)
+        return element("g", "\n".join(["", *parts, ""]), transform=f"translate({left:.1f} {top:.1f})")
+
+    def _curve(self, solver: int, points: List[Point]) -> List[str]:
+        """The curve, and the notes beside its marks."""
+        places = [(self._x(point.agents), self._y(point.value)) for point in points]
+        notes = [(place, point.note) for place, point in zip(places, points) if point.note]
+        line_and_marks = curve(places, places, [point.title for point in points], style_of(solver))
+        return [line_and_marks, *(text(x + 4, y - 7, note, font_size=9) for (x, y), note in notes)]
 
     def _x(self, value: float) -> float:
         return LEFT + INSET + self.across.place(value) * (WIDTH - LEFT - RIGHT - 2 * INSET)
