@@ -23,6 +23,16 @@ class Asked(WithStandIn):
         self.assertEqual({tuple(row[:6]) for row in rows[1:]}, {("20.5", "700", "9", "500", "no_following", "7.8.9")})
         self.assertEqual(len(rows), 10)
 
+    def test_listed_commands_ask_the_same(self):
+        limits = ("--seconds", 20.5, "--bound", 700, "--nodes", 9, "--memory", 500, "--no-following", "--to", 5)
+        _, out, _ = command(*self.words(*limits, "--list"))
+        for line in out.splitlines():
+            subprocess.run(["sh", "-c", line], check=True)
+        self.assertEqual(command("series", "--csv", self.csv, "--join", self.csv + ".parts"), (0, "", ""))
+        runs = self.runs()
+        self.assertEqual(command(*self.words(*limits, "--resume")), (0, "", ""))
+        self.assertEqual((len(rows_of(self.csv)), self.runs() - runs), (3, 0))
+
     def test_another_ask_is_refused_by_name(self):
         command(*self.words("--to", 5))
         before = self.contents()
