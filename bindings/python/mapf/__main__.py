@@ -1,10 +1,16 @@
-"""`python3 -m mapf`: converts plans, judges them, and runs series."""
+"""`python3 -m mapf`, and the script `mapf` of an installed package."""
 import sys
 
 from .commands import main
 
-if __name__ == "__main__":
+
+def start() -> int:
+    """Runs the command of the words that the process was given."""
     for stream in (sys.stdout, sys.stderr):
         # Files' names that are no UTF-8 are printed byte by byte.
         stream.reconfigure(errors="surrogateescape")
-    sys.exit(main())
+    return main()
+
+
+if __name__ == "__main__":
+    sys.exit(start())

@@ -5,7 +5,7 @@ import os
 import shlex
 from typing import Iterator, List, Optional, Sequence
 
-from .._program import program_path
+from ..program import program_path
 from .protocol import Agents
 from .runner import Limits
 from .scenarios import Scenario

@@ -7,7 +7,8 @@ import threading
 import time
 from typing import List, NamedTuple, Optional, Set, Tuple
 
-from .._program import Program
+from ..child import Child
+from ..program import Program
 from .rows import Row
 from .scenarios import Scenario
 
@@ -76,8 +77,7 @@ class Runner:
         with self._lock:
             if self.stopped:
                 return None
-            process = subprocess.Popen(
-                words, stdin=subprocess.DEVNULL, stdout=subprocess.PIPE, stderr=subprocess.PIPE, start_new_session=True)
+            process = Child(words, start_new_session=True)
             self._running.add(process)
         in_time = True
         try:
