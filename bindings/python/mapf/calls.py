@@ -113,11 +113,14 @@ def _plan_text(plan: Union[Given, Plan, Paths]) -> Input:
 
 def _path(agent: int, path: Iterable[Sequence[int]]) -> Path:
     """A path of whole numbers."""
-    places = []
-    for time, place in enumerate(path):
-        try:
+    place, places = path, []
+    try:
+        for place in path:
             x, y = place
             places.append((operator.index(x), operator.index(y)))
-        except (TypeError, ValueError):
-            raise PlanFault(None, f"no position of agent {agent} at time {time}", None, shown(str(place)), "whole numbers x and y") from None
-    return tuple(places)
+        if places:
+            return tuple(places)
+    except (TypeError, ValueError):
+        pass
+    raise PlanFault(
+        None, f"no position of agent {agent} at time {len(places)}", None, shown(str(place)), "two whole numbers, x and y")
