@@ -1,4 +1,5 @@
 """Ctrl-C, limits on time and killed parents: no search goes on behind them. All by real processes and signals."""
+import contextlib
 import glob
 import os
 import signal
@@ -57,17 +58,16 @@ class Stopping(unittest.TestCase):
             written(self.folder, name, contents)
 
     def goes_on(self):
-        """The processes that have this folder among their words; one that has ended has no words."""
+        """The words of the processes that have this folder among theirs; one that has ended has none."""
         found = []
         for path in glob.glob("/proc/[0-9]*/cmdline"):
-            try:
-                with open(path, "rb") as file:
-                    words = file.read()
-            except OSError:
-                continue
-            if self.folder.encode() in words and b"read -r go" not in words:
-                found.append(path)
-        return found
+            with contextlib.suppress(OSError), open(path, "rb") as file:
+                found.append(file.read())
+        return [words for words in found if self.folder.encode() in words]
+
+    def searching(self):
+        """Whether a search has begun: there is the process that asked for it, and one that is past its gate."""
+        return sum(b"read -r go" not in words for words in self.goes_on()) == 2
 
     def until(self, condition):
         end = time.monotonic() + WAIT
@@ -75,8 +75,8 @@ class Stopping(unittest.TestCase):
             self.assertLess(time.monotonic(), end, "it never comes")
             time.sleep(0.01)
 
-    def begun(self, script, backend):
-        """A process that runs the script, once its search has begun."""
+    def started(self, script, backend):
+        """A process that runs the script."""
         environment = {**os.environ, "PYTHONPATH": PACKAGE, "MAPF_BACKEND": backend}
         # Where the tests run in the background, Ctrl-C is ignored, and a child would take that over.
         heard = signal.signal(signal.SIGINT, signal.default_int_handler)
@@ -85,7 +85,12 @@ class Stopping(unittest.TestCase):
             stdout=subprocess.PIPE, stderr=subprocess.PIPE, start_new_session=True)
         signal.signal(signal.SIGINT, heard)
         self.addCleanup(running.kill)
-        self.until(lambda: running.poll() is not None or len(self.goes_on()) == 2)
+        return running
+
+    def begun(self, script, backend):
+        """A process that runs the script, once its search has begun."""
+        running = self.started(script, backend)
+        self.until(lambda: running.poll() is not None or self.searching())
         return running
 
     def interrupted(self, script, backend, send=os.kill):
@@ -153,14 +158,20 @@ class KilledParents(Stopping):
             for number, script in zip(self.SIGNALS, (IN_MAIN, IN_THREAD, IN_MAIN, IN_THREAD)):
                 self.killed(self.begun(script, backend), number)
 
+    def test_python_that_is_killed_before_its_child_is_tied_to_it(self):
+        running = self.started("import fcntl, os\nfcntl.fcntl = lambda *_: os.kill(os.getpid(), 9)\nsolve()", "")
+        running.communicate(timeout=WAIT)
+        self.assertEqual(running.returncode, -signal.SIGKILL)
+        self.until(lambda: not self.goes_on())
+
     def test_python_that_is_killed_at_any_time(self):
-        for pause in range(12):
-            running = subprocess.Popen(
-                [sys.executable, "-c", SCRIPT.format(folder=self.folder, code=IN_MAIN)], env={**os.environ, "PYTHONPATH": PACKAGE})
-            time.sleep(pause / 40)
-            running.kill()
-            running.wait()
-            self.until(lambda: not self.goes_on())
+        begin = time.monotonic()
+        self.killed(self.begun(IN_MAIN, ""), signal.SIGKILL)
+        seconds = time.monotonic() - begin
+        for tenth in range(1, 13):
+            running = self.started(IN_MAIN, "")
+            time.sleep(seconds * tenth / 10)
+            self.killed(running, signal.SIGKILL)
 
     @with_program
     def test_series(self):
@@ -171,5 +182,5 @@ class KilledParents(Stopping):
                     "series", "--maps", self.folder, "--scens", self.folder, "--from", 2, "--seconds", 1000, "--csv", csv,
                     cwd=self.folder, stderr=subprocess.PIPE)
                 self.addCleanup(running.kill)
-                self.until(lambda: running.poll() is not None or len(self.goes_on()) == 2)
+                self.until(lambda: running.poll() is not None or self.searching())
                 self.killed(running, number)
