@@ -5,7 +5,7 @@ import functools
 import os
 from typing import Union
 
-from .faults import NotBuilt
+from .faults import ArgumentFault, NotBuilt
 from .library import Library, library_path
 from .program import Program, program_path
 
@@ -17,7 +17,7 @@ def chosen(first: str = "library") -> Backend:
     asked = os.environ.get("MAPF_BACKEND", "")
     built = {"library": os.path.isfile(library_path()), "program": os.access(program_path(), os.X_OK)}
     if asked not in ("", *built):
-        raise ValueError(f"MAPF_BACKEND is {asked!r}; wanted `library` or `program`")
+        raise ArgumentFault(None, "MAPF_BACKEND", None, repr(asked), "`library` or `program`")
     for name in [asked] if asked else sorted(built, key=lambda name: name != first):
         if asked or built[name]:
             return _library(library_path()) if name == "library" else Program(program_path())

@@ -9,8 +9,8 @@ from typing import Any, List, Optional, Tuple
 
 from ._input import Input, read_input
 from .faults import BackendFailure, NotBuilt
-from .options import MOST_BOUND, MOST_NODES, MOST_WORKERS, Options
-from .program import run_on
+from .options import MOST_AGENTS, MOST_BOUND, MOST_NODES, MOST_WORKERS, Options
+from .program import ANSWERED, run_on
 from .run import Ended, Progress
 
 HERE = os.path.dirname(os.path.realpath(__file__))
@@ -59,12 +59,11 @@ class Library:
 
     def solve_here(self, map_file: Input, scen_file: Input, options: Options) -> Tuple[int, str]:
         """The status, and the answer's text or the refusal's line, by a call that nothing stops."""
-        agents, bound, workers, nodes, no_following = options
-        if bound <= MOST_BOUND and not 1 <= workers <= MOST_WORKERS:
+        if options.bound <= MOST_BOUND and not 1 <= options.workers <= MOST_WORKERS:
             return REFUSED, "42 workers\n"
-        room = 65_536 + 4_096 * min(agents, 1_000)
-        return self._call(
-            "mapf_solve", room, *_slice(map_file), *_slice(scen_file), agents, bound, nodes or 0, no_following)
+        room = 65_536 + 4_096 * min(options.agents, MOST_AGENTS)
+        numbers = (options.agents, options.bound, options.nodes or 0, options.no_following)
+        return self._call("mapf_solve", room, *_slice(map_file), *_slice(scen_file), *numbers)
 
     def check(
         self, map_file: Input, scen_file: Input, plan: Input, agents: int, no_following: bool
@@ -95,7 +94,10 @@ def answer(path: str, options: str, telling: str, *named: str) -> int:
     map_file, scen_file = (read_input(kind, word.split("=", 1)[1]) for kind, word in zip(("map", "scenario"), named))
     limits = [10**power for power in range(7)] if telling else []
     status, text = _searched(Library(path), map_file, scen_file, Options(*json.loads(options)), limits)
-    print(text if status in (0, 1, GAVE_UP) else f"mapf: {text}", end="", file=sys.stdout if status in (0, 1, GAVE_UP) else sys.stderr)
+    if status in ANSWERED:
+        sys.stdout.write(text)
+    else:
+        sys.stderr.write(f"mapf: {text}")
     return status
 
 

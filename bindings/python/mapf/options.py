@@ -24,7 +24,9 @@ class Options(NamedTuple):
     def taken(self) -> "Options":
         """With numbers that a backend can take: one outside its range, which it refuses, stands for all of them."""
         nodes = None if self.nodes is None else _number(self.nodes, 1)
-        return Options(_number(self.agents), _number(self.bound), _number(self.workers), nodes, bool(self.no_following))
+        return self._replace(
+            agents=_number(self.agents), bound=_number(self.bound), workers=_number(self.workers), nodes=nodes,
+            no_following=bool(self.no_following))
 
     def words(self) -> List[str]:
         """The words of the program's command line."""

@@ -223,5 +223,6 @@ class Files(unittest.TestCase):
             with self.subTest(asked), self.assertRaises(mapf.NotBuilt):
                 mapf.solve(*LINE, 1)
         os.environ["MAPF_BACKEND"] = "both"
-        with self.assertRaises(ValueError):
+        with self.assertRaises(mapf.ArgumentFault) as refused:
             mapf.solve(*LINE, 1)
+        self.assertEqual(str(refused.exception), "MAPF_BACKEND: found 'both', wanted `library` or `program`")
