@@ -26,13 +26,15 @@ class Limits(unittest.TestCase):
 
     def test_out_of_time_keeps_the_bound(self):
         for backend in self.each():
-            begin = time.monotonic()
-            answer = solve_by(backend, *ENDLESS, None, 1000000, None, False, seconds=2)
-            self.assertIsInstance(answer, mapf.OutOfTime)
+            for seconds in (1, 10, 60):
+                begin = time.monotonic()
+                answer = solve_by(backend, *ENDLESS, None, 1000000, None, False, seconds=seconds)
+                self.assertIsInstance(answer, mapf.OutOfTime)
+                self.assertGreaterEqual(time.monotonic() - begin, seconds)
+                if answer.lower_bound:
+                    break
             self.assertGreaterEqual(answer.lower_bound, LEAST)
-            self.assertGreaterEqual(answer.nodes, 0)
-            self.assertGreaterEqual(time.monotonic() - begin, 2)
-            self.assertLess(time.monotonic() - begin, 60)
+            self.assertLess(time.monotonic() - begin, seconds + 60)
 
     def test_out_of_time_before_anything_is_told(self):
         for backend in self.each():
@@ -110,7 +112,7 @@ class Command(unittest.TestCase):
                 self.assertEqual(command("solve", *BAY_FILES, *more), (status, text, ""))
 
     def test_out_of_time(self):
-        status, out, err = self.endless("--seconds", 2)
+        status, out, err = self.endless("--seconds", 1.5)
         self.assertEqual((status, err), (6, ""))
         self.assertRegex(out, r"^out of time [0-9]+ [0-9]+\n$")
         self.assertGreaterEqual(int(out.split()[-1]), LEAST)
@@ -128,11 +130,11 @@ class Command(unittest.TestCase):
         self.assertEqual(of("--bound", 4, "--nodes", 5), (6, {**nothing, "agents": 2, "status": "gave_up", "nodes": 5, "lower_bound": 4}))
 
     def test_json_out_of_time(self):
-        status, out, _ = self.endless("--seconds", 2, "--json")
+        status, out, _ = self.endless("--seconds", 1.5, "--json")
         row = json.loads(out)
         self.assertEqual((status, row["status"], row["agents"], row["cost"], row["paths"]), (6, "out_of_time", 2, None, None))
         self.assertGreaterEqual(row["lower_bound"], LEAST)
-        self.assertGreaterEqual(row["seconds"], 2)
+        self.assertGreaterEqual(row["seconds"], 1.5)
 
     def test_progress(self):
         status, out, err = self.endless("--nodes", 2000, "--progress")
