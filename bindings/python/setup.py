@@ -1,4 +1,4 @@
-"""What pyproject.toml can't say: the platform where the package has built files, and a wheel by a setuptools that makes none."""
+"""What pyproject.toml can't say: the platform of built files, and the command bdist_wheel where there is none."""
 import atexit
 import base64
 import hashlib
@@ -11,12 +11,12 @@ from setuptools import Command, Distribution, setup
 
 HERE = os.path.dirname(os.path.realpath(__file__))
 BUILT = any(os.path.isfile(os.path.join(HERE, "mapf", "built", name)) for name in ("libmapf.so", "mapf"))
-PLATFORM = "linux_x86_64" if BUILT else "any"
 PARTS = {"PKG-INFO": "METADATA", "entry_points.txt": "entry_points.txt", "top_level.txt": "top_level.txt"}
+TAG = "Wheel-Version: 1.0\nGenerator: mapf\nRoot-Is-Purelib: true\nTag: py3-none-{}\n"
 
 
 class Wheel(Command):
-    """The command bdist_wheel: a zip file of the package, its metadata and, as the last file, the hashes of all of them."""
+    """The command bdist_wheel: a zip file of the package, its metadata and, at last, the hashes of all of them."""
 
     user_options = [("dist-dir=", "d", "the folder for the wheel"), ("plat-name=", "p", "the platform")]
 
@@ -32,7 +32,7 @@ class Wheel(Command):
         for old, new in PARTS.items():
             shutil.copy(os.path.join(egg_info, old), os.path.join(dist_info, new))
         with open(os.path.join(dist_info, "WHEEL"), "w") as file:
-            file.write(f"Wheel-Version: 1.0\nGenerator: mapf\nRoot-Is-Purelib: true\nTag: py3-none-{self.plat_name}\n")
+            file.write(TAG.format(self.plat_name))
 
     def run(self):
         """Makes the wheel."""
@@ -42,8 +42,10 @@ class Wheel(Command):
         record = f"{name}.dist-info/RECORD"
         self.egg2dist(self.get_finalized_command("egg_info").egg_info, os.path.join(folder, f"{name}.dist-info"))
         os.makedirs(self.dist_dir, exist_ok=True)
-        with zipfile.ZipFile(os.path.join(self.dist_dir, f"{name}-py3-none-{self.plat_name}.whl"), "w", zipfile.ZIP_DEFLATED) as wheel:
-            lines = [added(wheel, os.path.join(parent, file), folder) for parent, _, files in sorted(os.walk(folder)) for file in sorted(files)]
+        path = os.path.join(self.dist_dir, f"{name}-py3-none-{self.plat_name}.whl")
+        files = sorted(os.path.join(parent, file) for parent, _, files in os.walk(folder) for file in files)
+        with zipfile.ZipFile(path, "w", zipfile.ZIP_DEFLATED) as wheel:
+            lines = [added(wheel, file, folder) for file in files]
             wheel.writestr(record, "".join([*lines, f"{record},,\n"]))
 
 
@@ -67,6 +69,7 @@ def makes_wheels():
 
 work = tempfile.mkdtemp()
 atexit.register(shutil.rmtree, work, ignore_errors=True)
+platform = {"plat_name": "linux_x86_64"} if BUILT else {}
 setup(
     cmdclass={} if makes_wheels() else {"bdist_wheel": Wheel},
-    options={"bdist_wheel": {"plat_name": PLATFORM} if BUILT else {}, "build": {"build_base": work}, "egg_info": {"egg_base": work}})
+    options={"bdist_wheel": platform, "build": {"build_base": work}, "egg_info": {"egg_base": work}})

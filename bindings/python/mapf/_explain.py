@@ -93,8 +93,8 @@ def _found(number: int, places: "list[int]", asked: Asked) -> str:
         return _found_in_row(number, places, asked)
     if number <= 33 and asked.plan:
         return _found_in_plan(number, places, asked.plan.contents.split(b"\n"))
-    options = asked.options
-    arguments: Dict[int, str] = {41: f"{options.bound}", 42: f"{options.workers}", 43: "too little", 44: f"{options.nodes}"}
+    _, bound, workers, nodes, *_ = asked.options
+    arguments: Dict[int, str] = {41: f"{bound}", 42: f"{workers}", 43: "too little", 44: f"{nodes}"}
     return arguments.get(number, "a failure")
 
 

@@ -13,7 +13,7 @@ Backend = Union[Library, Program]
 
 
 def chosen(first: str = "library") -> Backend:
-    """The one that MAPF_BACKEND of the environment asks for (`library`, `program`), else the first or the other, as they are built."""
+    """The one that MAPF_BACKEND (`library`, `program`) asks for; else the first, or the other, if it is built."""
     asked = os.environ.get("MAPF_BACKEND", "")
     built = {"library": os.path.isfile(library_path()), "program": os.access(program_path(), os.X_OK)}
     if asked not in ("", *built):

@@ -32,10 +32,11 @@ def solve(
     no_following: no agent may enter a cell in the step in which another leaves it.
     workers: threads of the program, 1 to 64, whose number changes no answer; the library has one.
     seconds: after so many the answer is `OutOfTime`; None sets no limit.
-    progress: is called with the nodes that were taken and what no plan costs less than, at first, each second and at the end (by the
-        library after 1, 10, 100 and so on nodes). What it raises ends the search.
+    progress: is called with the nodes that were taken and what no plan costs less than, at first, each second and at
+        the end (by the library after 1, 10, 100 and so on nodes). What it raises ends the search.
 
-    Ctrl-C ends the search. Raises a `Fault` where something is refused, and `NotBuilt` where there is neither the library nor the program.
+    Ctrl-C ends the search. Raises a `Fault` where something is refused, and `NotBuilt` where there is neither the
+    library nor the program.
     """
     return solve_by(chosen("program"), map, scen, agents, bound, nodes, no_following, workers, seconds, progress)
 
@@ -56,9 +57,9 @@ def check(
 
 
 def read_plan(path: Given, format: str = "plan", map: Optional[Given] = None, scen: Optional[Given] = None) -> Plan:
-    """The plan of a file in one of `converters.FORMATS`, cut behind each agent's last arrival; what doesn't fit is a `ConversionFault`.
+    """The plan of a file in one of `converters.FORMATS`, cut behind each agent's last arrival.
 
-    map: positions outside of it are refused. scen: where `moves` begin.
+    map: positions outside of it are refused. scen: where `moves` begin. What doesn't fit is a `ConversionFault`.
     """
     if format not in converters.FORMATS:
         raise ArgumentFault(None, "no such format", None, repr(format), ", ".join(converters.FORMATS))
@@ -74,8 +75,8 @@ def version() -> str:
 
 
 def solve_by(
-    backend: Backend, map_given: Given, scen_given: Given, agents: Optional[int], bound: int, nodes: Optional[int], no_following: bool,
-    workers: int = 1, seconds: Optional[float] = None, progress: Optional[Progress] = None,
+    backend: Backend, map_given: Given, scen_given: Given, agents: Optional[int], bound: int, nodes: Optional[int],
+    no_following: bool, workers: int = 1, seconds: Optional[float] = None, progress: Optional[Progress] = None,
 ) -> Answer:
     """`solve`, by this backend."""
     if seconds is not None and not seconds > 0:
@@ -92,12 +93,14 @@ def solve_by(
 
 
 def check_by(
-    backend: Backend, map_given: Given, scen_given: Given, plan: Union[Given, Plan, Paths], agents: Optional[int], no_following: bool
+    backend: Backend, map_given: Given, scen_given: Given, plan: Union[Given, Plan, Paths], agents: Optional[int],
+    no_following: bool,
 ) -> Verdict:
     """`check`, by this backend."""
     map_file, scen_file = read_input("map", map_given), read_input("scenario", scen_given)
     text = _plan_text(plan)
-    asked = Options(agents_stated(text.contents) or 1 if agents is None else operator.index(agents), no_following=no_following)
+    stated = agents_stated(text.contents) or 1 if agents is None else operator.index(agents)
+    asked = Options(stated, no_following=no_following)
     taken = asked.taken()
     status, line = backend.check(map_file, scen_file, text, taken.agents, taken.no_following)
     if status in (0, 1):
@@ -122,5 +125,5 @@ def _path(agent: int, path: Iterable[Sequence[int]]) -> Path:
             return tuple(places)
     except (TypeError, ValueError):
         pass
-    raise PlanFault(
-        None, f"no position of agent {agent} at time {len(places)}", None, shown(str(place)), "two whole numbers, x and y")
+    text = f"no position of agent {agent} at time {len(places)}"
+    raise PlanFault(None, text, None, shown(str(place)), "two whole numbers, x and y")

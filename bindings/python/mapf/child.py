@@ -14,8 +14,9 @@ GATE = ("/bin/sh", "-c", 'read -r go && exec "$@" </dev/null', "sh")
 class Child(subprocess.Popen):
     """A program whose output and errors are read from pipes.
 
-    Parent and child hold the ends of one more pipe, whose owner is the child. As the parent's end closes, by whatever death, the
-    kernel sends the owner SIGKILL (F_SETSIG of fcntl(2)). No Python runs between fork and exec, so threads may start children.
+    Parent and child hold the ends of one more pipe, whose owner is the child. As the parent's end closes, by whatever
+    death, the kernel sends the owner SIGKILL (F_SETSIG of fcntl(2)). No Python runs between fork and exec, so threads
+    may start children.
     """
 
     def __init__(self, words: Sequence[str], **options: Any) -> None:

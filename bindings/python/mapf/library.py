@@ -31,7 +31,7 @@ ARGUMENTS = {
 
 
 def library_path() -> str:
-    """Where the library is: MAPF_LIBRARY of the environment, or in the package, which has it from where bindings/build puts it."""
+    """Where the library is: MAPF_LIBRARY of the environment, or in the package, which has it from bindings/build."""
     return os.environ.get("MAPF_LIBRARY") or BUILT
 
 
@@ -50,9 +50,10 @@ class Library:
             function.argtypes, function.restype = arguments, ctypes.c_int32
 
     def solve(
-        self, map_file: Input, scen_file: Input, options: Options, seconds: Optional[float] = None, progress: Optional[Progress] = None
+        self, map_file: Input, scen_file: Input, options: Options, seconds: Optional[float] = None,
+        progress: Optional[Progress] = None,
     ) -> Ended:
-        """How the search ended, as a `Program` answers: in a Python of its own, since nothing stops a call of the library."""
+        """How the search ended, as by a `Program`: in a Python of its own, since nothing stops a call here."""
         words = [sys.executable, "-S", "-E", "-c", CHILD, os.path.dirname(HERE), self.path, json.dumps(options)]
         telling = seconds is not None or progress is not None
         return run_on([*words, "telling" if telling else ""], [map_file, scen_file], seconds, progress)
@@ -101,7 +102,9 @@ def answer(path: str, options: str, telling: str, *named: str) -> int:
     return status
 
 
-def _searched(library: Library, map_file: Input, scen_file: Input, options: Options, limits: List[int]) -> Tuple[int, str]:
+def _searched(
+    library: Library, map_file: Input, scen_file: Input, options: Options, limits: List[int]
+) -> Tuple[int, str]:
     """Searches, first with ever more nodes, and tells after each such search what it found."""
     for limit in limits:
         if options.nodes is not None and not limit < options.nodes <= MOST_NODES:

@@ -12,8 +12,11 @@ GREATEST = 2**64 - 1
 
 
 class Options(NamedTuple):
-    """agents: how many rows are taken. bound: the greatest sum of costs. workers: threads. nodes: a limit on nodes, or None.
-    no_following: no agent may enter a cell in the step in which another leaves it."""
+    """Numbers, and the rule.
+
+    agents: how many rows are taken. bound: the greatest sum of costs. workers: threads. nodes: a limit, or None.
+    no_following: no agent may enter a cell in the step in which another leaves it.
+    """
 
     agents: int
     bound: int = MOST_BOUND

@@ -45,11 +45,13 @@ class Plan:
 
     def rows(self) -> List[Place]:
         """The positions of each agent up to its last arrival, agent 0 first."""
-        return [Place(agent, time, x, y) for agent, path in enumerate(self.paths) for time, (x, y) in enumerate(path)]
+        paths = enumerate(self.paths)
+        return [Place(agent, time, x, y) for agent, path in paths for time, (x, y) in enumerate(path)]
 
     def array(self) -> Any:
-        """Positions by time, agent, and x or y, from time 0 to the makespan: an array where there is numpy, else lists."""
-        positions = [[list(self.at(agent, time)) for agent in range(len(self.paths))] for time in range(self.makespan + 1)]
+        """Positions by time, agent, and x or y, up to the makespan: an array where there is numpy, else lists."""
+        agents = range(len(self.paths))
+        positions = [[list(self.at(agent, time)) for agent in agents] for time in range(self.makespan + 1)]
         try:
             import numpy
         except ImportError:

@@ -18,7 +18,7 @@ REFUSED = (3, 4, 5)
 
 
 def program_path() -> str:
-    """Where the program is: MAPF_PROGRAM of the environment, or in the package, which has it from where ./mapf builds it."""
+    """Where the program is: MAPF_PROGRAM of the environment, or in the package, which has it from ./mapf."""
     return os.environ.get("MAPF_PROGRAM") or BUILT
 
 
@@ -33,7 +33,8 @@ class Program:
             raise NotBuilt(f"no program {self.path}: ./mapf --version builds it")
 
     def solve(
-        self, map_file: Input, scen_file: Input, options: Options, seconds: Optional[float] = None, progress: Optional[Progress] = None
+        self, map_file: Input, scen_file: Input, options: Options, seconds: Optional[float] = None,
+        progress: Optional[Progress] = None,
     ) -> Ended:
         """How the run ended: with the answer's text, or the refusal's line without `mapf: `, as `out`."""
         telling = [] if seconds is None and progress is None else ["--progress"]

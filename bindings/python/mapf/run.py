@@ -53,8 +53,8 @@ class Told:
 def run(words: Sequence[str], seconds: Optional[float] = None, progress: Optional[Progress] = None) -> Ended:
     """Runs a program until it ends or its time is over.
 
-    Ctrl-C ends it, and is raised here: in the main thread as ever; in another one where the program had it too, as from a terminal
-    or a notebook, or where it ended what the main thread did.
+    Ctrl-C ends it, and is raised here: in the main thread as ever; in another one where the program had it too, as from
+    a terminal or a notebook, or where it ended what the main thread did.
     """
     end, told, seen = time.monotonic() + (math.inf if seconds is None else seconds), Told(progress), _interrupt()
     with Child(words) as child:

@@ -13,8 +13,9 @@ import zipfile
 
 import mapf.library
 import mapf.program
-from support import EXAMPLES, HAS_LIBRARY, HAS_PROGRAM, ROOT
+from support import EXAMPLES, HAS_PROGRAM, ROOT, with_library, with_program
 
+OFFLINE = ("--no-index", "--no-build-isolation", "--no-deps")
 PLAN = "plan 2 4\n1,0 1,1 1,0\n0,0 1,0 2,0\n"
 CALLS = """
 import mapf
@@ -40,7 +41,8 @@ def copied(folder, with_built):
     for name in ("bindings/build", "mapf", "crates.txt"):
         shutil.copy2(os.path.join(ROOT, name), os.path.join(folder, name))
     os.makedirs(os.path.join(folder, "crates"))
-    built = ((mapf.library.library_path(), "bindings/out/libmapf.so"), (mapf.library.library_path(), "bindings/out/libmapf.a"),
+    library = mapf.library.library_path()
+    built = ((library, "bindings/out/libmapf.so"), (library, "bindings/out/libmapf.a"),
              (mapf.program.program_path(), "crates/mapf/out/mapf"))
     for source, name in built if with_built else ():
         os.makedirs(os.path.dirname(os.path.join(folder, name)), exist_ok=True)
@@ -75,7 +77,7 @@ class Install(unittest.TestCase):
     def installed(self, path):
         """Installs a wheel or a folder, and answers the environment's Python."""
         python = os.path.join(self.environment, "bin", "python3")
-        self.done(python, "-m", "pip", "install", "--no-index", "--no-build-isolation", "--no-deps", "--force-reinstall", path)
+        self.done(python, "-m", "pip", "install", *OFFLINE, "--force-reinstall", path)
         return python
 
     def works(self, python):
@@ -92,18 +94,22 @@ class Install(unittest.TestCase):
         self.assertEqual(self.done(script, "solve", *files, "--no-following").split("\n")[0], "plan 2 7")
         self.assertEqual(json.loads(self.done(python, "-m", "mapf", "solve", *files, "--json"))["cost"], 4)
         plan = os.path.join(EXAMPLES, "plans", "bay-2.plan")
-        self.assertEqual(json.loads(self.done(script, "check", "--map", files[0], "--scen", files[1], plan))["line"], "valid 4")
+        judged = self.done(script, "check", "--map", files[0], "--scen", files[1], plan)
+        self.assertEqual(json.loads(judged)["line"], "valid 4")
 
-    @unittest.skipUnless(HAS_LIBRARY and HAS_PROGRAM, "no library or no program: bindings/build and ./mapf --version build them")
+    @with_library
+    @with_program
     def test_the_wheel_that_build_makes(self):
         copied(self.folder, with_built=True)
-        self.done(os.path.join(self.folder, "bindings", "build"), "--wheel", PATH=os.path.dirname(sys.executable) + ":" + os.environ["PATH"])
+        path = os.path.dirname(sys.executable) + ":" + os.environ["PATH"]
+        self.done(os.path.join(self.folder, "bindings", "build"), "--wheel", PATH=path)
         (wheel,) = glob.glob(os.path.join(self.folder, "bindings", "out", "*.whl"))
         self.assertRegex(os.path.basename(wheel), r"^mapf-[0-9]+\.[0-9]+\.[0-9]+[^-]*-py3-none-linux_x86_64\.whl$")
         shutil.rmtree(os.path.join(self.folder, "bindings", "python"))
         self.works(self.installed(wheel))
 
-    @unittest.skipUnless(HAS_LIBRARY and HAS_PROGRAM, "no library or no program: bindings/build and ./mapf --version build them")
+    @with_library
+    @with_program
     def test_the_folder_of_sources(self):
         copied(self.folder, with_built=True)
         before = sorted(os.listdir(os.path.join(self.folder, "bindings", "python")))
@@ -114,8 +120,8 @@ class Install(unittest.TestCase):
 
     def test_without_built_files(self):
         copied(self.folder, with_built=False)
-        words = ("-m", "pip", "wheel", "--no-index", "--no-build-isolation", "--no-deps", "--wheel-dir", self.folder)
-        self.done(sys.executable, *words, os.path.join(self.folder, "bindings", "python"))
+        sources = os.path.join(self.folder, "bindings", "python")
+        self.done(sys.executable, "-m", "pip", "wheel", *OFFLINE, "--wheel-dir", self.folder, sources)
         (wheel,) = glob.glob(os.path.join(self.folder, "mapf-*-py3-none-any.whl"))
         with zipfile.ZipFile(wheel) as contents:
             self.assertFalse([name for name in contents.namelist() if "/built/" in name])

@@ -30,7 +30,8 @@ class Plans(unittest.TestCase):
         self.assertEqual(mapf.read_text(BAY_TEXT.encode()), BAY)
 
     def test_rows(self):
-        self.assertEqual(BAY.rows(), [(0, 0, 1, 0), (0, 1, 1, 1), (0, 2, 1, 0), (1, 0, 0, 0), (1, 1, 1, 0), (1, 2, 2, 0)])
+        rows = [(0, 0, 1, 0), (0, 1, 1, 1), (0, 2, 1, 0), (1, 0, 0, 0), (1, 1, 1, 0), (1, 2, 2, 0)]
+        self.assertEqual(BAY.rows(), rows)
         self.assertEqual(BAY.rows()[1]._asdict(), {"agent": 0, "time": 1, "x": 1, "y": 1})
 
     def test_an_array_is_padded_by_the_last_position(self):

@@ -66,8 +66,8 @@ class Same(unittest.TestCase):
         program, library = backends()
         for number, (grid, scen, agents, bound, nodes, no_following) in enumerate(itertools.islice(asks(56), 20)):
             with self.subTest(number):
-                by_program = solve_by(program, grid, scen, agents, bound, nodes, no_following)
-                self.assertEqual(solve_by(library, grid, scen, agents, bound, nodes, no_following, progress=lambda *_: None), by_program)
+                ask = grid, scen, agents, bound, nodes, no_following
+                self.assertEqual(solve_by(library, *ask, progress=lambda *_: None), solve_by(program, *ask))
 
     @with_library
     @with_program

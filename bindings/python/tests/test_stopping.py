@@ -94,7 +94,7 @@ class Stopping(unittest.TestCase):
         return running
 
     def interrupted(self, script, backend, send=os.kill):
-        """The status and what was printed after Ctrl-C, and the seconds that it took; of some tries the first quick one."""
+        """The status and what was printed after Ctrl-C; of some tries the first that took less than half a second."""
         for _ in range(TRIES):
             running = self.begun(script, backend)
             begin = time.monotonic()
@@ -139,8 +139,9 @@ class CtrlC(Stopping):
 
     def test_the_command(self):
         for backend in self.each():
-            words = f"from mapf.__main__ import start\nsys.argv[1:] = ['solve', '{self.folder}/a.map', '{self.folder}/a.scen']\nsys.exit(start())"
-            self.assertEqual(self.interrupted(words, backend), (130, "", ""))
+            words = [f"{self.folder}/{name}" for name in ("a.map", "a.scen")]
+            script = f"from mapf.__main__ import start\nsys.argv[1:] = {['solve', *words]}\nsys.exit(start())"
+            self.assertEqual(self.interrupted(script, backend), (130, "", ""))
 
 
 @unittest.skipUnless(backends(), "neither library nor program is built")
@@ -179,8 +180,8 @@ class KilledParents(Stopping):
             with self.subTest(number):
                 csv = os.path.join(self.folder, f"{int(number)}.csv")
                 running = process(
-                    "series", "--maps", self.folder, "--scens", self.folder, "--from", 2, "--seconds", 1000, "--csv", csv,
-                    cwd=self.folder, stderr=subprocess.PIPE)
+                    "series", "--maps", self.folder, "--scens", self.folder, "--from", 2, "--seconds", 1000,
+                    "--csv", csv, cwd=self.folder, stderr=subprocess.PIPE)
                 self.addCleanup(running.kill)
                 self.until(lambda: running.poll() is not None or self.searching())
                 self.killed(running, number)

@@ -21,14 +21,15 @@ def add(commands: Any) -> None:
     """Adds the command."""
     parser = commands.add_parser(
         "solve", help="find a plan that costs least",
-        description="Finds a plan that costs least. The status is 0 where there is one, 1 where none costs at most the bound, and 6 at a limit.")
+        description="Finds a plan that costs least. The status is 1 where none costs at most the bound, 6 at a limit.")
     parser.add_argument("map", metavar="MAP", help="the map")
     parser.add_argument("scen", metavar="SCEN", help="the scenario")
     parser.add_argument("--agents", type=int, metavar="N", help="the number of agents (all rows up to 1000)")
     parser.add_argument("--bound", type=int, default=MOST_BOUND, metavar="B", help="the bound on the cost (1000000)")
     parser.add_argument("--workers", type=int, default=1, metavar="W", help="so many threads (1)")
     parser.add_argument("--nodes", type=int, metavar="N", help="a limit on nodes")
-    parser.add_argument("--no-following", action="store_true", help="no agent may enter a cell in the step in which another leaves it")
+    parser.add_argument(
+        "--no-following", action="store_true", help="no agent may enter a cell in the step in which another leaves it")
     parser.add_argument("--seconds", type=float, metavar="S", help="a limit on time")
     parser.add_argument("--progress", action="store_true", help="say how far the search is")
     parser.add_argument("--json", action="store_true", help="print a JSON object")
@@ -55,8 +56,8 @@ def object_of(asked: argparse.Namespace, answer: Answer, seconds: float) -> dict
     bound = answer.bound + 1 if isinstance(answer, NoPlan) else getattr(answer, "lower_bound", None)
     return {
         "map": asked.map, "scenario": asked.scen, "agents": asked.agents, "status": STATUSES[type(answer)][0],
-        "cost": plan and plan.cost, "lower_bound": bound, "nodes": getattr(answer, "nodes", None), "seconds": round(seconds, 3),
-        "paths": plan and plan.paths}
+        "cost": plan and plan.cost, "lower_bound": bound, "nodes": getattr(answer, "nodes", None),
+        "seconds": round(seconds, 3), "paths": plan and plan.paths}
 
 
 def _tell(nodes: int, lower_bound: int) -> None:
