@@ -9,7 +9,7 @@ from concurrent.futures import ThreadPoolExecutor
 from typing import Any, Iterator, NamedTuple, Optional, Tuple, Union
 
 from .. import calls
-from .._backend import Backend, chosen
+from ..backend import Backend, chosen
 from .._input import read_input
 from ..converters import FORMATS, read_plan
 from ..faults import Fault, PlanFault, ScenarioFault

@@ -5,7 +5,7 @@ import os
 import shlex
 from typing import Iterator, Sequence
 
-from .._program import program_path
+from ..program import program_path
 from .limits import Limits, option, seconds_text
 from .protocol import Agents
 from .scenarios import Scenario

@@ -8,7 +8,8 @@ import time
 from contextlib import suppress
 from typing import Dict, List, NamedTuple, Optional, Set, Tuple
 
-from .._program import Program
+from ..child import Child
+from ..program import Program
 from .limits import Limits
 from .rows import Row
 from .scenarios import Scenario
@@ -71,8 +72,7 @@ class Runner:
         with self._lock:
             if self.stopped:
                 return None
-            process = subprocess.Popen(
-                words, stdin=subprocess.DEVNULL, stdout=subprocess.PIPE, stderr=subprocess.PIPE, start_new_session=True)
+            process = Child(words, start_new_session=True)
             self._running.add(process)
         in_time = True
         try:
