@@ -1,14 +1,19 @@
 """Real outputs of planners: the formats that are only read, and how files end."""
+import csv
+import io
 import json
 import os
+import tempfile
 import unittest
 
 import mapf
+from mapf.calls import solve_by
 from mapf.converters import SHAPES, read_plan, write_plan
-from support import BAY, EXAMPLES, LINE, command, map_of, scen_of
+from support import BAY, EXAMPLES, LINE, backends, command, map_of, scen_of, small_instances, written
 from test_converters import PLAN, TEXTS
 
 PLANS = os.path.join(EXAMPLES, "plans")
+BAY_FILES = ("--map", os.path.join(EXAMPLES, "bay.map"), "--scen", os.path.join(EXAMPLES, "bay.scen"))
 COLUMNS = "map_name,scen_type,type_id,agents,lower_cost,lower_date,solution_cost,solution_date,solution_plan"
 READ = {
     "eecbs-stdout": "Agent 0 (0 -->2): 1->4->1->\nAgent 1 (2 -->2): 0->1->2->\n",
@@ -108,14 +113,13 @@ class Read(unittest.TestCase):
         for name, cases in SPOILED.items():
             self.assertGreaterEqual(len(cases), 10)
             for (old, new), line in cases:
-                with self.subTest(name, old=old, new=new[:100]):
+                with self.subTest(name, old=old, new=new[:100]), tempfile.TemporaryDirectory() as folder:
                     text = READ.get(name, REDUMPED)
                     self.assertIn(old, text)
-                    with self.assertRaises(mapf.ConversionFault) as refused:
-                        read_plan(name, text.replace(old, new, 1).encode(), "some file", *BAY)
-                    fault = refused.exception
-                    self.assertEqual((fault.line, fault.format_name, fault.path), (line, name, "some file"))
-                    self.assertTrue(fault.found and fault.wanted)
+                    path = written(folder, "plan", text.replace(old, new, 1))
+                    status, out, err = command("convert", "--from", name, *BAY_FILES, path)
+                    self.assertEqual((status, out), (3, ""))
+                    self.assertRegex(err, rf"\Amapf: {path}: no {name} at line {line}: found .+, wanted .+\n\Z")
 
     def test_another_action_model_is_refused_by_its_name(self):
         with self.assertRaises(mapf.ConversionFault) as refused:
@@ -157,6 +161,43 @@ class Read(unittest.TestCase):
     def test_a_plan_longer_than_a_field_of_csv(self):
         text = COLUMNS + "\nline,even,1,1,,,,," + "w" * 200_000 + "rr\n"
         self.assertEqual(read_plan("tracker", text.encode(), None, *LINE).cost, 200_002)
+
+
+def letters(path):
+    """The moves of a path."""
+    names = {(0, 0): "w", (0, -1): "u", (0, 1): "d", (-1, 0): "l", (1, 0): "r"}
+    return "".join(names[x - from_x, y - from_y] for (from_x, from_y), (x, y) in zip(path, path[1:]))
+
+
+def outputs(plan, width):
+    """A plan as the planners write it whose formats are only read."""
+    cells = (f"Agent {agent} (0 -->{len(path) - 1}): " + "".join(f"{y * width + x}->" for x, y in path)
+             for agent, path in enumerate(plan.paths))
+    moves = [letters(path) for path in plan.paths]
+    table = io.StringIO()
+    rows = ("agents", "solution_cost", "solution_plan"), (len(moves), plan.cost, "\n".join(moves))
+    csv.writer(table).writerows(rows)
+    league = {
+        "actionModel": "MAPF", "teamSize": len(moves), "start": [[y, x, "E"] for (x, y), *_ in plan.paths],
+        "sumOfCost": plan.cost, "makespan": plan.makespan, "plannerPaths": [",".join(names.upper()) for names in moves]}
+    texts = "\n".join(cells), table.getvalue(), json.dumps(league, indent=4)
+    return dict(zip(("eecbs-stdout", "tracker", "robot-runners"), texts))
+
+
+class Plans(unittest.TestCase):
+    @unittest.skipUnless(backends(), "neither library nor program is built")
+    def test_plans_of_the_program(self):
+        backend, plans = backends()[-1], 0
+        for grid, scen, agents in small_instances(100, 73):
+            answer = solve_by(backend, grid, scen, agents, 1000000, 300, False)
+            if not isinstance(answer, mapf.Plan) or answer.makespan == 0:
+                continue
+            plans += 1
+            for name, text in outputs(answer, len(grid.split(b"\n")[4])).items():
+                with self.subTest(name, plan=answer.text()):
+                    plan = read_plan(name, text.encode(), None, grid, scen)
+                    self.assertEqual((plan, plan.stated), (answer, answer.cost))
+        self.assertGreater(plans, 50)
 
 
 class Ends(unittest.TestCase):

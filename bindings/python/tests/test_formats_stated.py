@@ -2,17 +2,15 @@
 import csv
 import io
 import json
-import os
 import tempfile
 import unittest
 
 import mapf
 from mapf.converters import UNSOLVED, read_plan, write_plan
-from support import BAY, EXAMPLES, backends, command, written
+from support import BAY, backends, command, written
 from test_converters import PLAN, TEXTS
-from test_formats import COLUMNS, READ, REDUMPED
+from test_formats import BAY_FILES, COLUMNS, READ, REDUMPED
 
-BAY_FILES = ("--map", os.path.join(EXAMPLES, "bay.map"), "--scen", os.path.join(EXAMPLES, "bay.scen"))
 # How each format states a cost, and how it states another one.
 STATED = {
     "lacam": (TEXTS["lacam"], "soc=4", "soc=3"),
@@ -50,8 +48,9 @@ class Stated(unittest.TestCase):
                     row = json.loads(out)
                     self.assertEqual((status, err, row["line"]), (1, "", "67 wrong cost stated 3 found 4"))
                     self.assertEqual((row["number"], row["stated"], row["found"]), (67, 3, 4))
-                    text = command("convert", "--from", name, *BAY_FILES, path)[1]
-                    self.assertEqual(mapf.check(*BAY, text.encode()).number, 67)
+                    converted = command("convert", "--from", name, *BAY_FILES, path)[1].encode()
+                    for plan in (converted, read_plan(name, text.replace(right, wrong, 1).encode(), None, *BAY)):
+                        self.assertEqual(mapf.check(*BAY, plan).line, row["line"])
 
 
 class Unsolved(unittest.TestCase):

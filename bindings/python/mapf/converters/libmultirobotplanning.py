@@ -69,14 +69,15 @@ def _position(lines: Lines, first: str, time: int) -> Position:
     line: Optional[str] = first
     begin = "    - " if first.startswith("    ") else "  - "
     numbers: Dict[str, int] = {}
-    while len(numbers) < 3:
-        field = FIELD.fullmatch(line) if line is not None else None
-        if not field or field.group(1) != begin or field.group(2) in numbers:
+    for _ in "xyt":
+        if numbers:
+            line, begin = lines.next(), " " * len(begin)
+        field = FIELD.fullmatch(line or "")
+        found, key, digits = field.groups() if field else ("", "", "")
+        if found != begin or key in numbers:
             wanted = (f"`{begin}{key}: {key.upper()}`" for key in "xyt" if key not in numbers)
             raise lines.unfit(line, " or ".join(wanted))
-        numbers[field.group(2)] = _number(lines, field.group(2), int(field.group(3)), time)
-        begin = " " * len(begin)
-        line = lines.next() if len(numbers) < 3 else None
+        numbers[key] = _number(lines, key, int(digits), time)
     return numbers["x"], numbers["y"]
 
 
