@@ -63,6 +63,7 @@ SPOILED = {
         (("du", "dU"), 2), (("du", "dd"), 2), (("rr", "rx"), 3), (("rr", "rrr"), 3), (('rr"', "rr"), 3),
         (('rr"\n', 'rr"\n' + "bay,even,1,2,4,,4,,\n"), 4), (("du", "du\n"), 2), (('rr"', 'rr"x'), 3),
         (('rr"', 'r"r"'), 3), ((READ["tracker"], ""), 1), ((READ["tracker"], COLUMNS + "\n"), 2),
+        ((READ["tracker"], COLUMNS + '\n"b\nay",even,1,2,4,,4,,"du\nrx"\n'), 4),
     ),
     "robot-runners": (
         (('"MAPF"', '"MAPF_T"'), 2), (('"MAPF"', "1"), 2), (('"actionModel"', '"model"'), 1),
