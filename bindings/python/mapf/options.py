@@ -33,8 +33,11 @@ class Options(NamedTuple):
 
     def words(self) -> List[str]:
         """The words of the program's command line."""
-        words = ["--agents", str(self.agents), "--bound", str(self.bound), "--workers", str(self.workers)]
-        words += [] if self.nodes is None else ["--nodes", str(self.nodes)]
+        return ["--agents", str(self.agents), "--workers", str(self.workers), *self.limits()]
+
+    def limits(self) -> List[str]:
+        """The words that `series` has, too."""
+        words = ["--bound", str(self.bound)] + ([] if self.nodes is None else ["--nodes", str(self.nodes)])
         return words + (["--no-following"] if self.no_following else [])
 
 

@@ -91,9 +91,9 @@ class Limits(unittest.TestCase):
             self.assertEqual((refused.exception.found, refused.exception.wanted), (f"{seconds} seconds", "more than 0"))
 
     def test_options_become_words(self):
-        words = "--agents 2 --bound 9 --workers 3 --nodes 4 --no-following"
+        words = "--agents 2 --workers 3 --bound 9 --nodes 4 --no-following"
         self.assertEqual(Options(2, 9, 3, 4, True).words(), words.split())
-        self.assertEqual(Options(2).words(), "--agents 2 --bound 1000000 --workers 1".split())
+        self.assertEqual(Options(2).words(), "--agents 2 --workers 1 --bound 1000000".split())
 
 
 @unittest.skipUnless(backends(), "neither library nor program is built")

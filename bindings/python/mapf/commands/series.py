@@ -7,7 +7,7 @@ import signal
 import sys
 from typing import Any, Callable, List, Sequence
 
-from ..plan_text import MOST_AGENTS, MOST_BOUND
+from ..options import MOST_AGENTS, MOST_BOUND, MOST_NODES
 from ..plots import write_plot
 from ..series.limits import Limits
 from ..series.listing import one_a_row, one_a_scenario
@@ -44,7 +44,7 @@ def add(commands: Any) -> None:
 
 def _add_limits(parser: argparse.ArgumentParser) -> None:
     """The options that are called as the fields of `Limits`."""
-    bound, nodes, megabytes = _within(0, MOST_BOUND), _within(1, MOST_BOUND), _within(16, 1 << 30)
+    bound, nodes, megabytes = _within(0, MOST_BOUND), _within(1, MOST_NODES), _within(16, 1 << 30)
     parser.add_argument("--seconds", type=_seconds, default=10.0, metavar="S", help="the time of a run (10)")
     parser.add_argument(
         "--bound", type=bound, default=MOST_BOUND, metavar="B", help=f"the bound on the cost ({MOST_BOUND})")

@@ -3,6 +3,8 @@ from __future__ import annotations
 
 from typing import Dict, List, NamedTuple, Optional
 
+from ..options import Options
+
 
 class Limits(NamedTuple):
     """What a run may take, and the rule.
@@ -17,10 +19,9 @@ class Limits(NamedTuple):
     memory: Optional[int] = None
     no_following: bool = False
 
-    def options(self) -> List[str]:
-        """The options that the program and `series` have in common."""
-        words = ["--bound", str(self.bound), *option("--nodes", self.nodes)]
-        return words + (["--no-following"] if self.no_following else [])
+    def options(self, agents: int) -> Options:
+        """What the program is asked."""
+        return Options(agents, self.bound, 1, self.nodes, self.no_following)
 
     def around(self) -> List[str]:
         """What starts a program with no more memory."""

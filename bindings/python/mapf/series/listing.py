@@ -36,6 +36,6 @@ def _command(scenario: Scenario, agents: Agents, limits: Limits, parts: str, par
     words = ["env", f"PYTHONPATH={PACKAGE}", f"MAPF_PROGRAM={os.path.abspath(program_path())}", "python3", "-m", "mapf", "series"]
     words += ["--maps", os.path.abspath(scenario.map_path), "--scens", os.path.abspath(scenario.path)]
     words += ["--from", str(agents.first), "--step", str(agents.step), *option("--to", agents.last)]
-    words += ["--seconds", seconds_text(limits.seconds), *option("--memory", limits.memory), *limits.options()]
+    words += ["--seconds", seconds_text(limits.seconds), *option("--memory", limits.memory), *limits.options(0).limits()]
     words += ["--resume", "--csv", os.path.join(parts, part)]
     return f"mkdir -p {shlex.quote(parts)} && " + " ".join(shlex.quote(word) for word in words)

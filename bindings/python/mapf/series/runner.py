@@ -62,8 +62,8 @@ class Runner:
                     process.kill()
 
     def _words(self, scenario: Scenario, agents: int) -> List[str]:
-        words = [self._program.path, "solve", f"--map={scenario.map_path}", f"--scen={scenario.path}", "--agents", str(agents)]
-        words = [*self.limits.around(), *words, "--workers", "1", *self.limits.options()]
+        words = [*self.limits.around(), self._program.path, "solve", f"--map={scenario.map_path}", f"--scen={scenario.path}"]
+        words += self.limits.options(agents).words()
         return words + (["--progress"] if self._tells else [])
 
     def _ended(self, words: List[str]) -> Optional[Ended]:
