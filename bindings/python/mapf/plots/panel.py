@@ -10,7 +10,7 @@ from .svg import element, line, text
 
 WIDTH, HEIGHT = 372.0, 262.0
 LEFT, RIGHT, TOP, BOTTOM = 62.0, 14.0, 30.0, 44.0
-INSET, ABOVE, DOT = 10.0, 18.0, 2.4
+INSET, ABOVE, DOT = 10.0, 18.0, 3.0
 
 
 class Panel(NamedTuple):

@@ -41,7 +41,7 @@ def dots(places: Sequence[Place], style: Style) -> str:
     """A light dot at each place."""
     path = "".join(dict.fromkeys(f"M{x:.1f} {y:.1f}h0" for x, y in places))
     return element(
-        "path", d=path, fill="none", stroke=style.colour, stroke_width=2.2, stroke_linecap="round", opacity=0.4)
+        "path", d=path, fill="none", stroke=style.colour, stroke_width=2.8, stroke_linecap="round", opacity=0.4)
 
 
 def _mark(place: Place, title: str, style: Style) -> str:
