@@ -66,7 +66,11 @@ class Plots(Folder):
         self.assertEqual([len(curve) for curve in found], [2, 1])
         for taken, median in zip(found[0] + found[1], (0.02, 0.5, 2)):
             self.assertAlmostEqual(math.log10(taken), math.log10(median), delta=0.01)
-        self.assertIn("seconds (median)", self.texts(times))
+        dots = [path.get("d").split("h0")[:-1] for path in times.iter(SVG + "path") if "h0" in path.get("d")]
+        self.assertEqual([len(of_solver) for of_solver in dots], [7, 3])
+        highest = min(float(dot.split()[1]) for dot in dots[0])
+        self.assertAlmostEqual((highest - axis[1]) / (axis[10] - axis[1]), math.log10(9), delta=0.01)
+        self.assertIn("seconds, and their median", self.texts(times))
 
     def test_curves_differ_without_colours(self):
         paths = [self.series(f"solver-{number}.csv", FAST) for number in range(9)]

@@ -3,8 +3,10 @@ import csv
 import functools
 import os
 import resource
+import signal
 import subprocess
 import time
+from contextlib import suppress
 
 from series_support import FIRST_HEAD, HEAD, Folder, WithStandIn, rows_of
 from support import EXAMPLES, command, process, scen_of, with_program, written
@@ -126,6 +128,20 @@ class Files(WithStandIn):
             self.assertIn("another process writes the file", err)
         running.terminate()
         self.assertEqual(running.wait(timeout=60), 130)
+        self.program("nodes=7")
+        self.assertEqual(command(*self.words("--resume")), (0, "", ""))
+        self.assertEqual(sorted(rows_of(self.csv)), sorted(self.expected("15", "gave_up", "", "140", "7")))
+
+    def test_killed_and_resumed(self):
+        running = process(*self.words("--jobs", 3), stderr=subprocess.DEVNULL)
+        self.until(lambda: os.path.exists(self.csv) and len(self.contents().splitlines()) == 7)
+        running.kill()
+        running.wait(timeout=60)
+        for _, number in self.began():
+            with suppress(ProcessLookupError):
+                os.kill(number, signal.SIGKILL)
+        with open(self.csv, "ab") as file:
+            file.write(b"10,1000000,,,fol")
         self.program("nodes=7")
         self.assertEqual(command(*self.words("--resume")), (0, "", ""))
         self.assertEqual(sorted(rows_of(self.csv)), sorted(self.expected("15", "gave_up", "", "140", "7")))

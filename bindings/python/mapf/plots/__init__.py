@@ -7,7 +7,7 @@ from typing import Dict, List, Sequence, Tuple
 from ..faults import Fault
 from ..plan_text import shown
 from . import axes
-from .curves import Solver, most_scenarios, rate_points, solvers_of, time_points
+from .curves import Solver, most_scenarios, rate_points, runs, solvers_of, time_points
 from .panel import HEIGHT, LEFT, WIDTH, Panel
 from .styles import curve, style_of
 from .svg import element, text
@@ -77,7 +77,8 @@ def _panels(name: str, by_solver: Dict[int, Dict[int, List[float]]]) -> Tuple[Pa
     counts = f"{scenarios[0]}" if len(scenarios) == 1 else f"{scenarios[0]} to {scenarios[-1]}"
     title = f"{name}, {counts} scenario{'' if scenarios == [1] else 's'}"
     across = axes.counts([point.agents for points in rates.values() for point in points])
-    taken = [point.value for points in seconds.values() for point in points] or [1.0]
+    taken = {number: runs(by_count) for number, by_count in by_solver.items()}
+    upright = axes.decades([one for solved in taken.values() for _, one in solved] or [1.0])
     return (
-        Panel(title, "solved (%)", across, axes.percents(), rates),
-        Panel(title, "seconds (median)", across, axes.decades(taken), seconds))
+        Panel(title, "solved (%)", across, axes.percents(), rates, {}),
+        Panel(title, "seconds, and their median", across, upright, seconds, taken))

@@ -4,12 +4,14 @@ from __future__ import annotations
 import math
 import os
 from statistics import median
-from typing import Dict, List, NamedTuple, Sequence
+from typing import Dict, List, NamedTuple, Sequence, Tuple
 
 from ..series.rates import Times, solved, times
 from ..series.rows import read_series
 
 LEAST_SECONDS = 0.001
+
+Run = Tuple[int, float]
 
 
 class Solver(NamedTuple):
@@ -63,6 +65,12 @@ def time_points(by_count: Dict[int, List[float]]) -> List[Point]:
     return [
         Point(count, max(middle, LEAST_SECONDS), f"{count} agents: median {middle:.3f} s")
         for count, middle in middles.items() if math.isfinite(middle)]
+
+
+def runs(by_count: Dict[int, List[float]]) -> List[Run]:
+    """The agents and the seconds of each run that solved its instance."""
+    taken = [(count, one) for count, seconds in sorted(by_count.items()) for one in seconds]
+    return [(count, max(one, LEAST_SECONDS)) for count, one in taken if math.isfinite(one)]
 
 
 def most_scenarios(by_count: Dict[int, List[float]]) -> int:

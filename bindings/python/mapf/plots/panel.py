@@ -4,30 +4,37 @@ from __future__ import annotations
 from typing import Dict, List, NamedTuple
 
 from .axes import Axis
-from .curves import Point
-from .styles import curve, style_of
+from .curves import Point, Run
+from .styles import curve, dots, style_of
 from .svg import element, line, text
 
 WIDTH, HEIGHT = 372.0, 262.0
 LEFT, RIGHT, TOP, BOTTOM = 62.0, 14.0, 30.0, 44.0
-INSET, ABOVE = 10.0, 18.0
+INSET, ABOVE, DOT = 10.0, 18.0, 3.0
 
 
 class Panel(NamedTuple):
-    """A title, what the upright axis is called, both axes, and each solver's points by its number."""
+    """A title, what the upright axis is called, both axes, and by each solver's number its points and its runs."""
 
     title: str
     label: str
     across: Axis
     upright: Axis
     points: Dict[int, List[Point]]
+    runs: Dict[int, List[Run]]
 
     def draw(self, left: float, top: float) -> str:
         """The panel with its upper left there."""
         parts = [*self._frame(), *self._agents(), *self._values()]
+        parts += [self._dots(solver, runs) for solver, runs in self.runs.items() if runs]
         for solver, points in self.points.items():
             parts += self._curve(solver, points)
         return element("g", "\n".join(["", *parts, ""]), transform=f"translate({left:.1f} {top:.1f})")
+
+    def _dots(self, solver: int, runs: List[Run]) -> str:
+        """A dot for each run, those of a solver beside those of the one before."""
+        beside = DOT * (solver - max(self.runs) / 2)
+        return dots([(self._x(agents) + beside, self._y(seconds)) for agents, seconds in runs], style_of(solver))
 
     def _curve(self, solver: int, points: List[Point]) -> List[str]:
         """The curve, and the notes beside its marks."""

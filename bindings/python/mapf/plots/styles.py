@@ -37,6 +37,13 @@ def curve(line: Sequence[Place], marks: Sequence[Place], titles: Sequence[str], 
     return element("g", "\n".join(["", *parts, ""]), fill=style.fill, stroke=style.colour, stroke_width=1.4)
 
 
+def dots(places: Sequence[Place], style: Style) -> str:
+    """A light dot at each place."""
+    path = "".join(dict.fromkeys(f"M{x:.1f} {y:.1f}h0" for x, y in places))
+    return element(
+        "path", d=path, fill="none", stroke=style.colour, stroke_width=2.8, stroke_linecap="round", opacity=0.4)
+
+
 def _mark(place: Place, title: str, style: Style) -> str:
     at = "translate({:.1f} {:.1f})".format(*place)
     return element("path", element("title", shown(title)) if title else "", d=style.mark, transform=at)
