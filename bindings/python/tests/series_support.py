@@ -71,8 +71,10 @@ class WithStandIn(Folder):
 
     def program(self, says, shown="", version="7.8.9"):
         text = STAND_IN.format(folder=self.folder, help=shown, says=says, version=version)
-        path = written(self.folder, "program", text)
+        path = written(self.folder, "program.new", text)
         os.chmod(path, 0o755)
+        # A file that a run just begins with can't be written to.
+        os.replace(path, os.path.join(self.folder, "program"))
 
     def began(self):
         """The agents and the process of each run that began."""

@@ -102,7 +102,7 @@ class TwoMaps(Folder):
 
 class StandIn(WithStandIn):
     def test_the_first_that_is_out_of_time_is_the_last(self):
-        self.assertEqual(command(*self.words("--seconds", 0.5, "--jobs", 3)), (0, "", ""))
+        self.assertEqual(command(*self.words("--seconds", 3, "--jobs", 3)), (0, "", ""))
         self.assertEqual(sorted(rows_of(self.csv), key=lambda row: (row[1], int(row[2]))), self.expected("15", "out_of_time", "", "", ""))
         self.assertEqual(sorted(agents for agents, _ in self.began()), [5, 5, 5, 10, 10, 10, 15, 15, 15])
         self.gone()
@@ -126,7 +126,7 @@ class StandIn(WithStandIn):
     def test_what_the_program_tells_of_its_search(self):
         says = 'echo "mapf: 0 nodes, no plan costs less than 90" >&2; echo "mapf: 77 nodes, no plan costs less than 99" >&2'
         self.program(says, "--progress")
-        command(*self.words("--seconds", 0.5, "--jobs", 3))
+        command(*self.words("--seconds", 3, "--jobs", 3))
         rows = sorted(rows_of(self.csv), key=lambda row: (row[1], int(row[2])))
         self.assertEqual([row[2:] for row in rows[:3]], [
             ["5", "solved", "50", "", "77"], ["10", "solved", "100", "", "77"], ["15", "out_of_time", "", "99", "77"]])
@@ -159,11 +159,11 @@ class StandIn(WithStandIn):
         heard = signal.signal(signal.SIGINT, signal.default_int_handler)
         running = process(*self.words("--jobs", 3), stderr=subprocess.PIPE)
         signal.signal(signal.SIGINT, heard)
-        end = time.monotonic() + 30
+        end = time.monotonic() + 60
         while time.monotonic() < end and not (os.path.exists(self.folder + "/began") and [a for a, _ in self.began()].count(15) == 3):
             time.sleep(0.02)
         running.send_signal(number)
-        _, err = running.communicate(timeout=30)
+        _, err = running.communicate(timeout=60)
         self.assertEqual(running.returncode, 130)
         self.assertIn(b"stopped; ", err)
 

@@ -82,7 +82,7 @@ class Asked(WithStandIn):
 
     def test_a_file_that_a_spreadsheet_saved(self):
         self.program("nodes=7")
-        command(*self.words("--seconds", 0.5, "--jobs", 3))
+        command(*self.words("--jobs", 3))
         lines = self.contents().decode().splitlines()
         _, rates, _ = command("series", "--csv", self.csv, "--rates")
         seconds = ("0.02", "1", "0.5", "0", "12.25", "0.1", "3", "4", "0.001")
@@ -91,7 +91,7 @@ class Asked(WithStandIn):
         self.assertEqual(command("series", "--csv", self.csv, "--rates"), (0, rates, ""))
         self.assertIn("| 100 % | 100 % | 0 % |", rates)
         runs = len(self.began())
-        self.assertEqual(command(*self.words("--seconds", 0.5, "--resume")), (0, "", ""))
+        self.assertEqual(command(*self.words("--resume")), (0, "", ""))
         self.assertEqual(sorted(rows_of(self.csv)), sorted(self.expected("15", "gave_up", "", "140", "7")))
         self.assertEqual(len(self.began()), runs)
 
