@@ -50,7 +50,7 @@ def _add_limits(parser: argparse.ArgumentParser) -> None:
         "--bound", type=bound, default=MOST_BOUND, metavar="B", help=f"the bound on the cost ({MOST_BOUND})")
     parser.add_argument(
         "--nodes", type=nodes, metavar="N", help="a limit on nodes, behind which a lower bound is known")
-    parser.add_argument("--memory", type=megabytes, metavar="MB", help="the memory of a run: MB of address space, 16 at least")
+    parser.add_argument("--memory", type=megabytes, metavar="MB", help="the address space of a run in MB, 16 at least")
     parser.add_argument("--no-following", action="store_true", help="no agent may enter a cell in the step in which another leaves it")
 
 
