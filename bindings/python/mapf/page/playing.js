@@ -1,0 +1,64 @@
+// Time and camera.
+
+let asked = false, before = 0;
+function redraw() {
+  if (!asked) requestAnimationFrame(frame);
+  asked = true;
+}
+/** @param {number} now */
+function frame(now) {
+  asked = false;
+  if (state.playing) setTime(state.time + (Math.min(100, now - before) / 1000) * Number($("speed").value));
+  if (state.playing && state.time >= (state.plan?.end ?? 0)) setPlaying(false);
+  before = now;
+  draw();
+}
+/** @param {number} time */
+function setTime(time) {
+  const end = state.plan?.end ?? 0;
+  state.time = $("time").value = Math.min(end, Math.max(0, time));
+  $("clock").innerHTML = `<b>${state.playing ? Math.floor(state.time) : Number(state.time.toFixed(1))}</b> / ${end}`;
+  redraw();
+}
+/** @param {boolean} playing */
+function setPlaying(playing) {
+  if (playing && state.time >= (state.plan?.end ?? 0)) state.time = 0;
+  state.playing = playing && state.plan !== null;
+  before = performance.now();
+  $("play").setAttribute("aria-pressed", String(state.playing));
+  setTime(state.time);
+}
+/** Goes to a time, and stays there. @param {number} time */
+function stay(time) {
+  setPlaying(false);
+  setTime(time);
+}
+/** Slower or faster. @param {number} by */
+const pace = (by) => { $("speed").selectedIndex = Math.min(5, Math.max(0, $("speed").selectedIndex + by)); };
+function goToFault() {
+  const { plan, fault } = state;
+  if (!fault || !plan) return;
+  stay(fault.at);
+  const [x, y] = faultPlace(plan, fault);
+  if (camera.scale >= 14 && isSeen(...onScreen(x, y), 50)) return;
+  Object.assign(camera, { x: x + 0.5, y: y + 0.5, scale: Math.max(camera.scale, 26) });
+}
+/** The whole map. */
+function fit() {
+  const { width, height } = state.grid ?? { width: 1, height: 1 };
+  const scale = Math.min((view.clientWidth - 56) / width, (view.clientHeight - 56) / height, 130);
+  Object.assign(camera, { scale, x: width / 2, y: height / 2 });
+  redraw();
+}
+/** Around a point of the view. @param {number} factor @param {number} [x] @param {number} [y] */
+function zoom(factor, x = view.clientWidth / 2, y = view.clientHeight / 2) {
+  const grown = Math.min(160, Math.max(0.25, camera.scale * factor)) / camera.scale;
+  camera.scale *= grown;
+  slide((x - view.clientWidth / 2) * (grown - 1), (y - view.clientHeight / 2) * (grown - 1));
+}
+/** Moves the camera by pixels of the view. @param {number} x @param {number} y */
+function slide(x, y) {
+  camera.x += x / camera.scale;
+  camera.y += y / camera.scale;
+  redraw();
+}
