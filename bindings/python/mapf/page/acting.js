@@ -1,19 +1,17 @@
 // What the reader does, and how the page begins.
-
 /** @param {string} kind @param {Source | null} source */
 function take(kind, source) {
   const bytes = source?.bytes ?? new Uint8Array(0);
   state.files[kind] = source;
-  if (kind === "scen") state.rows = readRows(bytes);
   if (kind === "map") {
     state.grid = readMap(bytes);
     drawWalls();
     fit();
   }
+  if (kind === "scen") state.rows = readRows(bytes);
   if (kind !== "plan") return;
   const text = textOf(bytes);
-  state.plan = readPlan(text);
-  state.chosen = null;
+  [state.plan, state.chosen] = [readPlan(text), null];
   if ($("text").value !== text) $("text").value = text.length < 2e5 ? text : "";
   stay(0);
 }
@@ -42,21 +40,15 @@ function refresh() {
   $("pin").hidden = $("go").hidden = !fault;
   $("pin").style.left = `calc(8px + ${(fault?.at ?? 0) / Math.max(1, plan?.end ?? 0)} * (100% - 16px))`;
   $("moving").setAttribute("d", plan ? onTheWay(plan) : "");
-  $("agents").replaceChildren(...(plan?.lasts ?? []).map(chip));
+  $("agents").innerHTML = plan?.lasts.map(chip).join("") ?? "";
   painted = "";
   redraw();
 }
-/** A button that chooses an agent. @param {number} cost @param {number} i */
-function chip(cost, i) {
-  const button = document.createElement("button");
-  button.className = "chip";
-  button.setAttribute("aria-pressed", String(i === state.chosen));
-  button.innerHTML = `<i style="background:${hues[i]}"></i>${i} <small>${cost}</small>`;
-  button.onclick = () => choose(i);
-  return button;
-}
-/** The outline of how many agents are on their way at each time, in a square of 1 by 1. @param {Plan} plan */
-function onTheWay({ lasts, end }) {
+/** The button that chooses an agent. */
+const chip = (/** @type {number} */ cost, /** @type {number} */ i) => `<button aria-pressed="${i === state.chosen}">` +
+  `<i style="background:${hues[i]}"></i>${i} <small>${cost}</small></button>`;
+/** The outline of how many agents are on their way at each time, in a square of 1 by 1. */
+function onTheWay(/** @type {Plan} */ { lasts, end }) {
   const columns = Math.min(end, 300), late = [...lasts].sort((a, b) => a - b);
   let outline = "M0 1", arrived = 0;
   for (let column = 0; column < columns; column++) {
@@ -70,29 +62,17 @@ function choose(i) {
   state.chosen = state.chosen === i ? null : i;
   refresh();
 }
-/** The agent under the pointer. @param {PointerEvent} event */
-function under({ offsetX, offsetY }) {
-  const middles = agents().map(([x, y]) => onScreen(x, y)), most = Math.max(9, camera.scale * 0.45);
-  const i = middles.findIndex(([x, y]) => Math.hypot(x - offsetX, y - offsetY) < most);
-  return i < 0 ? null : i;
-}
 /** @param {"trails" | "goals"} what */
 function flip(what) {
-  state[what] = !state[what];
-  $(what).setAttribute("aria-pressed", String(state[what]));
+  $(what).setAttribute("aria-pressed", String(state[what] = !state[what]));
   refresh();
-}
-function save() {
-  const { plan } = state.files, href = URL.createObjectURL(new Blob([plan?.bytes ?? ""]));
-  Object.assign(document.createElement("a"), { href, download: plan?.name }).click();
-  URL.revokeObjectURL(href);
 }
 /** @type {Record<string, () => unknown>} */
 const keys = {
   " ": () => setPlaying(!state.playing), ArrowLeft: () => stay(Math.ceil(state.time) - 1), Home: () => stay(0),
   ArrowRight: () => stay(Math.floor(state.time) + 1), End: () => stay(Infinity), c: goToFault, s: solve,
   t: () => flip("trails"), g: () => flip("goals"), "[": () => pace(-1), "]": () => pace(1), "+": () => zoom(1.25),
-  "=": () => zoom(1.25), "-": () => zoom(0.8), 0: fit, "?": () => $("help").showModal(), Escape: () => choose(null),
+  "=": () => zoom(1.25), "-": () => zoom(0.8), 0: fit, Escape: () => choose(null),
   "⇧ArrowLeft": () => slide(-60, 0), "⇧ArrowRight": () => slide(60, 0), "⇧ArrowUp": () => slide(0, -60),
   "⇧ArrowDown": () => slide(0, 60),
 };
@@ -102,32 +82,34 @@ for (const [id, key] of Object.entries(buttons)) $(id).onclick = () => keys[key]
 addEventListener("keydown", (event) => {
   const at = /** @type {HTMLElement} */ (event.target), { key } = event;
   const act = keys[key.length === 1 ? key.toLowerCase() : (event.shiftKey ? "⇧" : "") + key];
-  if (!act || event.ctrlKey || event.metaKey || event.altKey || $("help").open) return;
-  if (at.matches(key === " " ? "button, summary, input, textarea" : "textarea, select, input[type=number]")) return;
+  if (!act || event.ctrlKey || event.metaKey || event.altKey) return;
+  if (at.matches(`textarea, select, input[type=number]${key === " " ? ", button, summary, input" : ""}`)) return;
   act();
   event.preventDefault();
 });
 $("time").oninput = () => stay(Number($("time").value));
 $("count").onchange = $("rule").onchange = () => judge();
-$("save").onclick = save;
-let typing = 0;
+$("save").onclick = () => {
+  const { plan } = state.files, href = URL.createObjectURL(new Blob([plan?.bytes ?? ""]));
+  Object.assign(document.createElement("a"), { href, download: plan?.name }).click();
+  URL.revokeObjectURL(href);
+};
+$("agents").onclick = (/** @type {any} */ { target }) => {
+  const i = [...$("agents").children].indexOf(target.closest("button"));
+  if (i >= 0) choose(i);
+};
 $("text").oninput = () => {
-  clearTimeout(typing);
-  typing = setTimeout(() => {
-    take("plan", { name: "edited.plan", bytes: bytesOf($("text").value) });
-    judge();
-  }, 250);
+  take("plan", { name: "edited.plan", bytes: bytesOf($("text").value) });
+  judge();
 };
 for (const kind of ["map", "scen", "plan"]) {
   $(`file-${kind}`).onchange = () => openAll($(`file-${kind}`).files).then(() => { $(`file-${kind}`).value = ""; });
 }
-for (const name of /** @type {const} */ (["dragover", "dragleave", "drop"])) {
-  addEventListener(name, (event) => {
-    event.preventDefault();
-    $("drop").hidden = name !== "dragover";
-    if (name === "drop" && event.dataTransfer) openAll(event.dataTransfer.files);
-  });
-}
+window.ondragover = window.ondragleave = window.ondrop = (event) => {
+  event.preventDefault();
+  $("drop").hidden = event.type !== "dragover";
+  if (event.type === "drop" && event.dataTransfer) openAll(event.dataTransfer.files);
+};
 /** @type {Map<number, PointerEvent>} */ const held = new Map();
 let moved = 0;
 view.onpointerdown = (event) => {
@@ -139,15 +121,17 @@ view.onpointermove = (event) => {
   const old = held.get(event.pointerId), other = [...held.values()].find((one) => one.pointerId !== event.pointerId);
   if (!old) return;
   const [x, y] = [old.offsetX - event.offsetX, old.offsetY - event.offsetY], { offsetX, offsetY } = other ?? old;
-  const far = (/** @type {PointerEvent} */ one) => Math.max(1, Math.hypot(one.offsetX - offsetX, one.offsetY - offsetY));
-  if (other) zoom(far(event) / far(old), (event.offsetX + offsetX) / 2, (event.offsetY + offsetY) / 2);
+  const far = (/** @type {PointerEvent} */ one) => Math.hypot(one.offsetX - offsetX, one.offsetY - offsetY);
+  if (other) zoom(far(event) / Math.max(1, far(old)), (event.offsetX + offsetX) / 2, (event.offsetY + offsetY) / 2);
   slide(x / held.size, y / held.size);
   moved += Math.hypot(x, y);
   held.set(event.pointerId, event);
 };
-view.onpointerup = view.onpointercancel = (event) => {
-  held.delete(event.pointerId);
-  if (moved < 5) choose(under(event));
+view.onpointerup = view.onpointercancel = ({ pointerId, offsetX, offsetY }) => {
+  held.delete(pointerId);
+  const far = agents().map(([x, y]) => onScreen(x, y)).map(([x, y]) => Math.hypot(x - offsetX, y - offsetY));
+  const i = far.findIndex((one) => one < Math.max(9, camera.scale * 0.45));
+  if (moved < 5) choose(i < 0 ? null : i);
 };
 view.onwheel = (event) => {
   event.preventDefault();

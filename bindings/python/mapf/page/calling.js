@@ -1,5 +1,4 @@
 // The proved calls, in a worker of their own, so that a search can be ended and the page goes on.
-
 /** @typedef {{ status: number, text: string, ms: number, pages: number }} Reply */
 const STOPPED = -2, FAILED = -1;
 /** What a call takes behind its files, in the order of bindings/c/mapf.h: BigInt for uint64_t, a number for a byte. */

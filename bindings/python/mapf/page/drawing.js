@@ -1,25 +1,20 @@
 // The picture: map and goals on a ground that is kept while nothing of it changes, and on it the agents.
-
-/** @typedef {CanvasRenderingContext2D} Pen */
 const engine = new Engine();
 const state = {
   /** @type {Record<string, Source | null>} */ files: { map: null, scen: null, plan: null },
-  /** @type {Grid | null} */ grid: null, /** @type {number[][]} */ rows: [],
-  /** @type {Plan | null} */ plan: null, /** @type {Fault | null} */ fault: null,
-  /** @type {number | null} */ chosen: null,
+  grid: /** @type {?Grid} */ (null), rows: /** @type {number[][]} */ ([]), chosen: /** @type {?number} */ (null),
+  plan: /** @type {?Plan} */ (null), fault: /** @type {?Fault} */ (null),
   time: 0, playing: false, trails: false, goals: true, solving: false,
 };
 /** The pixels of a cell, and the middle of the view in cells. */
 const camera = { scale: 20, x: 0, y: 0 };
 /** @type {HTMLCanvasElement} */ const view = $("view");
 const walls = document.createElement("canvas"), ground = document.createElement("canvas");
-const penOf = (/** @type {HTMLCanvasElement} */ canvas) => /** @type {Pen} */ (canvas.getContext("2d"));
-const pen = penOf(view), dark = matchMedia("(prefers-color-scheme: dark)");
-/** @type {Record<string, string>} */ const colours = {};
-/** @type {string[]} */ const hues = [];
+const penOf = (/** @type {any} */ canvas) => /** @type {CanvasRenderingContext2D} */ (canvas.getContext("2d"));
+const pen = penOf(view), paint = penOf(ground), dark = matchMedia("(prefers-color-scheme: dark)");
+const colours = /** @type {Record<string, string>} */ ({}), hues = /** @type {string[]} */ ([]);
 /** The size and camera that the ground was painted for; empty where all of it changed. */ let painted = "";
 const count = () => Math.min(1000, Math.max(0, Math.floor(Number($("count").value)) || 0));
-
 /** The page's colours; and the agents', whose hues are a golden angle apart, so that neighbours differ. */
 function readColours() {
   const probe = document.body.appendChild(document.createElement("i"));
@@ -39,8 +34,7 @@ function drawWalls() {
   for (let i = 0; i < pixels.length; i++) if (!free[i]) pixels[i] = (255 << 24) | (blue << 16) | (green << 8) | red;
   penOf(walls).putImageData(image, 0, 0);
 }
-/** Where agent i is at a time, between two cells too; it stays on its last.
- * @param {Plan} plan @param {number} i @param {number} time @returns {[number, number]} */
+/** @param {Plan} plan @param {number} i @param {number} time @returns {[number, number]} between two cells, too */
 function place(plan, i, time) {
   const path = plan.paths[i], now = Math.min(time, plan.lasts[i]), from = Math.floor(now), to = Math.ceil(now);
   const part = now - from, ease = part * part * (3 - 2 * part), [x, y] = [path[2 * from], path[2 * from + 1]];
@@ -56,7 +50,6 @@ const faint = (/** @type {number} */ i) => state.chosen !== null && state.chosen
 /** Where the agents are now. */
 const agents = () => state.plan?.paths.map((_, i) => place(/** @type {Plan} */ (state.plan), i, state.time)) ??
   state.rows.slice(0, count());
-
 function draw() {
   const { plan, fault } = state, ratio = devicePixelRatio;
   const size = [view.clientWidth, view.clientHeight].map((side) => Math.round(side * ratio));
@@ -73,7 +66,7 @@ function draw() {
 }
 /** @param {number[]} size in the screen's pixels @param {number} ratio of those to the page's */
 function drawGround(size, ratio) {
-  const grid = state.grid ?? { width: 0, height: 0 }, paint = penOf(ground), [left, top] = onScreen(-0.5, -0.5);
+  const grid = state.grid ?? { width: 0, height: 0 }, [left, top] = onScreen(-0.5, -0.5);
   const s = camera.scale, [right, bottom] = onScreen(grid.width - 0.5, grid.height - 0.5);
   const fill = (/** @type {string} */ colour, /** @type {number[]} */ [x0, y0, x1, y1]) => {
     paint.fillStyle = colour;
@@ -87,10 +80,10 @@ function drawGround(size, ratio) {
   for (let y = top; s >= 7 && y < bottom; y += s) fill(colours.grid, [left, Math.round(y), right, Math.round(y) + 1]);
   paint.imageSmoothingEnabled = s < 1;
   paint.drawImage(walls, left, top, right - left, bottom - top);
-  if (state.goals) agents().forEach((_, i) => drawGoal(paint, i));
+  if (state.goals) agents().forEach((_, i) => drawGoal(i));
 }
-/** @param {Pen} paint @param {number} i */
-function drawGoal(paint, i) {
+/** @param {number} i */
+function drawGoal(i) {
   const [goalX, goalY] = state.rows[i]?.slice(2) ?? state.plan?.paths[i].slice(-2) ?? [];
   const [x, y] = onScreen(goalX, goalY), s = camera.scale, half = Math.max(2, s * 0.37);
   if (!isSeen(x, y, -s)) return;
@@ -102,8 +95,8 @@ function drawGoal(paint, i) {
   paint.fillRect(x - half, y - half, 2 * half, 2 * half);
   paint.globalAlpha = 1;
 }
-/** Where agent i went; of the chosen one all of its way. @param {Plan} plan @param {number} i */
-function drawTrail(plan, i) {
+/** Where agent i went; of the chosen one all of its way. */
+function drawTrail(/** @type {Plan} */ plan, /** @type {number} */ i) {
   const path = plan.paths[i], now = i === state.chosen ? plan.lasts[i] : Math.min(state.time, plan.lasts[i]);
   pen.strokeStyle = hues[i];
   pen.lineJoin = pen.lineCap = "round";
@@ -137,20 +130,12 @@ function drawWords(text, x, y, size, colour) {
   [pen.textAlign, pen.textBaseline] = ["center", "middle"];
   pen.fillText(text, x, y + size * 0.05);
 }
-/** The middle of where a fault is, in cells. @param {Plan} plan @param {Fault} fault @returns {[number, number]} */
-function faultPlace(plan, fault) {
-  const at = fault.cells.length ? fault.cells : fault.agents.map((i) => place(plan, i, fault.at));
-  const mean = (/** @type {number} */ side) => at.reduce((sum, cell) => sum + cell[side], 0) / at.length;
-  return [mean(0), mean(1)];
-}
-/** A ring; near its time what it is; two agents in one place side by side. @param {Plan} plan @param {Fault} fault */
-function drawFault(plan, fault) {
-  const [x, y] = onScreen(...faultPlace(plan, fault)), s = Math.max(camera.scale, 9);
-  const radius = s * (fault.cells.length === 2 ? 1.05 : 0.75), near = 1 - Math.abs(state.time - fault.at) / 1.5;
-  const [a, b] = fault.agents.map((i) => onScreen(...place(plan, i, state.time)));
-  if (b && Math.hypot(a[0] - b[0], a[1] - b[1]) < 0.3 * s) {
-    fault.agents.forEach((i, side) => drawAgent(i, (a[0] + b[0]) / 2 + (side - 0.5) * s * 0.5, (a[1] + b[1]) / 2));
-  }
+/** A ring; near its time what it is; two agents in one place side by side. */
+function drawFault(/** @type {Plan} */ plan, /** @type {Fault} */ fault) {
+  const [x, y] = onScreen(...fault.middle), s = Math.max(camera.scale, 9), radius = 0.8 * s;
+  const near = 1 - Math.abs(state.time - fault.at) / 1.5, at = fault.agents.map((i) => place(plan, i, state.time));
+  const apart = at[1] && Math.hypot(at[0][0] - at[1][0], at[0][1] - at[1][1]);
+  if (apart < 0.3) fault.agents.forEach((i, side) => drawAgent(i, x + (side - 0.5) * s * 0.6, y));
   pen.globalAlpha = 0.35 + 0.65 * Math.max(0, near);
   pen.strokeStyle = pen.fillStyle = colours.bad;
   pen.lineWidth = Math.max(1.5, s * 0.08);

@@ -1,10 +1,7 @@
 // The verdict, and the search.
-
 const MARKS = { good: "m3 8.5 3.2 3.2L13 4.8", bad: "m4 4 8 8M12 4l-8 8", busy: "M8 4v4l3 2", idle: "M5 8h6" };
-const OLD_BROWSER = "It lacks WebAssembly's 64-bit memory, which Chromium 133, Firefox 134 and later ones have. " +
-  "The picture is shown without a verdict.";
-const NO_CHECKER = "This page was made with one verdict, and has no checker for another.";
-
+const OLD = "It lacks 64-bit memory for WebAssembly, which Chromium 133, Firefox 134 and later ones have: no verdict.";
+const NONE = "This page was made with one verdict, and has no checker for another.";
 /** @param {keyof typeof MARKS} look @param {string} title @param {string} line @param {string} note */
 function show(look, title, line, note) {
   $("verdict").className = `card ${look}`;
@@ -13,28 +10,23 @@ function show(look, title, line, note) {
   refresh();
 }
 const spent = (/** @type {number} */ ms) => (ms < 1000 ? `${Math.ceil(ms)} ms` : `${(ms / 1000).toFixed(1)} s`);
-
-/** Says what was answered of the plan. @param {number} status @param {string} line @param {string} note */
-function tell(status, line, note) {
+/** Says what the checker answered. */
+function tell(/** @type {number} */ status, /** @type {string} */ line, /** @type {string} */ note) {
   if (status === 1 && state.plan) state.fault = readFault(line, state.plan);
-  const title = line === "no plan given" ? "No plan given" : line.startsWith("66") ? "A conflict" : "Not valid";
   if (status === 0) show("good", `Valid, cost ${line.split(" ")[1]}`, line, note);
-  else if (status === 1) show("bad", title, line, note);
-  else refuse(status, line);
-}
-/** @param {number} status @param {string} line */
-function refuse(status, line) {
-  if (status === STOPPED) show("idle", "Stopped", "", "");
+  else if (status === 1) show("bad", line.startsWith("66") ? "A conflict" : "Not valid", line, note);
+  else if (status === STOPPED) show("idle", "Stopped", "", "");
   else if (status === FAILED) show("bad", "No verdict", line, "The page or the browser failed.");
   else if (status === 4) show("bad", "Out of memory", line, "Take fewer agents, or a limit on nodes.");
   else show("bad", "Refused", line, "The line names the first fault of the files and numbers.");
 }
-/** Judges the plan by the proved checker, if all three files are there. @param {string} note what is said besides */
-async function judge(note = "") {
+/** Judges the plan by the proved checker, if all three files are there. */
+async function judge(/** @type {string} */ note = "") {
   const { map, scen, plan } = state.files;
+  engine.stop();
   state.fault = null;
-  if (engine.size && !engine.module) return show("idle", "This browser can't run the checker", "", OLD_BROWSER);
-  if (!engine.module) return show("idle", "No verdict", "", NO_CHECKER);
+  if (engine.size && !engine.module) return show("idle", "This browser can't run the checker", "", OLD);
+  if (!engine.module) return show("idle", "No verdict", "", NONE);
   if (!map || !scen) return show("idle", "No verdict yet", "", "Give a map, a scenario and a plan.");
   if (!plan) return show("idle", "No verdict yet", "", "Give a plan, or let the solver find one.");
   refresh();
@@ -60,7 +52,7 @@ async function solve() {
   const line = text.trim(), bound = line.split(" ").pop();
   if (status === 6) return show("idle", "Gave up", line, `No valid plan costs less than ${bound}.`);
   if (status === 1) return show("bad", "No plan", line, `No valid plan costs ${bound} at most.`);
-  if (status !== 0) return refuse(status, line);
+  if (status !== 0) return tell(status, line, "");
   take("plan", { name: "solved.plan", bytes: bytesOf(text) });
   await judge(`No valid plan costs less. Found in ${passed()}, ${Math.round(pages / 16)} MiB. `);
   if (!matchMedia("(prefers-reduced-motion: reduce)").matches) setPlaying(true);
