@@ -129,8 +129,9 @@ class Browser:
             file.write(base64.b64decode(self.send("Page.captureScreenshot", format="png")["data"]))
 
     def complaints(self):
-        """What the console says of errors and of what the policy forbids."""
-        return [told for told in self.events if told["method"] in ("Runtime.exceptionThrown", "Log.entryAdded", "Runtime.consoleAPICalled")]
+        """The errors that the console has, of the script and of what the policy forbids."""
+        return [told["params"] for told in self.events
+                if told["method"] == "Runtime.exceptionThrown" or told["params"].get("entry", {}).get("level") == "error"]
 
     def close(self):
         """Ends the browser and all that it started."""

@@ -1,0 +1,70 @@
+"""What the tests of the page share: a browser, the page with the module in it, and what it shows."""
+import os
+import shutil
+import tempfile
+import unittest
+
+import mapf._program
+from browser import Browser
+from mapf._input import Input
+from support import ROOT, written
+
+PAGE = os.path.join(ROOT, "bindings", "out", "mapf.html")
+SETTLED = "engine.answer === null && !state.solving"
+
+
+class PageTest(unittest.TestCase):
+    """Tests with one browser. files: how many were chosen."""
+
+    files = 0
+
+    @classmethod
+    def setUpClass(cls):
+        cls.folder = tempfile.mkdtemp(prefix="mapf-page-")
+        cls.addClassCleanup(shutil.rmtree, cls.folder)
+        cls.browser = Browser()
+        cls.addClassCleanup(cls.browser.close)
+
+    def tearDown(self):
+        self.assertEqual(self.browser.complaints(), [])
+
+    def load(self, **contents):
+        """Chooses files (`map`, `scen`, `plan`), one behind the other."""
+        for kind, text in contents.items():
+            PageTest.files += 1
+            path = written(self.folder, f"{PageTest.files}.{kind}", text)
+            self.browser.choose(f"#file-{kind}", path)
+            self.browser.until(f"$('name-{kind}').textContent === '{PageTest.files}.{kind}' && {SETTLED}")
+
+    def enter(self, field, number):
+        """Enters a number in a field, as a reader does."""
+        self.browser.value(f"$('{field}').value = '{number}', $('{field}').dispatchEvent(new Event('change'))")
+        self.browser.until(SETTLED)
+
+    def shown(self):
+        """The verdict's title and line."""
+        self.browser.until(SETTLED)
+        return tuple(self.browser.value("[$('title').textContent, $('line').textContent]"))
+
+    def painted(self):
+        """Waits until what changed is painted."""
+        self.browser.value("new Promise((seen) => requestAnimationFrame(() => requestAnimationFrame(() => seen(1))))")
+
+    def pixel(self, x, y):
+        """The colour of the picture at a point, in cells."""
+        self.painted()
+        return self.browser.value(
+            f"(() => {{ const [x, y] = onScreen({x}, {y}); const data = pen.getImageData(Math.round(x), Math.round(y), 1, 1).data; "
+            "return `rgb(${data[0]}, ${data[1]}, ${data[2]})`; })()")
+
+
+def program_check(grid, scen, plan, agents, rule=False):
+    """The status and the line of the program."""
+    inputs = Input("map", grid, None), Input("scenario", scen, None), Input("plan", plan, None)
+    status, line = mapf._program.Program().check(*inputs, agents, rule)
+    return status, line.rstrip("\n")
+
+
+def program_solve(grid, scen, agents, bound=1_000_000, nodes=None, rule=False):
+    """The status and the text of the program."""
+    return mapf._program.Program().solve(Input("map", grid, None), Input("scenario", scen, None), agents, bound, nodes, rule)
