@@ -1,6 +1,6 @@
-/* The heap of the page's module: what Rattle code calls for memory, over memory.grow. Blocks are of 16, 32, 48 and 64 bytes,
- * and from there on of 5, 6, 7 and 8 quarters of each power of two; a freed block is kept in the list of its size. The page
- * starts the module anew for each call, so that nothing is ever given back. */
+/* The heap of the page's module: what Rattle code calls for memory, over memory.grow. Blocks are of 16, 32, 48 and 64
+ * bytes, and above of 5, 6, 7 and 8 quarters of each power of two; a freed block is kept in the list of its size.
+ * The page starts the module anew for each call, so that nothing is ever given back. */
 typedef unsigned long size;
 typedef struct { size is_given; void *at; } tried; /* as the lowered code reads it: of is_given the first byte */
 typedef struct block { struct block *next; } block;
@@ -69,6 +69,7 @@ typedef unsigned __int128 wide;
 wide __multi3(wide a, wide b) {
     size a0 = (unsigned)a, a1 = (size)a >> 32, b0 = (unsigned)b, b1 = (size)b >> 32, low = a0 * b0;
     size middle = (low >> 32) + (unsigned)(a0 * b1) + (unsigned)(a1 * b0);
-    size high = a1 * b1 + (a0 * b1 >> 32) + (a1 * b0 >> 32) + (middle >> 32) + (size)a * (size)(b >> 64) + (size)(a >> 64) * (size)b;
+    size high = a1 * b1 + (a0 * b1 >> 32) + (a1 * b0 >> 32) + (middle >> 32);
+    high += (size)a * (size)(b >> 64) + (size)(a >> 64) * (size)b;
     return ((wide)high << 64) | (middle << 32) | (unsigned)low;
 }

@@ -12,8 +12,9 @@ import time
 
 DEADLINE = 60
 PROGRAM = next(filter(None, map(shutil.which, ("chromium", "chromium-browser", "google-chrome"))), None)
-FLAGS = ("--headless=new", "--no-sandbox", "--disable-gpu", "--disable-dev-shm-usage", "--no-first-run", "--disable-sync",
-         "--disable-component-update", "--disable-background-networking", "--disable-breakpad", "--remote-debugging-pipe")
+FLAGS = (
+    "--headless=new", "--no-sandbox", "--disable-gpu", "--disable-dev-shm-usage", "--no-first-run", "--disable-sync",
+    "--disable-component-update", "--disable-background-networking", "--disable-breakpad", "--remote-debugging-pipe")
 # Chromium reads its commands from file 3, and answers to file 4.
 STARTER = """import os, sys
 os.dup2(int(sys.argv[1]), 103), os.dup2(int(sys.argv[2]), 104)
@@ -50,7 +51,8 @@ class Browser:
         for domain in ("Page", "Runtime", "Log", "Network", "DOM"):
             self.send(domain + ".enable")
         self.send("Emulation.setDeviceMetricsOverride", width=width, height=height, deviceScaleFactor=1, mobile=False)
-        self.send("Emulation.setEmulatedMedia", features=[{"name": "prefers-color-scheme", "value": "dark" if dark else "light"}])
+        scheme = {"name": "prefers-color-scheme", "value": "dark" if dark else "light"}
+        self.send("Emulation.setEmulatedMedia", features=[scheme])
 
     def send(self, method, **params):
         """A command's result."""
@@ -130,8 +132,8 @@ class Browser:
 
     def complaints(self):
         """The errors that the console has, of the script and of what the policy forbids."""
-        return [told["params"] for told in self.events
-                if told["method"] == "Runtime.exceptionThrown" or told["params"].get("entry", {}).get("level") == "error"]
+        return [told["params"] for told in self.events if told["method"] == "Runtime.exceptionThrown"
+                or told["params"].get("entry", {}).get("level") == "error"]
 
     def close(self):
         """Ends the browser and all that it started."""

@@ -54,8 +54,12 @@ class PageTest(unittest.TestCase):
         """The colour of the picture at a point, in cells."""
         self.painted()
         return self.browser.value(
-            f"(() => {{ const [x, y] = onScreen({x}, {y}); const data = pen.getImageData(Math.round(x), Math.round(y), 1, 1).data; "
-            "return `rgb(${data[0]}, ${data[1]}, ${data[2]})`; })()")
+            f"(() => {{ const [x, y] = onScreen({x}, {y}).map(Math.round); "
+            "return `rgb(${[...pen.getImageData(x, y, 1, 1).data].slice(0, 3).join(', ')})`; })()")
+
+    def hue(self, agent=0):
+        """The colour of an agent."""
+        return self.browser.value(f"getComputedStyle($('agents').children[{agent}].firstChild).backgroundColor")
 
 
 def program_check(grid, scen, plan, agents, rule=False):
@@ -67,4 +71,5 @@ def program_check(grid, scen, plan, agents, rule=False):
 
 def program_solve(grid, scen, agents, bound=1_000_000, nodes=None, rule=False):
     """The status and the text of the program."""
-    return mapf._program.Program().solve(Input("map", grid, None), Input("scenario", scen, None), agents, bound, nodes, rule)
+    inputs = Input("map", grid, None), Input("scenario", scen, None)
+    return mapf._program.Program().solve(*inputs, agents, bound, nodes, rule)

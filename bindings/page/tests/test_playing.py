@@ -3,6 +3,10 @@ from browser import Browser
 from pages import PAGE, PageTest
 from support import BAY
 
+UNDER = """(() => { const box = view.getBoundingClientRect(), [x, y] = onScreen(0, 0);
+  return [(900 - box.left - x) / camera.scale, (300 - box.top - y) / camera.scale]; })()"""
+THIRD = """(() => { const [x, y] = onScreen(...place(state.plan, 3, 0)), box = view.getBoundingClientRect();
+  return [x + box.left, y + box.top]; })()"""
 DROP = """(() => {{ const data = new DataTransfer();
   for (const [name, text] of {files}) data.items.add(new File([text], name));
   for (const kind of ["dragover", "drop"]) {{
@@ -23,6 +27,7 @@ class Playing(PageTest):
         return self.browser.value("[camera.x, camera.y, camera.scale]")
 
     def test_plays_and_pauses(self):
+        self.browser.value("$('speed').selectedIndex = 0")
         self.browser.key(" ")
         self.browser.until("state.playing && state.time > 1")
         self.browser.click("#play")
@@ -36,8 +41,9 @@ class Playing(PageTest):
         self.browser.key(" ")
         self.browser.until("!state.playing")
         self.assertEqual(self.browser.value("state.time"), 31)
+        self.browser.value("$('speed').selectedIndex = 0")
         self.browser.key(" ")
-        self.browser.until("state.playing && state.time < 31 || state.time === 31 && !state.playing")
+        self.browser.until("state.playing && state.time > 0 && state.time < 30")
 
     def test_steps(self):
         times = []
@@ -50,11 +56,11 @@ class Playing(PageTest):
         self.browser.click("#time")
         self.assertTrue(14 < self.browser.value("state.time") < 17)
         here = self.browser.value("place(state.plan, 0, state.time)")
-        hue = self.browser.value("getComputedStyle(document.querySelector('#agents i')).backgroundColor")
-        self.assertEqual(self.pixel(here[0] - 0.3, here[1]), hue)
+        self.assertEqual(self.pixel(here[0] - 0.3, here[1]), self.hue())
 
     def test_agents_are_between_cells_between_steps(self):
-        places = self.browser.value("[0, 0.5, 1, 99].map((time) => place({ paths: [Int32Array.of(2, 5, 3, 5)], lasts: [1] }, 0, time))")
+        plan = "{ paths: [Int32Array.of(2, 5, 3, 5)], lasts: [1] }"
+        places = self.browser.value(f"[0, 0.5, 1, 99].map((time) => place({plan}, 0, time))")
         self.assertEqual(places, [[2, 5], [2.5, 5], [3, 5], [3, 5]])
 
     def test_zooms_by_keys_and_moves(self):
@@ -69,11 +75,10 @@ class Playing(PageTest):
 
     def test_the_wheel_keeps_the_cell_under_the_pointer(self):
         self.browser.mouse("Moved", 900, 300)
-        under = "(() => { const box = view.getBoundingClientRect(), [x, y] = onScreen(0, 0); return [(900 - box.left - x) / camera.scale, (300 - box.top - y) / camera.scale]; })()"
-        before, scale = self.browser.value(under), self.camera()[2]
+        before, scale = self.browser.value(UNDER), self.camera()[2]
         self.browser.mouse("Wheel", 900, 300, deltaX=0, deltaY=-240)
         self.browser.until(f"camera.scale > {scale} * 1.3")
-        for old, new in zip(before, self.browser.value(under)):
+        for old, new in zip(before, self.browser.value(UNDER)):
             self.assertAlmostEqual(old, new, places=6)
 
     def test_drags(self):
@@ -87,28 +92,36 @@ class Playing(PageTest):
     def test_pinches(self):
         scale = self.camera()[2]
         for kind, apart in (("touchStart", 100), ("touchMove", 150), ("touchMove", 200), ("touchEnd", None)):
-            points = [] if apart is None else [{"x": 900 - apart / 2, "y": 400, "id": 1}, {"x": 900 + apart / 2, "y": 400, "id": 2}]
+            points = [{"x": 900 + side * apart, "y": 400, "id": side} for side in (0, 1)] if apart else []
             self.browser.send("Input.dispatchTouchEvent", type=kind, touchPoints=points)
         self.browser.until(f"Math.abs(camera.scale / {scale} - 2) < 0.05")
 
     def test_a_click_chooses_an_agent(self):
-        x, y = self.browser.value("(() => { const [x, y] = onScreen(...place(state.plan, 3, 0)), box = view.getBoundingClientRect(); return [x + box.left, y + box.top]; })()")
+        x, y = self.browser.value(THIRD)
         self.browser.mouse("Pressed", x, y)
         self.browser.mouse("Released", x, y)
-        self.assertEqual(self.browser.value("[state.chosen, $('agents').children[3].getAttribute('aria-pressed')]"), [3, "true"])
+        pressed = self.browser.value("$('agents').children[3].getAttribute('aria-pressed')")
+        self.assertEqual((self.browser.value("state.chosen"), pressed), (3, "true"))
         self.browser.click("#agents button:nth-child(4)")
         self.assertIsNone(self.browser.value("state.chosen"))
 
     def test_trails_and_goals(self):
-        for key, name in (("t", "trails"), ("g", "goals")):
-            before = self.browser.value("view.toDataURL()")
-            self.browser.key(key)
-            self.painted()
-            self.assertNotEqual(self.browser.value("stay(9), new Promise((done) => requestAnimationFrame(() => done(view.toDataURL())))"), before)
-            self.browser.key(key)
+        self.browser.value("stay(31)")
+        start, goal = self.browser.value("[state.rows[0].slice(0, 2), state.rows[1].slice(2)]")
+        floor, trail = self.browser.value("colours.floor"), self.pixel(*start)
+        self.browser.key("t")
+        self.assertEqual(trail, floor)
+        self.assertNotEqual(self.pixel(*start), floor)
+        self.browser.key("t")
+        self.browser.value("stay(0)")
+        self.assertNotEqual(self.pixel(*goal), floor)
+        self.browser.key("g")
+        self.assertEqual(self.pixel(*goal), floor)
+        self.browser.key("g")
 
     def test_files_are_dropped(self):
-        files = [["bay.map", BAY[0].decode()], ["bay.scen", BAY[1].decode()], ["bay.plan", "plan 2 4\n1,0 1,1 1,0\n0,0 1,0 2,0\n"]]
+        plan = "plan 2 4\n1,0 1,1 1,0\n0,0 1,0 2,0\n"
+        files = [["bay.map", BAY[0].decode()], ["bay.scen", BAY[1].decode()], ["bay.plan", plan]]
         self.browser.value(DROP.format(files=files))
         self.browser.until("$('name-plan').textContent === 'bay.plan'")
         self.assertEqual(self.shown(), ("Valid, cost 4", "valid 4"))
@@ -123,5 +136,5 @@ class Dark(PageTest):
         dark = Browser(dark=True)
         self.addCleanup(dark.close)
         dark.open(PAGE)
-        shades = [one.value("[getComputedStyle(document.body).backgroundColor, colours.floor]") for one in (light, dark)]
-        self.assertEqual(shades, [["rgb(246, 245, 241)", "rgb(255, 255, 255)"], ["rgb(20, 22, 26)", "rgb(32, 36, 43)"]])
+        shades = [one.value("getComputedStyle(document.body).backgroundColor + colours.floor") for one in (light, dark)]
+        self.assertEqual(shades, ["rgb(246, 245, 241)rgb(255, 255, 255)", "rgb(20, 22, 26)rgb(32, 36, 43)"])

@@ -17,7 +17,8 @@ def spoiled(draw, contents):
     """Contents with one to three bytes changed, taken out or put in."""
     for _ in range(draw.randint(1, 3)):
         place, kind = draw.randrange(len(contents) + 1), draw.randrange(3)
-        contents = contents[:place] + bytes(draw.choices(b"0123456 ,.@T\n\t\xe9", k=kind > 0)) + contents[place + (kind < 2):]
+        put = bytes(draw.choices(b"0123456 ,.@T\n\t\xe9", k=kind > 0))
+        contents = contents[:place] + put + contents[place + (kind < 2):]
     return contents
 
 
@@ -35,7 +36,7 @@ class Same(PageTest):
                 asks.append(("mapf_check", (grid, scen, plan), (agents, rule)))
                 status, line = program_check(grid, scen, plan, agents, rule)
                 wanted.append((status, line + "\n"))
-        shown = json.dumps([(call, [file.decode("latin-1") for file in files], numbers) for call, files, numbers in asks])
+        shown = json.dumps([(call, [one.decode("latin-1") for one in files], numbers) for call, files, numbers in asks])
         for ask, got, want in zip(asks, self.browser.value(f"{CALLS}({shown})"), wanted):
             self.assertEqual(tuple(got), want, ask)
         self.assertEqual({status for status, _ in wanted}, {0, 1, 3, 6})

@@ -10,14 +10,16 @@ SIDE, AGENTS, STEPS = 2048, 1000, 300
 class Shown(PageTest):
     def page(self, instance, plan, *words):
         """Makes a page, and opens it."""
-        files = [written(self.folder, name, text) for name, text in (("a.map", instance[0]), ("a.scen", instance[1]), ("a.plan", plan))]
+        contents = {"a.map": instance[0], "a.scen": instance[1], "a.plan": plan}
+        files = [written(self.folder, name, text) for name, text in contents.items()]
         self.assertEqual(command("show", *files, *words)[0], 0)
         self.browser.open(os.path.join(self.folder, "a.html"))
 
     def test_a_conflict(self):
         self.page(CROSSING, "plan 2 4\n1,0 1,1 1,2\n0,1 1,1 2,1\n")
         self.assertEqual(self.shown(), ("A conflict", "66 vertex conflict agents 0 1 cell 1,1 time 1"))
-        self.assertEqual(self.browser.value("[$('count').value, $('solve').disabled, state.plan.end, $('with-verdict').hidden]"), ["2", True, 2, False])
+        self.assertEqual(self.browser.value("[$('count').value, $('solve').disabled, state.plan.end]"), ["2", True, 2])
+        self.assertIn("Not proved", self.browser.value("document.querySelector('footer').innerText"))
         self.browser.key("c")
         self.assertEqual(self.browser.value("state.time"), 1)
         self.browser.key(" ")
@@ -44,5 +46,4 @@ class Shown(PageTest):
         self.assertEqual(self.shown(), (f"Valid, cost {AGENTS * STEPS}", f"valid {AGENTS * STEPS}"))
         self.assertEqual(self.browser.value("$('agents').children.length"), AGENTS)
         self.browser.value("stay(150.5)")
-        hue = self.browser.value("getComputedStyle($('agents').lastElementChild.firstChild).backgroundColor")
-        self.assertEqual(self.pixel(150.5, 2 * AGENTS - 2), hue)
+        self.assertEqual(self.pixel(150.5, 2 * AGENTS - 2), self.hue(AGENTS - 1))

@@ -6,6 +6,8 @@ from support import BAY, CROSSING, map_of, scen_of
 
 OPEN = map_of("... ... ..."), scen_of(3, 3, (0, 0, 2, 0), (0, 2, 2, 2))
 PAIR = map_of(".."), scen_of(2, 1, (0, 0, 1, 0), (1, 0, 0, 0))
+CROSSED, SWAPPED = "plan 2 4\n1,0 1,1 1,2\n0,1 1,1 2,1\n", "plan 2 2\n0,0 1,0\n1,0 0,0\n"
+FOLLOWED = "plan 2 4\n1,0 1,1 1,0\n0,0 1,0 2,0\n"
 STRAIGHT = "0,0 1,0 2,0\n0,2 1,2 2,2\n"
 # The instance, the plan, whether no one may follow; the line, and the time and the place that the fault is shown at.
 FAULTS = (
@@ -13,9 +15,9 @@ FAULTS = (
     (OPEN, "plan 2 3\n0,0 2,0\n0,2 1,2 2,2\n", False, "63 bad step agent 0 time 1", 0.5, (1, 0)),
     (OPEN, "plan 2 3\n0,0 1,0 2,0\n0,2 1,2\n", False, "64 wrong end agent 1", 1, (1, 2)),
     (OPEN, "plan 2 5\n0,0 1,0 2,0 2,0\n0,2 1,2 2,2\n", False, "65 ends late agent 0", 3, (2, 0)),
-    (CROSSING, "plan 2 4\n1,0 1,1 1,2\n0,1 1,1 2,1\n", False, "66 vertex conflict agents 0 1 cell 1,1 time 1", 1, (1, 1)),
-    (PAIR, "plan 2 2\n0,0 1,0\n1,0 0,0\n", False, "66 swapping conflict agents 0 1 from 0,0 to 1,0 time 1", 0.5, (0.5, 0)),
-    (BAY, "plan 2 4\n1,0 1,1 1,0\n0,0 1,0 2,0\n", True, "66 following conflict agents 1 0 cell 1,0 time 1", 0.5, (1, 0)),
+    (CROSSING, CROSSED, False, "66 vertex conflict agents 0 1 cell 1,1 time 1", 1, (1, 1)),
+    (PAIR, SWAPPED, False, "66 swapping conflict agents 0 1 from 0,0 to 1,0 time 1", 0.5, (0.5, 0)),
+    (BAY, FOLLOWED, True, "66 following conflict agents 1 0 cell 1,0 time 1", 0.5, (1, 0)),
 )
 REFUSED = (
     ("map", b"type hexagons\nheight 3\nwidth 3\nmap\n...\n...\n...\n", "1 type line"),
@@ -44,13 +46,13 @@ class Verdicts(PageTest):
         super().setUpClass()
         cls.browser.open(PAGE)
 
-    def judge(self, instance, plan, rule=False, agents=2):
+    def judge(self, instance, plan, rule=False):
         """Gives the page the files and the rule; the program has to say the same."""
         self.browser.value(f"$('rule').checked = {'true' if rule else 'false'}")
         self.load(map=instance[0], scen=instance[1], plan=plan)
-        self.enter("count", agents)
+        self.enter("count", 2)
         title, line = self.shown()
-        self.assertEqual(line, program_check(*instance, plan.encode(), agents, rule)[1])
+        self.assertEqual(line, program_check(*instance, plan.encode(), 2, rule)[1])
         return title, line
 
     def test_each_fault_has_its_time_and_place(self):
@@ -67,24 +69,24 @@ class Verdicts(PageTest):
                 self.assertEqual(self.pixel(x + ring, y + ring), self.browser.value("colours.bad"))
 
     def test_the_pin_and_the_button_go_to_the_fault(self):
-        self.judge(CROSSING, "plan 2 4\n1,0 1,1 1,2\n0,1 1,1 2,1\n")
+        self.judge(CROSSING, CROSSED)
         for button in ("#pin", "#go"):
             self.browser.key("Home")
             self.browser.click(button)
             self.assertEqual(self.browser.value("state.time"), 1)
 
     def test_faults_without_a_place(self):
-        for plan, agents, line in (("plan 1 2\n0,0 1,0 2,0\n", 2, "61 agent count 1"), ("plan 2 5\n" + STRAIGHT, 2, "67 wrong cost stated 5 found 4"),
-                                   ("none 5\n", 2, "no plan given")):
+        for plan, line in (("plan 1 2\n0,0 1,0 2,0\n", "61 agent count 1"), ("none 5\n", "no plan given"),
+                           ("plan 2 5\n" + STRAIGHT, "67 wrong cost stated 5 found 4")):
             with self.subTest(line):
-                self.assertEqual(self.judge(OPEN, plan, agents=agents), ("Not valid", line))
-                self.assertEqual(self.browser.value("[state.fault, $('go').hidden, $('pin').hidden]"), [None, True, True])
+                self.assertEqual(self.judge(OPEN, plan), ("Not valid", line))
+                hidden = self.browser.value("[state.fault, $('go').hidden, $('pin').hidden]")
+                self.assertEqual(hidden, [None, True, True])
 
     def test_a_valid_plan(self):
         self.assertEqual(self.judge(OPEN, "plan 2 4\n" + STRAIGHT), ("Valid, cost 4", "valid 4"))
         self.browser.key("Home")
-        hue = self.browser.value("getComputedStyle(document.querySelector('#agents i')).backgroundColor")
-        self.assertEqual([self.pixel(0.3, 0), self.pixel(1, 1)], [hue, self.browser.value("colours.floor")])
+        self.assertEqual([self.pixel(0.3, 0), self.pixel(1, 1)], [self.hue(), self.browser.value("colours.floor")])
 
     def test_broken_files_are_refused_by_the_programs_line(self):
         for kind, contents, line in REFUSED:
@@ -100,7 +102,8 @@ class Verdicts(PageTest):
 
     def test_the_text_is_judged_as_it_is_typed(self):
         self.load(map=OPEN[0], scen=OPEN[1], plan="plan 2 4\n" + STRAIGHT)
-        self.browser.value("document.querySelector('details').open = true, $('text').focus(), $('text').setSelectionRange(7, 8)")
+        self.browser.value("document.querySelector('details').open = true, $('text').focus()")
+        self.browser.value("$('text').setSelectionRange(7, 8)")
         self.browser.send("Input.insertText", text="5")
         self.browser.until("$('name-plan').textContent === 'edited.plan'")
         self.assertEqual(self.shown(), ("Not valid", "67 wrong cost stated 5 found 4"))

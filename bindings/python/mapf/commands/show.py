@@ -16,15 +16,16 @@ from ..page import BEGINS, Shown, page_of
 from ..plan_text import agents_stated
 from .check import Job, text_of
 
-ABOUT = """Writes a page, one HTML file, that shows a plan on its map with the checker's verdict and its first fault. It opens
-from disk in any browser of today. Prints the page's name and the verdict; the status is 0 where the page was written."""
+ABOUT = """Writes a page, one HTML file, that shows a plan on its map with the checker's verdict and the first fault. It
+opens from disk in any browser of today. Prints the page's name and the verdict; the status is 0 where it is written."""
 
 
 def add(commands: Any) -> None:
     """Adds the command."""
     parser = commands.add_parser("show", help="a page that shows a plan", description=ABOUT)
     parser.add_argument("--from", dest="source", choices=FORMATS, default="plan", help="the format of PLAN (plan)")
-    parser.add_argument("--no-following", action="store_true", help="no agent may enter a cell in the step in which another leaves it")
+    parser.add_argument(
+        "--no-following", action="store_true", help="no agent may enter a cell in the step in which another leaves it")
     parser.add_argument("-o", dest="page", metavar="FILE.html", help="the page (beside the plan, by its name)")
     parser.add_argument("--open", action="store_true", help="open the page in the browser")
     parser.add_argument("map", metavar="MAP")
@@ -39,8 +40,10 @@ def run(asked: argparse.Namespace) -> int:
     _refuse_another_file(path)
     text, given = text_of(asked.source, Job(asked.plan, asked.map, asked.scen, None))
     verdict = calls.check_by(chosen(), asked.map, asked.scen, given, None, asked.no_following)
-    files = {kind: (os.path.basename(file), read_input(kind, file).contents) for kind, file in (("map", asked.map), ("scen", asked.scen))}
-    files["plan"] = os.path.basename(asked.plan), text
+    files = {
+        "map": (os.path.basename(asked.map), read_input("map", asked.map).contents),
+        "scen": (os.path.basename(asked.scen), read_input("scenario", asked.scen).contents),
+        "plan": (os.path.basename(asked.plan), text)}
     shown = Shown(files, agents_stated(text) or 1, asked.no_following, (0 if verdict.valid else 1, verdict.line))
     _write(path, page_of(shown))
     print(f"{path}: {verdict.line}")

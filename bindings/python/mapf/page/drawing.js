@@ -119,7 +119,7 @@ function drawAgent(i, x, y) {
   pen.beginPath();
   pen.arc(x, y, Math.max(3, s * 0.4), 0, 7);
   pen.fill();
-  pen.stroke();
+  if (s >= 8 || i === state.chosen) pen.stroke();
   if (s >= 15) drawWords(String(i), x, y, s * (i < 100 ? 0.42 : 0.32), colours.number);
   pen.globalAlpha = 1;
 }
@@ -135,7 +135,7 @@ function drawFault(/** @type {Plan} */ plan, /** @type {Fault} */ fault) {
   const [x, y] = onScreen(...fault.middle), s = Math.max(camera.scale, 9), radius = 0.8 * s;
   const near = 1 - Math.abs(state.time - fault.at) / 1.5, at = fault.agents.map((i) => place(plan, i, state.time));
   const apart = at[1] && Math.hypot(at[0][0] - at[1][0], at[0][1] - at[1][1]);
-  if (apart < 0.3) fault.agents.forEach((i, side) => drawAgent(i, x + (side - 0.5) * s * 0.6, y));
+  if (apart < 0.3) fault.agents.forEach((i, side) => drawAgent(i, x + (side - 0.5) * s * 0.7, y));
   pen.globalAlpha = 0.35 + 0.65 * Math.max(0, near);
   pen.strokeStyle = pen.fillStyle = colours.bad;
   pen.lineWidth = Math.max(1.5, s * 0.08);
