@@ -97,8 +97,9 @@ class Verdicts(PageTest):
                 self.assertEqual(self.shown(), ("Refused", line))
                 self.assertEqual(program_check(files["map"], files["scen"], files["plan"], 2), (3, line))
         self.load(map=OPEN[0], scen=OPEN[1], plan="plan 2 4\n" + STRAIGHT)
-        self.enter("count", 0)
-        self.assertEqual(self.shown(), ("Refused", "21 agent count"))
+        for count in (0, 1001, 2**64 + 2):
+            self.enter("count", count)
+            self.assertEqual(self.shown(), ("Refused", "21 agent count"))
 
     def test_the_text_is_judged_as_it_is_typed(self):
         self.load(map=OPEN[0], scen=OPEN[1], plan="plan 2 4\n" + STRAIGHT)

@@ -39,7 +39,7 @@ function worker() {
   };
 }
 class Engine {
-  /** The bytes of the module; 0 where the page has none. */ size = 0;
+  /** The packed bytes of the module; 0 where the page has none. */ size = 0;
   /** @type {WebAssembly.Module | null} */ module = null;
   /** @type {Worker | null} */ running = null;
   /** @type {((reply: Reply) => void) | null} */ answer = null;
@@ -47,10 +47,10 @@ class Engine {
   /** Takes the module from the page, if this browser has 64-bit memory. */
   async load() {
     const packed = bytesOf(atob($("module").textContent.trim()));
-    if (packed.length === 0) return;
+    this.size = packed.length;
+    if (this.size === 0 || !("DecompressionStream" in window)) return;
     const stream = new Blob([packed]).stream().pipeThrough(new DecompressionStream("gzip"));
     const bytes = await new Response(stream).arrayBuffer();
-    this.size = bytes.byteLength;
     if (WebAssembly.validate(bytes)) this.module = await WebAssembly.compile(bytes);
   }
   /** Ends what runs, and makes a call.

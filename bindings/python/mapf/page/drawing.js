@@ -14,7 +14,7 @@ const penOf = (/** @type {any} */ canvas) => /** @type {CanvasRenderingContext2D
 const pen = penOf(view), paint = penOf(ground), dark = matchMedia("(prefers-color-scheme: dark)");
 const colours = /** @type {Record<string, string>} */ ({}), hues = /** @type {string[]} */ ([]);
 /** The size and camera that the ground was painted for; empty where all of it changed. */ let painted = "";
-const count = () => Math.min(1000, Math.max(0, Math.floor(Number($("count").value)) || 0));
+const whole = (/** @type {string} */ id) => Math.max(0, Math.min(1e9, Math.floor(Number($(id).value)) || 0));
 /** The page's colours; and the agents', whose hues are a golden angle apart, so that neighbours differ. */
 function readColours() {
   const probe = document.body.appendChild(document.createElement("i"));
@@ -49,7 +49,7 @@ const isSeen = (x, y, margin) =>
 const faint = (/** @type {number} */ i) => state.chosen !== null && state.chosen !== i;
 /** Where the agents are now. */
 const agents = () => state.plan?.paths.map((_, i) => place(/** @type {Plan} */ (state.plan), i, state.time)) ??
-  state.rows.slice(0, count());
+  state.rows.slice(0, Math.min(1000, whole("count")));
 function draw() {
   const { plan, fault } = state, ratio = devicePixelRatio;
   const size = [view.clientWidth, view.clientHeight].map((side) => Math.round(side * ratio));

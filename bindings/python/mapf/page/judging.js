@@ -30,7 +30,7 @@ async function judge(/** @type {string} */ note = "") {
   if (!map || !scen) return show("idle", "No verdict yet", "", "Give a map, a scenario and a plan.");
   if (!plan) return show("idle", "No verdict yet", "", "Give a plan, or let the solver find one.");
   refresh();
-  const numbers = CALLS.mapf_check(count(), $("rule").checked);
+  const numbers = CALLS.mapf_check(whole("count"), $("rule").checked);
   const { status, text, ms } = await engine.call("mapf_check", [map.bytes, scen.bytes, plan.bytes], numbers);
   if (status !== STOPPED) tell(status, text.trim(), `${note}Judged in ${spent(ms)} by the proved checker.`);
 }
@@ -39,7 +39,7 @@ async function solve() {
   const { map, scen } = state.files, began = performance.now();
   if (state.solving) return engine.stop();
   if (!map || !scen || !engine.module) return;
-  const numbers = CALLS.mapf_solve(count(), 1000000, Number($("nodes").value) || 0, $("rule").checked);
+  const numbers = CALLS.mapf_solve(whole("count"), 1000000, whole("nodes"), $("rule").checked);
   const passed = () => spent(performance.now() - began);
   take("plan", null);
   state.fault = null;
