@@ -40,10 +40,11 @@ def run(asked: argparse.Namespace) -> int:
     _refuse_another_file(path)
     text, given = text_of(asked.source, Job(asked.plan, asked.map, asked.scen, None))
     verdict = calls.check_by(chosen(), asked.map, asked.scen, given, None, asked.no_following)
+    name = os.path.basename(asked.plan)
     files = {
         "map": (os.path.basename(asked.map), read_input("map", asked.map).contents),
         "scen": (os.path.basename(asked.scen), read_input("scenario", asked.scen).contents),
-        "plan": (os.path.basename(asked.plan), text)}
+        "plan": (name if asked.source == "plan" else os.path.splitext(name)[0] + ".plan", text)}
     shown = Shown(files, agents_stated(text) or 1, asked.no_following, (0 if verdict.valid else 1, verdict.line))
     _write(path, page_of(shown))
     print(f"{path}: {verdict.line}")
