@@ -1,13 +1,12 @@
 """What the tests of the page share: a browser, the page with the module in it, and what it shows."""
 import os
 import shutil
+import subprocess
 import tempfile
 import unittest
 
-import mapf._program
 from browser import Browser
-from mapf._input import Input
-from support import ROOT, written
+from support import ROOT, backends, written
 
 PAGE = os.path.join(ROOT, "bindings", "out", "mapf.html")
 SETTLED = "engine.answer === null && !state.solving"
@@ -64,12 +63,21 @@ class PageTest(unittest.TestCase):
 
 def program_check(grid, scen, plan, agents, rule=False):
     """The status and the line of the program."""
-    inputs = Input("map", grid, None), Input("scenario", scen, None), Input("plan", plan, None)
-    status, line = mapf._program.Program().check(*inputs, agents, rule)
+    status, line = _program("check", {"map": grid, "scen": scen, "plan": plan}, agents, rule)
     return status, line.rstrip("\n")
 
 
 def program_solve(grid, scen, agents, bound=1_000_000, nodes=None, rule=False):
     """The status and the text of the program."""
-    inputs = Input("map", grid, None), Input("scenario", scen, None)
-    return mapf._program.Program().solve(*inputs, agents, bound, nodes, rule)
+    limit = ["--nodes", str(nodes)] if nodes else []
+    return _program("solve", {"map": grid, "scen": scen}, agents, rule, "--bound", str(bound), "--workers", "1", *limit)
+
+
+def _program(command, files, agents, rule, *words):
+    with tempfile.TemporaryDirectory() as folder:
+        paths = [f"--{kind}={written(folder, kind, contents)}" for kind, contents in files.items()]
+        following = ["--no-following"] if rule else []
+        words = [backends()[0].path, command, *paths, "--agents", str(agents), *words, *following]
+        done = subprocess.run(words, stdin=subprocess.DEVNULL, stdout=subprocess.PIPE, stderr=subprocess.PIPE)
+    said = done.stdout or done.stderr
+    return done.returncode, said.decode("ascii").replace("mapf: ", "", 1)

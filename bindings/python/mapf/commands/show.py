@@ -8,7 +8,6 @@ import webbrowser
 from typing import Any
 
 from .. import calls
-from .._backend import chosen
 from .._input import read_input
 from ..converters import FORMATS
 from ..faults import Fault
@@ -39,7 +38,7 @@ def run(asked: argparse.Namespace) -> int:
     path = asked.page or os.path.splitext(asked.plan)[0] + ".html"
     _refuse_another_file(path)
     text, given = text_of(asked.source, Job(asked.plan, asked.map, asked.scen, None))
-    verdict = calls.check_by(chosen(), asked.map, asked.scen, given, None, asked.no_following)
+    verdict = calls.check(asked.map, asked.scen, given, None, asked.no_following)
     name = os.path.basename(asked.plan)
     files = {
         "map": (os.path.basename(asked.map), read_input("map", asked.map).contents),
