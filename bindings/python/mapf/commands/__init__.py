@@ -15,7 +15,7 @@ COMMANDS = (convert, check, show, series)
 
 def main(words: Optional[List[str]] = None) -> int:
     """Runs a command, and answers its status: 2 to 5 as the program's, 125 where nothing is built, 130 after Ctrl-C."""
-    parser = argparse.ArgumentParser(prog="python3 -m mapf", description="Plans of any planner: convert, judge and show them, and run series.")
+    parser = argparse.ArgumentParser(prog="python3 -m mapf", description="Plans of any planner: convert and judge them, and run series.")
     commands = parser.add_subparsers(dest="command", metavar="COMMAND", required=True)
     for command in COMMANDS:
         command.add(commands)
