@@ -8,10 +8,10 @@ from typing import List, Optional
 
 from .. import __version__
 from ..faults import BackendFailure, Fault, NotBuilt
-from . import check, convert, score, series, solve
+from . import check, convert, score, series, show, solve
 from .status import status_of
 
-COMMANDS = (solve, convert, check, score, series)
+COMMANDS = (solve, convert, check, show, score, series)
 
 
 def main(words: Optional[List[str]] = None) -> int:
