@@ -11,7 +11,7 @@ from .backend import Backend, chosen
 from .faults import ArgumentFault, PlanFault
 from .instance import most_agents
 from .options import MOST_BOUND, Options
-from .plan import OutOfTime, Path, Plan
+from .plan import GaveUp, NoPlan, OutOfTime, Path, Plan
 from .plan_text import Answer, agents_stated, read_text, shown
 from .run import Progress
 from .verdict import Verdict, read_verdict
@@ -42,12 +42,12 @@ def solve(
 
 
 def check(
-    map: Given, scen: Given, plan: Union[Given, Plan, Paths], agents: Optional[int] = None, no_following: bool = False
+    map: Given, scen: Given, plan: Union[Given, Answer, Paths], agents: Optional[int] = None, no_following: bool = False
 ) -> Verdict:
     """The verdict on a plan for the scenario's first rows: valid, no plan given, or its first fault.
 
     map, scen: paths, or the bytes themselves, in MovingAI's formats.
-    plan: a plan, a list of each agent's positions up to its last arrival, or the path or the bytes of a plan text.
+    plan: an answer, a list of each agent's positions up to its last arrival, or the path or the bytes of a plan text.
     agents: how many rows are taken; None takes the number that the plan's head states.
     no_following: no agent may enter a cell in the step in which another leaves it.
 
@@ -56,7 +56,7 @@ def check(
     return check_by(chosen(), map, scen, plan, agents, no_following)
 
 
-def read_plan(path: Given, format: str = "plan", map: Optional[Given] = None, scen: Optional[Given] = None) -> Plan:
+def read_plan(path: Given, format: str = "plan", map: Optional[Given] = None, scen: Optional[Given] = None) -> Answer:
     """The plan of a file in one of `converters.FORMATS`, cut behind each agent's last arrival.
 
     map: positions outside of it are refused. scen: where `moves` begin. What doesn't fit is a `ConversionFault`.
@@ -93,7 +93,7 @@ def solve_by(
 
 
 def check_by(
-    backend: Backend, map_given: Given, scen_given: Given, plan: Union[Given, Plan, Paths], agents: Optional[int],
+    backend: Backend, map_given: Given, scen_given: Given, plan: Union[Given, Answer, Paths], agents: Optional[int],
     no_following: bool,
 ) -> Verdict:
     """`check`, by this backend."""
@@ -108,7 +108,9 @@ def check_by(
     raise fault_of(line, Asked(map_file, scen_file, text, asked))
 
 
-def _plan_text(plan: Union[Given, Plan, Paths]) -> Input:
+def _plan_text(plan: Union[Given, Answer, Paths]) -> Input:
+    if isinstance(plan, (NoPlan, GaveUp, OutOfTime)):
+        return Input("plan", NoPlan(0).text().encode(), None)
     if isinstance(plan, (list, tuple)):
         plan = Plan(tuple(_path(agent, path) for agent, path in enumerate(plan)))
     return Input("plan", plan.text().encode(), None) if isinstance(plan, Plan) else read_input("plan", plan)

@@ -4,6 +4,7 @@ from __future__ import annotations
 import ctypes
 import json
 import os
+import signal
 import sys
 from typing import Any, List, Optional, Tuple
 
@@ -92,6 +93,7 @@ class Library:
 
 def answer(path: str, options: str, telling: str, *named: str) -> int:
     """What a child of `Library.solve` does: it answers as the program does, by its status and its two outputs."""
+    signal.signal(signal.SIGINT, signal.SIG_DFL)
     map_file, scen_file = (read_input(kind, word.split("=", 1)[1]) for kind, word in zip(("map", "scenario"), named))
     limits = [10**power for power in range(7)] if telling else []
     status, text = _searched(Library(path), map_file, scen_file, Options(*json.loads(options)), limits)

@@ -66,7 +66,7 @@ def run(words: Sequence[str], seconds: Optional[float] = None, progress: Optiona
                     child.kill()
                 out, err = _written(child, min(STEP, left) if left > 0 else STEP)
                 told.hear(err)
-                if _interrupt() is not seen:
+                if _interrupt() not in (None, seen):
                     raise KeyboardInterrupt
         except BaseException:
             child.kill()

@@ -131,6 +131,11 @@ class Calls(unittest.TestCase):
                                        ([lists[0], lists[1] + [(2, 0)]], None, "65 ends late agent 1")):
                 self.assertEqual(check_by(backend, *BAY, plan, agents, False).line, line)
 
+    def test_answers_without_a_plan_are_judged(self):
+        for backend in self.each("no plan"):
+            for answer in (mapf.NoPlan(9), mapf.GaveUp(5, 4), mapf.OutOfTime(2000000, 4)):
+                self.assertEqual(check_by(backend, *BAY, answer, None, False).line, "no plan given")
+
     def test_lists_that_are_no_positions(self):
         first = "no position of agent 0 at time 0"
         cases = (([[(1, 0)], [(0, 0), (1, 0, 2)]], "no position of agent 1 at time 1", "'(1, 0, 2)'"),

@@ -1,9 +1,11 @@
 """Limits on time, progress, workers, and `python3 -m mapf solve`."""
 import json
 import os
+import sys
 import tempfile
 import time
 import unittest
+import unittest.mock
 
 import mapf
 from mapf.calls import solve_by
@@ -61,6 +63,13 @@ class Limits(unittest.TestCase):
             with self.assertRaises(StopIteration) as stopped:
                 solve_by(backend, *ENDLESS, 2, 1000000, None, False, progress=stop)
             self.assertGreaterEqual(stopped.exception.value, LEAST)
+
+    def test_another_fault_of_a_notebook_ends_nothing(self):
+        def tell(nodes, bound):
+            sys.last_value = ValueError()
+        for backend in self.each():
+            with unittest.mock.patch.object(sys, "last_value", KeyboardInterrupt(), create=True):
+                self.assertEqual(solve_by(backend, *BAY, 2, 100, None, False, progress=tell).text(), BAY_TEXT)
 
     def test_workers(self):
         for backend in self.each():

@@ -16,10 +16,16 @@ TRIES = 5
 # Two agents in a corridor have to change places: the search has no end.
 ENDLESS = map_of("." * 9), scen_of(9, 1, (0, 0, 8, 0), (8, 0, 0, 0), name="a.map")
 IN_MAIN = "solve()"
+COMMAND = """
+from mapf.__main__ import start
+sys.argv[1:] = ["solve", folder + "/a.map", folder + "/a.scen", "--progress"]
+sys.stderr = told
+sys.exit(start())
+"""
 IN_THREAD = "begin(solve).join()"
 CAUGHT = """
-begin(solve)
 try:
+    begin(solve)
     ended.wait()
 except KeyboardInterrupt:
     ended.wait()
@@ -35,10 +41,12 @@ print("next", flush=True)
 """
 SCRIPT = """
 import sys, threading, time, mapf
+folder = {folder!r}
+told = open(folder + "/told", "w")
 ended = threading.Event()
 def solve():
     try:
-        mapf.solve({folder!r} + "/a.map", {folder!r} + "/a.scen")
+        mapf.solve(folder + "/a.map", folder + "/a.scen", progress=lambda *words: print(words, file=told, flush=True))
     finally:
         ended.set()
 def begin(call, *words):
@@ -87,16 +95,21 @@ class Stopping(unittest.TestCase):
         self.addCleanup(running.kill)
         return running
 
-    def begun(self, script, backend):
-        """A process that runs the script, once its search has begun."""
-        running = self.started(script, backend)
-        self.until(lambda: running.poll() is not None or self.searching())
+    def begun(self, script, backend, lines=1):
+        """A process that runs the script, once its search has told so many lines of itself."""
+        running, told = self.started(script, backend), os.path.join(self.folder, "told")
+
+        def heard():
+            with open(told) as file:
+                return file.read().count("\n")
+        self.until(lambda: running.poll() is not None or os.path.exists(told) and heard() >= lines)
+        os.remove(told)
         return running
 
-    def interrupted(self, script, backend, send=os.kill):
+    def interrupted(self, script, backend, send=os.kill, lines=1):
         """The status and what was printed after Ctrl-C; of some tries the first that took less than half a second."""
         for _ in range(TRIES):
-            running = self.begun(script, backend)
+            running = self.begun(script, backend, lines)
             begin = time.monotonic()
             send(running.pid, signal.SIGINT)
             out, err = running.communicate(timeout=WAIT)
@@ -135,13 +148,13 @@ class CtrlC(Stopping):
 
     def test_from_a_terminal_in_a_second_thread(self):
         for backend in self.each():
-            self.assertEqual(self.interrupted(CAUGHT, backend, os.killpg)[:2], (0, "caught\n"))
+            # The library's fifth line is of 10,000 nodes, and its next call takes seconds.
+            lines = 5 if backend == "library" else 1
+            self.assertEqual(self.interrupted(CAUGHT, backend, os.killpg, lines)[:2], (0, "caught\n"))
 
     def test_the_command(self):
         for backend in self.each():
-            words = [f"{self.folder}/{name}" for name in ("a.map", "a.scen")]
-            script = f"from mapf.__main__ import start\nsys.argv[1:] = {['solve', *words]}\nsys.exit(start())"
-            self.assertEqual(self.interrupted(script, backend), (130, "", ""))
+            self.assertEqual(self.interrupted(COMMAND, backend), (130, "", ""))
 
 
 @unittest.skipUnless(backends(), "neither library nor program is built")
