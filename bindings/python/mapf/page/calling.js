@@ -1,11 +1,12 @@
 // The proved calls, in a worker of their own, so that a search can be ended and the page goes on.
 /** @typedef {{ status: number, text: string, ms: number, pages: number }} Reply */
 const STOPPED = -2, FAILED = -1;
+/** @param {number} agents @param {number} bound @param {number} nodes @param {boolean} noFollowing */
+const solving = (agents, bound, nodes, noFollowing) => [BigInt(agents), BigInt(bound), BigInt(nodes), +noFollowing];
 /** What a call takes behind its files, in the order of bindings/c/mapf.h: BigInt for uint64_t, a number for a byte. */
 const CALLS = {
   mapf_check: (/** @type {number} */ agents, /** @type {boolean} */ noFollowing) => [BigInt(agents), +noFollowing],
-  /** @param {number} agents @param {number} bound @param {number} nodes @param {boolean} noFollowing */
-  mapf_solve: (agents, bound, nodes, noFollowing) => [BigInt(agents), BigInt(bound), BigInt(nodes), +noFollowing],
+  mapf_solve: solving, mapf_solve_any: solving,
 };
 /** The worker's whole code. It starts the module anew for each call, so no call finds what another left. */
 function worker() {

@@ -39,14 +39,14 @@ async function solve() {
   const { map, scen } = state.files, began = performance.now();
   if (state.solving) return engine.stop();
   if (!map || !scen || !engine.module) return;
-  const numbers = CALLS.mapf_solve(whole("count"), 1000000, whole("nodes"), $("rule").checked);
+  const any = $("any").checked, call = any ? "mapf_solve_any" : "mapf_solve";
+  const numbers = CALLS[call](whole("count"), 1000000, whole("nodes"), $("rule").checked);
   const passed = () => spent(performance.now() - began);
   take("plan", null);
-  state.fault = null;
-  state.solving = true;
+  [state.fault, state.solving] = [null, true];
   show("busy", "Solving", "", "No one can tell how long a search takes.");
   const ticking = setInterval(() => { $("line").textContent = passed(); }, 200);
-  const { status, text, pages } = await engine.call("mapf_solve", [map.bytes, scen.bytes], numbers);
+  const { status, text, pages } = await engine.call(call, [map.bytes, scen.bytes], numbers);
   clearInterval(ticking);
   state.solving = false;
   const line = text.trim(), bound = line.split(" ").pop();
@@ -54,6 +54,7 @@ async function solve() {
   if (status === 1) return show("bad", "No plan", line, `No valid plan costs ${bound} at most.`);
   if (status !== 0) return tell(status, line, "");
   take("plan", { name: "solved.plan", bytes: bytesOf(text) });
-  await judge(`No valid plan costs less. Found in ${passed()}, ${Math.round(pages / 16)} MiB. `);
+  const which = any ? "An optimum, whichever of several. " : "";
+  await judge(`${which}No valid plan costs less. Found in ${passed()}, ${Math.round(pages / 16)} MiB. `);
   if (!matchMedia("(prefers-reduced-motion: reduce)").matches) setPlaying(true);
 }
