@@ -10,7 +10,7 @@ import sys
 import tempfile
 import time
 
-DEADLINE = 60
+DEADLINE = 600
 PROGRAM = next(filter(None, map(shutil.which, ("chromium", "chromium-browser", "google-chrome"))), None)
 FLAGS = (
     "--headless=new", "--no-sandbox", "--disable-gpu", "--disable-dev-shm-usage", "--no-first-run", "--disable-sync",

@@ -11,8 +11,9 @@ import unittest
 
 from support import PACKAGE, backends, map_of, process, scen_of, with_program, written
 
-WAIT = 60
+WAIT = 300
 TRIES = 5
+SOON = 0.5
 # Two agents in a corridor have to change places: the search has no end.
 ENDLESS = map_of("." * 9), scen_of(9, 1, (0, 0, 8, 0), (8, 0, 0, 0), name="a.map")
 IN_MAIN = "solve()"
@@ -107,7 +108,7 @@ class Stopping(unittest.TestCase):
         return running
 
     def interrupted(self, script, backend, send=os.kill, lines=1):
-        """The status and what was printed after Ctrl-C; of some tries the first that took less than half a second."""
+        """The status and what was printed after Ctrl-C; of some tries the first that ended soon, or else the last."""
         for _ in range(TRIES):
             running = self.begun(script, backend, lines)
             begin = time.monotonic()
@@ -115,9 +116,10 @@ class Stopping(unittest.TestCase):
             out, err = running.communicate(timeout=WAIT)
             seconds = time.monotonic() - begin
             self.until(lambda: not self.goes_on())
-            if seconds < 0.5:
+            if seconds < SOON:
                 break
-        self.assertLess(seconds, 0.5)
+        # A loaded machine may take ten times as long.
+        self.assertLess(seconds, 10 * SOON)
         return running.returncode, out.decode(), err.decode()
 
     def each(self):
