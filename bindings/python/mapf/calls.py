@@ -22,6 +22,7 @@ Paths = Sequence[Sequence[Sequence[int]]]
 def solve(
     map: Given, scen: Given, agents: Optional[int] = None, bound: int = MOST_BOUND, nodes: Optional[int] = None,
     no_following: bool = False, workers: int = 1, seconds: Optional[float] = None, progress: Optional[Progress] = None,
+    any_optimum: bool = False,
 ) -> Answer:
     """A plan without conflict for the scenario's first rows that costs at most the bound, such that none costs less.
 
@@ -34,11 +35,13 @@ def solve(
     seconds: after so many the answer is `OutOfTime`; None sets no limit.
     progress: is called with the nodes that were taken and what no plan costs less than, at first, each second and at
         the end (by the library after 1, 10, 100 and so on nodes). What it raises ends the search.
+    any_optimum: of several plans that cost least any will do, by another search: with many agents it mostly ends sooner.
 
     Ctrl-C ends the search. Raises a `Fault` where something is refused, and `NotBuilt` where there is neither the
     library nor the program.
     """
-    return solve_by(chosen("program"), map, scen, agents, bound, nodes, no_following, workers, seconds, progress)
+    return solve_by(
+        chosen("program"), map, scen, agents, bound, nodes, no_following, workers, seconds, progress, any_optimum)
 
 
 def check(
@@ -59,7 +62,8 @@ def check(
 def read_plan(path: Given, format: str = "plan", map: Optional[Given] = None, scen: Optional[Given] = None) -> Answer:
     """The plan of a file in one of `converters.FORMATS`, cut behind each agent's last arrival.
 
-    map: positions outside of it are refused. scen: where `moves` begin. What doesn't fit is a `ConversionFault`.
+    map: positions outside of it are refused; `eecbs-stdout` needs it. scen: `moves` and `tracker` need it. What doesn't
+    fit is a `ConversionFault`.
     """
     if format not in converters.FORMATS:
         raise ArgumentFault(None, "no such format", None, repr(format), ", ".join(converters.FORMATS))
@@ -77,13 +81,14 @@ def version() -> str:
 def solve_by(
     backend: Backend, map_given: Given, scen_given: Given, agents: Optional[int], bound: int, nodes: Optional[int],
     no_following: bool, workers: int = 1, seconds: Optional[float] = None, progress: Optional[Progress] = None,
+    any_optimum: bool = False,
 ) -> Answer:
     """`solve`, by this backend."""
     if seconds is not None and not seconds > 0:
         raise ArgumentFault(None, "no time", None, f"{seconds} seconds", "more than 0")
     map_file, scen_file = read_input("map", map_given), read_input("scenario", scen_given)
     asked = most_agents(scen_file.contents) if agents is None else agents
-    options = Options(asked, bound, workers, nodes, no_following)
+    options = Options(asked, bound, workers, nodes, no_following, any_optimum)
     ended = backend.solve(map_file, scen_file, options.taken(), seconds, progress)
     if ended.status is None:
         return OutOfTime(ended.nodes, ended.lower_bound)

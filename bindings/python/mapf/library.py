@@ -24,8 +24,10 @@ CHILD = "import sys; sys.path.insert(0, sys.argv[1]); from mapf.library import a
 
 BYTES, LENGTH, NUMBER, FLAG = ctypes.c_char_p, ctypes.c_size_t, ctypes.c_uint64, ctypes.c_uint8
 OUT = (ctypes.c_char_p, ctypes.c_size_t, ctypes.POINTER(ctypes.c_uint64))
+SOLVING = (BYTES, LENGTH, BYTES, LENGTH, NUMBER, NUMBER, NUMBER, FLAG, *OUT)
 ARGUMENTS = {
-    "mapf_solve": (BYTES, LENGTH, BYTES, LENGTH, NUMBER, NUMBER, NUMBER, FLAG, *OUT),
+    "mapf_solve": SOLVING,
+    "mapf_solve_any": SOLVING,
     "mapf_check": (BYTES, LENGTH, BYTES, LENGTH, BYTES, LENGTH, NUMBER, FLAG, *OUT),
     "mapf_version": OUT,
 }
@@ -47,14 +49,16 @@ class Library:
             raise NotBuilt(f"no library {self.path}: bindings/build makes it")
         self._functions = ctypes.CDLL(self.path)
         for name, arguments in ARGUMENTS.items():
-            function = getattr(self._functions, name)
-            function.argtypes, function.restype = arguments, ctypes.c_int32
+            function = getattr(self._functions, name, None)
+            if function:
+                function.argtypes, function.restype = arguments, ctypes.c_int32
 
     def solve(
         self, map_file: Input, scen_file: Input, options: Options, seconds: Optional[float] = None,
         progress: Optional[Progress] = None,
     ) -> Ended:
         """How the search ended, as by a `Program`: in a Python of its own, since nothing stops a call here."""
+        self._solver(options)
         words = [sys.executable, "-S", "-E", "-c", CHILD, os.path.dirname(HERE), self.path, json.dumps(options)]
         telling = seconds is not None or progress is not None
         return run_on([*words, "telling" if telling else ""], [map_file, scen_file], seconds, progress)
@@ -65,7 +69,7 @@ class Library:
             return REFUSED, "42 workers\n"
         room = 65_536 + 4_096 * min(options.agents, MOST_AGENTS)
         numbers = (options.agents, options.bound, options.nodes or 0, options.no_following)
-        return self._call("mapf_solve", room, *_slice(map_file), *_slice(scen_file), *numbers)
+        return self._call(self._solver(options), room, *_slice(map_file), *_slice(scen_file), *numbers)
 
     def check(
         self, map_file: Input, scen_file: Input, plan: Input, agents: int, no_following: bool
@@ -77,6 +81,13 @@ class Library:
     def version(self) -> str:
         """The version that the library states."""
         return self._call("mapf_version", VERDICT_ROOM)[1].rstrip("\n")
+
+    def _solver(self, options: Options) -> str:
+        """The function that solves; an older library has one alone."""
+        name = "mapf_solve_any" if options.any_optimum else "mapf_solve"
+        if not hasattr(self._functions, name):
+            raise NotBuilt(f"the library {self.path} is older and has no {name}: bindings/build makes a new one")
+        return name
 
     def _call(self, name: str, room: int, *arguments: Any) -> Tuple[int, str]:
         """Calls a function, once more with as much room as its text needs where it had too little."""

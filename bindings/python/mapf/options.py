@@ -16,6 +16,7 @@ class Options(NamedTuple):
 
     agents: how many rows are taken. bound: the greatest sum of costs. workers: threads. nodes: a limit, or None.
     no_following: no agent may enter a cell in the step in which another leaves it.
+    any_optimum: of several plans that cost least any will do, by another search.
     """
 
     agents: int
@@ -23,13 +24,14 @@ class Options(NamedTuple):
     workers: int = 1
     nodes: Optional[int] = None
     no_following: bool = False
+    any_optimum: bool = False
 
     def taken(self) -> "Options":
         """With numbers that a backend can take: one outside its range, which it refuses, stands for all of them."""
         nodes = None if self.nodes is None else _number(self.nodes, 1)
         return self._replace(
             agents=_number(self.agents), bound=_number(self.bound), workers=_number(self.workers), nodes=nodes,
-            no_following=bool(self.no_following))
+            no_following=bool(self.no_following), any_optimum=bool(self.any_optimum))
 
     def words(self) -> List[str]:
         """The words of the program's command line."""
@@ -38,7 +40,8 @@ class Options(NamedTuple):
     def limits(self) -> List[str]:
         """The words that `series` has, too."""
         words = ["--bound", str(self.bound)] + ([] if self.nodes is None else ["--nodes", str(self.nodes)])
-        return words + (["--no-following"] if self.no_following else [])
+        words += ["--no-following"] if self.no_following else []
+        return words + (["--any-optimum"] if self.any_optimum else [])
 
 
 def _number(given: int, least: int = 0) -> int:

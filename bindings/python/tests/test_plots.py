@@ -8,7 +8,7 @@ from series_support import HEAD, Folder
 from support import command, written
 
 SVG = "{http://www.w3.org/2000/svg}"
-ASK = "10,1000000,,,following,1.0.0,"
+ASK = "10,1000000,,,following,no,1.0.0,"
 # For each scenario its runs: agents, status, seconds.
 FAST = {"a": ((5, "solved", 0.01), (10, "solved", 0.2)),
         "b": ((5, "solved", 0.03), (10, "solved", 4), (15, "out_of_time", 10)),

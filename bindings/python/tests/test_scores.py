@@ -29,7 +29,7 @@ class Scores(unittest.TestCase):
         self.bounds(BOUNDS)
 
     def bounds(self, rows, rule="following"):
-        lines = [f"9,99,,,{rule},1.0.0," + ",".join(map(str, row)) + ",,0.1\n" for row in rows]
+        lines = [f"9,99,,,{rule},yes,1.0.0," + ",".join(map(str, row)) + ",,0.1\n" for row in rows]
         written(self.folder, "rows.csv", HEAD + "\n" + "".join(lines))
 
     def plans(self, **planners):
@@ -169,7 +169,7 @@ class Examples(unittest.TestCase):
     def test_the_plans_of_the_examples_by_a_series(self):
         with tempfile.TemporaryDirectory() as folder:
             rows, files = os.path.join(folder, "rows.csv"), ("--maps", EXAMPLES, "--scens", EXAMPLES)
-            self.assertEqual(command("series", *files, "--from", 2, "--to", 2, "--seconds", 60, "--csv", rows)[0], 0)
+            self.assertEqual(command("series", *files, "--from", 2, "--to", 2, "--seconds", 600, "--csv", rows)[0], 0)
             plans = os.path.join(EXAMPLES, "plans")
             status, out, _ = command("score", *files, "--plans", plans, "--bounds", rows)
             self.assertEqual(status, 1)

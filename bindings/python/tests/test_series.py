@@ -25,7 +25,7 @@ class TwoMaps(Folder):
         written(self.folder, "scens/more/ring.scen", RING[1].replace(b"map.map", b"maps/ring.map"))
 
     def asked(self, *more):
-        return self.words("--from", 1, "--step", 1, "--bound", 6, "--seconds", 30, *more)
+        return self.words("--from", 1, "--step", 1, "--bound", 6, "--seconds", 600, *more)
 
     def sorted(self):
         return sorted(row[:6] for row in rows_of(self.csv))
@@ -72,6 +72,10 @@ class TwoMaps(Folder):
         command(*self.asked("--no-following", "--from", 4, "--bound", 4))
         self.assertEqual(self.sorted(), [["ring.map", "ring.scen", "4", "none", "", "5"]])
 
+    def test_any_optimum(self):
+        self.assertEqual(command(*self.asked("--any-optimum", "--jobs", 2)), (0, "", ""))
+        self.assertEqual(self.sorted(), self.ROWS)
+
     def test_rates(self):
         command(*self.asked("--jobs", 2))
         written(self.folder, "scens/other.scen", scen_of(3, 1, (0, 0, 2, 0), (1, 0, 1, 0), name="narrow.map"))
@@ -102,10 +106,22 @@ class TwoMaps(Folder):
 
 class StandIn(WithStandIn):
     def test_the_first_that_is_out_of_time_is_the_last(self):
-        self.assertEqual(command(*self.words("--seconds", 3, "--jobs", 3)), (0, "", ""))
-        self.assertEqual(sorted(rows_of(self.csv), key=lambda row: (row[1], int(row[2]))), self.expected("15", "out_of_time", "", "", ""))
+        rows = self.out_of_time()
+        self.assertEqual(rows, self.expected("15", "out_of_time", "", "", ""))
         self.assertEqual(sorted(agents for agents, _ in self.began()), [5, 5, 5, 10, 10, 10, 15, 15, 15])
         self.gone()
+
+    def out_of_time(self):
+        """The rows, with a limit on time that leaves enough of it for all runs of up to 10 agents."""
+        for seconds in (3, 12, 50):
+            if self.runs():
+                os.remove(os.path.join(self.folder, "began"))
+                os.remove(self.csv)
+            self.assertEqual(command(*self.words("--seconds", seconds, "--jobs", 3)), (0, "", ""))
+            rows = sorted(rows_of(self.csv), key=lambda row: (row[1], int(row[2])))
+            if [row[3] for row in rows].count("solved") == 6:
+                break
+        return rows
 
     def test_rows_behind_the_first_unsolved_are_not_joined(self):
         _, out, _ = command(*self.words("--nodes", 9, "--list"))
@@ -126,9 +142,7 @@ class StandIn(WithStandIn):
     def test_what_the_program_tells_of_its_search(self):
         says = 'echo "mapf: 0 nodes, no plan costs less than 90" >&2; echo "mapf: 77 nodes, no plan costs less than 99" >&2'
         self.program(says, "--progress")
-        command(*self.words("--seconds", 3, "--jobs", 3))
-        rows = sorted(rows_of(self.csv), key=lambda row: (row[1], int(row[2])))
-        self.assertEqual([row[2:] for row in rows[:3]], [
+        self.assertEqual([row[2:] for row in self.out_of_time()[:3]], [
             ["5", "solved", "50", "", "77"], ["10", "solved", "100", "", "77"], ["15", "out_of_time", "", "99", "77"]])
 
     def test_a_program_that_fails(self):
@@ -147,7 +161,7 @@ class StandIn(WithStandIn):
                 self.assertEqual([row[3] for row in rows], ["solved"] * len(rows))
                 self.gone()
                 before = len(self.began())
-                command(*self.words("--resume"))
+                command(*self.words("--resume", "--seconds", 500))
                 self.assertEqual(sorted(rows_of(self.csv)), sorted(self.expected("15", "gave_up", "", "140", "7")))
                 self.assertEqual(len(self.began()) - before, 9 - len(rows))
                 os.remove(self.csv)
@@ -157,13 +171,13 @@ class StandIn(WithStandIn):
         """Begins a series, and stops it once three runs don't end."""
         # Where the tests run in the background, Ctrl-C is ignored, and a child would take that over.
         heard = signal.signal(signal.SIGINT, signal.default_int_handler)
-        running = process(*self.words("--jobs", 3), stderr=subprocess.PIPE)
+        running = process(*self.words("--jobs", 3, "--seconds", 500), stderr=subprocess.PIPE)
         signal.signal(signal.SIGINT, heard)
-        end = time.monotonic() + 60
+        end = time.monotonic() + 300
         while time.monotonic() < end and not (os.path.exists(self.folder + "/began") and [a for a, _ in self.began()].count(15) == 3):
             time.sleep(0.02)
         running.send_signal(number)
-        _, err = running.communicate(timeout=60)
+        _, err = running.communicate(timeout=300)
         self.assertEqual(running.returncode, 130)
         self.assertIn(b"stopped; ", err)
 
@@ -174,7 +188,7 @@ class StandIn(WithStandIn):
                 os.kill(number, 0)
 
     def test_joins(self):
-        row = "10,1000000,,,following,7.8.9,wide.map,a.scen,5,solved,50,,,0.100\n"
+        row = "10,1000000,,,following,no,7.8.9,wide.map,a.scen,5,solved,50,,,0.100\n"
         one, two = (written(self.folder, name, HEAD + "\n" + text) for name, text in (("1.csv", row), ("2.csv", row.replace("a.scen", "b.scen"))))
         self.assertEqual(command("series", "--csv", self.csv, "--join", two, one)[0], 0)
         with open(self.csv) as file:

@@ -11,22 +11,23 @@ from contextlib import suppress
 from series_support import FIRST_HEAD, HEAD, Folder, WithStandIn, rows_of
 from support import EXAMPLES, command, process, scen_of, with_program, written
 
-ASK = "10,1000000,,,following,7.8.9,"
+ASK = "10,1000000,,,following,no,7.8.9,"
+LIMITS = ("--seconds", 20.5, "--bound", 700, "--nodes", 9, "--memory", 500, "--no-following", "--any-optimum")
 ROW = "wide.map,a.scen,5,solved,50,,,0.100\n"
 
 
 class Asked(WithStandIn):
     def test_rows_begin_with_what_was_asked(self):
-        limits = ("--seconds", 20.5, "--bound", 700, "--nodes", 9, "--memory", 500, "--no-following")
-        self.assertEqual(command(*self.words(*limits)), (0, "", ""))
+        self.assertEqual(command(*self.words(*LIMITS)), (0, "", ""))
         with open(self.csv, newline="") as file:
             rows = list(csv.reader(file))
         self.assertEqual(",".join(rows[0]), HEAD)
-        self.assertEqual({tuple(row[:6]) for row in rows[1:]}, {("20.5", "700", "9", "500", "no_following", "7.8.9")})
+        asked = "20.5", "700", "9", "500", "no_following", "yes", "7.8.9"
+        self.assertEqual({tuple(row[:7]) for row in rows[1:]}, {asked})
         self.assertEqual(len(rows), 10)
 
     def test_listed_commands_ask_the_same(self):
-        limits = ("--seconds", 20.5, "--bound", 700, "--nodes", 9, "--memory", 500, "--no-following", "--to", 5)
+        limits = (*LIMITS, "--to", 5)
         _, out, _ = command(*self.words(*limits, "--list"))
         for line in out.splitlines():
             subprocess.run(["sh", "-c", line], check=True)
@@ -43,7 +44,8 @@ class Asked(WithStandIn):
             (("--bound", 5), "`bound` 1000000", "`bound` 5"),
             (("--nodes", 3), "`nodes_limit` empty", "`nodes_limit` 3"),
             (("--memory", 99), "`memory_limit` empty", "`memory_limit` 99"),
-            (("--no-following",), "`rule` following", "`rule` no_following"))
+            (("--no-following",), "`rule` following", "`rule` no_following"),
+            (("--any-optimum",), "`any_optimum` no", "`any_optimum` yes"))
         for more, found, wanted in cases:
             self.refused(before, f"another ask: found {found}, wanted {wanted}", *more)
         self.program("", version="8.0.0")
@@ -113,50 +115,50 @@ class Files(WithStandIn):
             for more in ((), ("--resume",), ("--join", part), ("--rates",), ("--plot", self.folder + "/rates.svg")):
                 with self.subTest(path=path, more=more):
                     running = process(*self.words(*more, "--csv", path), stdout=subprocess.PIPE, stderr=subprocess.PIPE)
-                    out, err = running.communicate(timeout=60)
+                    out, err = running.communicate(timeout=300)
                     self.assertEqual((running.returncode, out), (3, b""))
                     self.assertIn(f"{path}: no file of rows: found a folder, a device or a fifo".encode(), err)
 
     def test_one_writer_at_a_time(self):
-        running = process(*self.words("--jobs", 3), stderr=subprocess.PIPE)
+        running = process(*self.words("--jobs", 3, "--seconds", 500), stderr=subprocess.PIPE)
         self.addCleanup(running.stderr.close)
         self.until(lambda: os.path.exists(self.csv) and len(self.contents().splitlines()) == 7)
-        for more in (("--resume",), ("--join", written(self.folder, "part", HEAD + "\n" + ASK + ROW))):
+        for more in (("--resume", "--seconds", 500), ("--join", written(self.folder, "part", HEAD + "\n" + ASK + ROW))):
             before = self.contents()
             status, _, err = command(*self.words(*more))
             self.assertEqual((status, self.contents()), (3, before))
             self.assertIn("another process writes the file", err)
         running.terminate()
-        self.assertEqual(running.wait(timeout=60), 130)
+        self.assertEqual(running.wait(timeout=300), 130)
         self.program("nodes=7")
-        self.assertEqual(command(*self.words("--resume")), (0, "", ""))
+        self.assertEqual(command(*self.words("--resume", "--seconds", 500)), (0, "", ""))
         self.assertEqual(sorted(rows_of(self.csv)), sorted(self.expected("15", "gave_up", "", "140", "7")))
 
     def test_killed_and_resumed(self):
-        running = process(*self.words("--jobs", 3), stderr=subprocess.DEVNULL)
+        running = process(*self.words("--jobs", 3, "--seconds", 500), stderr=subprocess.DEVNULL)
         self.until(lambda: os.path.exists(self.csv) and len(self.contents().splitlines()) == 7)
         running.kill()
-        running.wait(timeout=60)
+        running.wait(timeout=300)
         for _, number in self.began():
             with suppress(ProcessLookupError):
                 os.kill(number, signal.SIGKILL)
         with open(self.csv, "ab") as file:
-            file.write(b"10,1000000,,,fol")
+            file.write(b"500,1000000,,,fol")
         self.program("nodes=7")
-        self.assertEqual(command(*self.words("--resume")), (0, "", ""))
+        self.assertEqual(command(*self.words("--resume", "--seconds", 500)), (0, "", ""))
         self.assertEqual(sorted(rows_of(self.csv)), sorted(self.expected("15", "gave_up", "", "140", "7")))
 
     def test_many_begin_at_once(self):
         self.program("nodes=7")
         running = [process(*self.words("--resume"), stderr=subprocess.PIPE) for _ in range(5)]
-        said = [one.communicate(timeout=60)[1] for one in running]
+        said = [one.communicate(timeout=300)[1] for one in running]
         statuses = {one.returncode for one in running}
         self.assertLessEqual(statuses, {0, 3}, said)
         self.assertIn(0, statuses)
         self.assertEqual(sorted(rows_of(self.csv)), sorted(self.expected("15", "gave_up", "", "140", "7")))
 
     def until(self, condition):
-        end = time.monotonic() + 60
+        end = time.monotonic() + 300
         while not condition():
             self.assertLess(time.monotonic(), end)
             time.sleep(0.02)
@@ -165,7 +167,7 @@ class Files(WithStandIn):
         self.program("nodes=7")
         limit = functools.partial(resource.setrlimit, resource.RLIMIT_FSIZE, (400, 400))
         full = process(*self.words(), stderr=subprocess.PIPE, preexec_fn=limit)
-        _, err = full.communicate(timeout=60)
+        _, err = full.communicate(timeout=300)
         self.assertEqual(full.returncode, 5)
         self.assertRegex(err, b"No space left|File too large")
         rows = rows_of(self.csv)
@@ -238,7 +240,7 @@ class Options(WithStandIn):
 class Memory(Folder):
     def test_a_limit_on_memory(self):
         scen = os.path.join(EXAMPLES, "grid-32-32.scen")
-        words = ("series", "--maps", EXAMPLES, "--scens", scen, "--from", 40, "--to", 40, "--seconds", 60)
+        words = ("series", "--maps", EXAMPLES, "--scens", scen, "--from", 40, "--to", 40, "--seconds", 600)
         self.assertEqual(command(*words, "--memory", 32, "--csv", self.csv), (0, "", ""))
         (row,) = rows_of(self.csv)
         self.assertEqual(row[:5], ["grid-32-32.map", "grid-32-32.scen", "40", "out_of_memory", ""])

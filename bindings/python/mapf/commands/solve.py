@@ -30,6 +30,8 @@ def add(commands: Any) -> None:
     parser.add_argument("--nodes", type=int, metavar="N", help="a limit on nodes")
     parser.add_argument(
         "--no-following", action="store_true", help="no agent may enter a cell in the step in which another leaves it")
+    parser.add_argument(
+        "--any-optimum", action="store_true", help="of several plans that cost least any will do, by another search")
     parser.add_argument("--seconds", type=float, metavar="S", help="a limit on time")
     parser.add_argument("--progress", action="store_true", help="say how far the search is")
     parser.add_argument("--json", action="store_true", help="print a JSON object")
@@ -43,7 +45,7 @@ def run(asked: argparse.Namespace) -> int:
         asked.agents = most_agents(read_input("scenario", asked.scen).contents)
     answer = calls.solve(
         asked.map, asked.scen, asked.agents, asked.bound, asked.nodes, asked.no_following, asked.workers, asked.seconds,
-        _tell if asked.progress else None)
+        _tell if asked.progress else None, asked.any_optimum)
     seconds = time.monotonic() - begin
     sys.stdout.write(json.dumps(object_of(asked, answer, seconds)) + "\n" if asked.json else answer.text())
     sys.stdout.flush()

@@ -10,7 +10,7 @@ class Limits(NamedTuple):
     """What a run may take, and the rule.
 
     seconds: of the whole run. bound: the greatest cost. nodes: of the search. memory: MB of address space.
-    None sets no limit.
+    any_optimum: any plan that costs least will do. None sets no limit.
     """
 
     seconds: float
@@ -18,10 +18,11 @@ class Limits(NamedTuple):
     nodes: Optional[int] = None
     memory: Optional[int] = None
     no_following: bool = False
+    any_optimum: bool = False
 
     def options(self, agents: int) -> Options:
         """What the program is asked."""
-        return Options(agents, self.bound, 1, self.nodes, self.no_following)
+        return Options(agents, self.bound, 1, self.nodes, self.no_following, self.any_optimum)
 
     def around(self) -> List[str]:
         """What starts a program with no more memory."""
@@ -35,6 +36,7 @@ class Limits(NamedTuple):
             "nodes_limit": "" if self.nodes is None else str(self.nodes),
             "memory_limit": "" if self.memory is None else str(self.memory),
             "rule": "no_following" if self.no_following else "following",
+            "any_optimum": "yes" if self.any_optimum else "no",
             "version": version,
         }
 
