@@ -67,9 +67,9 @@ def program_check(grid, scen, plan, agents, rule=False):
     return status, line.rstrip("\n")
 
 
-def program_solve(grid, scen, agents, bound=1_000_000, nodes=None, rule=False):
+def program_solve(grid, scen, agents, bound=1_000_000, nodes=None, rule=False, any_optimum=False):
     """The status and the text of the program."""
-    limit = ["--nodes", str(nodes)] if nodes else []
+    limit = (["--nodes", str(nodes)] if nodes else []) + (["--any-optimum"] if any_optimum else [])
     return _program("solve", {"map": grid, "scen": scen}, agents, rule, "--bound", str(bound), "--workers", "1", *limit)
 
 

@@ -53,6 +53,19 @@ class Solving(PageTest):
                 self.assertEqual(self.shown(), (f"Valid, cost {cost}", f"valid {cost}"))
                 self.assertEqual(self.plan(), text)
 
+    def test_any_optimum(self):
+        self.browser.click("#any")
+        for rule in (False, True):
+            with self.subTest(rule=rule):
+                self.ask(10, rule=rule)
+                cost = program_solve(*GRID, 10, rule=rule)[1].split(None, 3)[2]
+                self.assertEqual(self.shown(), (f"Valid, cost {cost}", f"valid {cost}"))
+                self.assertEqual((0, self.plan()), program_solve(*GRID, 10, rule=rule, any_optimum=True))
+                for part in ("$('note')", "document.querySelector('footer')"):
+                    self.assertIn("an optimum, whichever of several", self.browser.value(part + ".innerText").lower())
+        self.browser.click("#any")
+        self.assertNotIn("whichever", self.browser.value("document.querySelector('footer').innerText"))
+
     def test_saves_the_plan(self):
         self.browser.click("#save")
         saved, ends = os.path.join(self.browser.folder, "solved.plan"), time.monotonic() + DEADLINE
