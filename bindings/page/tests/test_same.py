@@ -28,8 +28,9 @@ class Same(PageTest):
         draw, asks, wanted = random.Random(74), [], []
         for grid, scen, agents in small_instances(INSTANCES, 74):
             bound, nodes, rule = draw.choice((0, 5, 12, 1_000_000)), draw.choice((1, 20, 300)), draw.random() < 0.4
-            for call, one, other in (("mapf_solve_any", grid, scen), ("mapf_solve", grid, scen),
-                                     ("mapf_solve", spoiled(draw, grid), scen), ("mapf_solve", grid, spoiled(draw, scen))):
+            for call, one, other in (
+                    ("mapf_solve_any", grid, scen), ("mapf_solve", grid, scen),
+                    ("mapf_solve", spoiled(draw, grid), scen), ("mapf_solve", grid, spoiled(draw, scen))):
                 asks.append((call, (one, other), (agents, bound, nodes, rule)))
                 wanted.append(program_solve(one, other, agents, bound, nodes, rule, call == "mapf_solve_any"))
             text = wanted[-3][1].encode()

@@ -35,7 +35,7 @@ def solve(
     seconds: after so many the answer is `OutOfTime`; None sets no limit.
     progress: is called with the nodes that were taken and what no plan costs less than, at first, each second and at
         the end (by the library after 1, 10, 100 and so on nodes). What it raises ends the search.
-    any_optimum: of several plans that cost least any will do, by another search: with many agents it mostly ends sooner.
+    any_optimum: of several plans that cost least any will do: with many agents that mostly takes less time.
 
     Ctrl-C ends the search. Raises a `Fault` where something is refused, and `NotBuilt` where there is neither the
     library nor the program.

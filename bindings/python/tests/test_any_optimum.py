@@ -48,7 +48,8 @@ class AnyOptimum(unittest.TestCase):
                 self.assertEqual((answer.cost, mapf.check(*CROSSING, answer).line), (5, "valid 5"))
                 told = []
                 answer = solve_by(
-                    backend, *ENDLESS, 2, 1_000_000, 20, False, progress=lambda *words: told.append(words), any_optimum=True)
+                    backend, *ENDLESS, 2, 1_000_000, 20, False, any_optimum=True,
+                    progress=lambda *words: told.append(words))
                 self.assertEqual((type(answer), answer.nodes), (mapf.GaveUp, 20))
                 self.assertGreaterEqual(answer.lower_bound, LEAST)
                 self.assertTrue(told)

@@ -52,7 +52,8 @@ def _add_limits(parser: argparse.ArgumentParser) -> None:
         "--nodes", type=nodes, metavar="N", help="a limit on nodes, behind which a lower bound is known")
     parser.add_argument("--memory", type=megabytes, metavar="MB", help="the address space of a run in MB, 16 at least")
     parser.add_argument("--no-following", action="store_true", help="no agent may enter a cell in the step in which another leaves it")
-    parser.add_argument("--any-optimum", action="store_true", help="of several plans that cost least any will do, by another search")
+    parser.add_argument(
+        "--any-optimum", action="store_true", help="of several plans that cost least any will do, by another search")
 
 
 def _add_modes(modes: Any) -> None:
