@@ -9,7 +9,7 @@ True
 
 What the program answers is proved, by its contracts; this package and its converters are tested only.
 """
-from .calls import check, solve, version
+from .calls import check, read_plan, solve, version
 from .faults import (
     ArgumentFault,
     BackendFailure,
@@ -23,9 +23,11 @@ from .faults import (
     PlanFault,
     ScenarioFault,
 )
-from .plan import GaveUp, NoPlan, Plan
+from .plan import GaveUp, NoPlan, OutOfTime, Plan
 from .plan_text import read_text
 from .verdict import Verdict
+
+__version__ = "0.1.0-dev"
 
 __all__ = [
     "ArgumentFault",
@@ -39,11 +41,13 @@ __all__ = [
     "NoPlan",
     "NotBuilt",
     "OutOfMemory",
+    "OutOfTime",
     "Plan",
     "PlanFault",
     "ScenarioFault",
     "Verdict",
     "check",
+    "read_plan",
     "read_text",
     "solve",
     "version",

@@ -7,6 +7,7 @@ from typing import Dict, NamedTuple, Optional, Type
 from . import faults
 from ._input import Input
 from .instance import byte_at, lines_of, map_size, rows_of, words_of
+from .options import Options
 from .plan_text import HEADS, shown
 
 WANTED = {
@@ -48,9 +49,7 @@ class Asked(NamedTuple):
     map_file: Input
     scen_file: Input
     plan: Optional[Input]
-    agents: int
-    bound: Optional[int]
-    nodes: Optional[int]
+    options: Options
 
 
 def fault_of(line: str, asked: Asked) -> faults.Fault:
@@ -88,12 +87,14 @@ def _found(number: int, places: "list[int]", asked: Asked) -> str:
     if number <= 13:
         return _found_in_scenario(number, places, lines_of(asked.scen_file.contents))
     if number <= 22:
-        return f"{asked.agents}" if number == 21 else f"{places[0]} rows for {asked.agents} agents"
+        agents = asked.options.agents
+        return f"{agents}" if number == 21 else f"{places[0]} rows for {agents} agents"
     if number <= 27:
         return _found_in_row(number, places, asked)
     if number <= 33 and asked.plan:
         return _found_in_plan(number, places, asked.plan.contents.split(b"\n"))
-    arguments: Dict[int, str] = {41: f"{asked.bound}", 42: "1", 43: "too little", 44: f"{asked.nodes}"}
+    _, bound, workers, nodes, *_ = asked.options
+    arguments: Dict[int, str] = {41: f"{bound}", 42: f"{workers}", 43: "too little", 44: f"{nodes}"}
     return arguments.get(number, "a failure")
 
 

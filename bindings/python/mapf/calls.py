@@ -2,41 +2,55 @@
 from __future__ import annotations
 
 import operator
-from typing import Optional, Union
+from typing import Iterable, Optional, Sequence, Union
 
-from ._backend import Backend, chosen
+from . import converters
 from ._explain import Asked, fault_of
 from ._input import Given, Input, read_input
-from .plan import GaveUp, NoPlan, Plan
-from .plan_text import agents_stated, read_text
+from .backend import Backend, chosen
+from .faults import ArgumentFault, PlanFault
+from .instance import most_agents
+from .options import MOST_BOUND, Options
+from .plan import GaveUp, NoPlan, OutOfTime, Path, Plan
+from .plan_text import Answer, agents_stated, read_text, shown
+from .run import Progress
 from .verdict import Verdict, read_verdict
 
-GREATEST = 2**64 - 1
+Paths = Sequence[Sequence[Sequence[int]]]
 
 
 def solve(
-    map: Given, scen: Given, agents: int, bound: int = 1_000_000, nodes: Optional[int] = None, no_following: bool = False
-) -> Union[Plan, NoPlan, GaveUp]:
+    map: Given, scen: Given, agents: Optional[int] = None, bound: int = MOST_BOUND, nodes: Optional[int] = None,
+    no_following: bool = False, workers: int = 1, seconds: Optional[float] = None, progress: Optional[Progress] = None,
+    any_optimum: bool = False,
+) -> Answer:
     """A plan without conflict for the scenario's first rows that costs at most the bound, such that none costs less.
 
     map, scen: paths, or the bytes themselves, in MovingAI's formats.
-    agents: how many rows are taken, 1 to 1,000.
+    agents: how many rows are taken, 1 to 1,000; None takes all of them up to 1,000.
     bound: the greatest sum of costs, 0 to 1,000,000. Where no plan costs as little, the answer is `NoPlan`.
     nodes: after so many nodes of the constraint tree, 1 to 1,000,000, the answer is `GaveUp`; None sets no limit.
     no_following: no agent may enter a cell in the step in which another leaves it.
+    workers: threads of the program, 1 to 64, whose number changes no answer; the library has one.
+    seconds: after so many the answer is `OutOfTime`; None sets no limit.
+    progress: is called with the nodes that were taken and what no plan costs less than, at first, each second and at
+        the end (by the library after 1, 10, 100 and so on nodes). What it raises ends the search.
+    any_optimum: of several plans that cost least any will do: with many agents that mostly takes less time.
 
-    Raises a `Fault` where something is refused, and `NotBuilt` where there is neither the library nor the program.
+    Ctrl-C ends the search. Raises a `Fault` where something is refused, and `NotBuilt` where there is neither the
+    library nor the program.
     """
-    return solve_by(chosen(), map, scen, agents, bound, nodes, no_following)
+    return solve_by(
+        chosen("program"), map, scen, agents, bound, nodes, no_following, workers, seconds, progress, any_optimum)
 
 
 def check(
-    map: Given, scen: Given, plan: Union[Given, Plan], agents: Optional[int] = None, no_following: bool = False
+    map: Given, scen: Given, plan: Union[Given, Answer, Paths], agents: Optional[int] = None, no_following: bool = False
 ) -> Verdict:
     """The verdict on a plan for the scenario's first rows: valid, no plan given, or its first fault.
 
     map, scen: paths, or the bytes themselves, in MovingAI's formats.
-    plan: a plan, or the path or the bytes of a plan text.
+    plan: an answer, a list of each agent's positions up to its last arrival, or the path or the bytes of a plan text.
     agents: how many rows are taken; None takes the number that the plan's head states.
     no_following: no agent may enter a cell in the step in which another leaves it.
 
@@ -45,38 +59,78 @@ def check(
     return check_by(chosen(), map, scen, plan, agents, no_following)
 
 
+def read_plan(path: Given, format: str = "plan", map: Optional[Given] = None, scen: Optional[Given] = None) -> Answer:
+    """The plan of a file in one of `converters.FORMATS`, cut behind each agent's last arrival.
+
+    map: positions outside of it are refused; `eecbs-stdout` needs it. scen: `moves` and `tracker` need it. What doesn't
+    fit is a `ConversionFault`.
+    """
+    if format not in converters.FORMATS:
+        raise ArgumentFault(None, "no such format", None, repr(format), ", ".join(converters.FORMATS))
+    file = read_input("plan", path)
+    map_contents = None if map is None else read_input("map", map).contents
+    scen_contents = None if scen is None else read_input("scenario", scen).contents
+    return converters.read_plan(format, file.contents, file.path, map_contents, scen_contents)
+
+
 def version() -> str:
     """The version of the library or the program that answers."""
     return chosen().version()
 
 
 def solve_by(
-    backend: Backend, map_given: Given, scen_given: Given, agents: int, bound: int, nodes: Optional[int], no_following: bool
-) -> Union[Plan, NoPlan, GaveUp]:
+    backend: Backend, map_given: Given, scen_given: Given, agents: Optional[int], bound: int, nodes: Optional[int],
+    no_following: bool, workers: int = 1, seconds: Optional[float] = None, progress: Optional[Progress] = None,
+    any_optimum: bool = False,
+) -> Answer:
     """`solve`, by this backend."""
-    agents, bound = operator.index(agents), operator.index(bound)
-    nodes = None if nodes is None else operator.index(nodes)
+    if seconds is not None and not seconds > 0:
+        raise ArgumentFault(None, "no time", None, f"{seconds} seconds", "more than 0")
     map_file, scen_file = read_input("map", map_given), read_input("scenario", scen_given)
-    limit = None if nodes is None else _number(nodes, 1)
-    status, text = backend.solve(map_file, scen_file, _number(agents), _number(bound), limit, bool(no_following))
-    if status in (0, 1, 6):
-        return read_text(text)
-    raise fault_of(text, Asked(map_file, scen_file, None, agents, bound, nodes))
+    asked = most_agents(scen_file.contents) if agents is None else agents
+    options = Options(asked, bound, workers, nodes, no_following, any_optimum)
+    ended = backend.solve(map_file, scen_file, options.taken(), seconds, progress)
+    if ended.status is None:
+        return OutOfTime(ended.nodes, ended.lower_bound)
+    if ended.status in (0, 1, 6):
+        return read_text(ended.out)
+    raise fault_of(ended.out, Asked(map_file, scen_file, None, options))
 
 
 def check_by(
-    backend: Backend, map_given: Given, scen_given: Given, plan: Union[Given, Plan], agents: Optional[int], no_following: bool
+    backend: Backend, map_given: Given, scen_given: Given, plan: Union[Given, Answer, Paths], agents: Optional[int],
+    no_following: bool,
 ) -> Verdict:
     """`check`, by this backend."""
     map_file, scen_file = read_input("map", map_given), read_input("scenario", scen_given)
-    text = Input("plan", plan.text().encode(), None) if isinstance(plan, Plan) else read_input("plan", plan)
-    asked = agents_stated(text.contents) or 1 if agents is None else operator.index(agents)
-    status, line = backend.check(map_file, scen_file, text, _number(asked), bool(no_following))
+    text = _plan_text(plan)
+    stated = agents_stated(text.contents) or 1 if agents is None else operator.index(agents)
+    asked = Options(stated, no_following=no_following)
+    taken = asked.taken()
+    status, line = backend.check(map_file, scen_file, text, taken.agents, taken.no_following)
     if status in (0, 1):
         return read_verdict(line.rstrip("\n"))
-    raise fault_of(line, Asked(map_file, scen_file, text, asked, None, None))
+    raise fault_of(line, Asked(map_file, scen_file, text, asked))
 
 
-def _number(given: int, least: int = 0) -> int:
-    """A number that the backend can take: one outside its range, which it refuses, stands for all of them."""
-    return given if least <= given <= GREATEST else GREATEST
+def _plan_text(plan: Union[Given, Answer, Paths]) -> Input:
+    if isinstance(plan, (NoPlan, GaveUp, OutOfTime)):
+        return Input("plan", NoPlan(0).text().encode(), None)
+    if isinstance(plan, (list, tuple)):
+        plan = Plan(tuple(_path(agent, path) for agent, path in enumerate(plan)))
+    return Input("plan", plan.text().encode(), None) if isinstance(plan, Plan) else read_input("plan", plan)
+
+
+def _path(agent: int, path: Iterable[Sequence[int]]) -> Path:
+    """A path of whole numbers."""
+    place, places = path, []
+    try:
+        for place in path:
+            x, y = place
+            places.append((operator.index(x), operator.index(y)))
+        if places:
+            return tuple(places)
+    except (TypeError, ValueError):
+        pass
+    text = f"no position of agent {agent} at time {len(places)}"
+    raise PlanFault(None, text, None, shown(str(place)), "two whole numbers, x and y")

@@ -61,7 +61,7 @@ class ConversionFault(Fault):
 
 
 class NotBuilt(RuntimeError):
-    """Neither the library nor the program is built."""
+    """Neither the library nor the program is built, or the library is too old for what is asked."""
 
 
 class BackendFailure(RuntimeError):

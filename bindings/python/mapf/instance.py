@@ -4,6 +4,7 @@ from __future__ import annotations
 import re
 from typing import List, NamedTuple, Optional, Tuple
 
+from .options import MOST_AGENTS
 from .plan import Position
 
 BLANKS = re.compile(rb"[ \t]+")
@@ -37,6 +38,11 @@ def rows_of(contents: bytes) -> List[Optional[Row]]:
     while lines and not words_of(lines[-1]):
         lines.pop()
     return [_row(line) for line in lines]
+
+
+def most_agents(contents: bytes) -> int:
+    """How many agents a scenario is taken to have where nobody says: its rows, from 1 to 1,000."""
+    return max(1, min(len(rows_of(contents)), MOST_AGENTS))
 
 
 def _row(line: bytes) -> Optional[Row]:

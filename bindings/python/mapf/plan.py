@@ -1,11 +1,20 @@
-"""The answers of a search: a plan, no plan, or a lower bound."""
+"""The answers of a search: a plan, no plan, or a lower bound. A plan is true, and each other one is false."""
 from __future__ import annotations
 
 from dataclasses import dataclass
-from typing import Tuple
+from typing import Any, List, NamedTuple, Tuple
 
 Position = Tuple[int, int]
 Path = Tuple[Position, ...]
+
+
+class Place(NamedTuple):
+    """Where an agent is at a time: a row of a table."""
+
+    agent: int
+    time: int
+    x: int
+    y: int
 
 
 @dataclass(frozen=True)
@@ -34,6 +43,21 @@ class Plan:
         path = self.paths[agent]
         return path[min(time, len(path) - 1)]
 
+    def rows(self) -> List[Place]:
+        """The positions of each agent up to its last arrival, agent 0 first."""
+        paths = enumerate(self.paths)
+        return [Place(agent, time, x, y) for agent, path in paths for time, (x, y) in enumerate(path)]
+
+    def array(self) -> Any:
+        """Positions by time, agent, and x or y, up to the makespan: an array where there is numpy, else lists."""
+        agents = range(len(self.paths))
+        positions = [[list(self.at(agent, time)) for agent in agents] for time in range(self.makespan + 1)]
+        try:
+            import numpy
+        except ImportError:
+            return positions
+        return numpy.array(positions)
+
     def text(self) -> str:
         """The plan text, as ``mapf solve`` prints it and ``mapf check`` reads it."""
         lines = [f"plan {len(self.paths)} {self.cost}"]
@@ -41,8 +65,15 @@ class Plan:
         return "\n".join(lines) + "\n"
 
 
+class _Without:
+    """An answer without a plan."""
+
+    def __bool__(self) -> bool:
+        return False
+
+
 @dataclass(frozen=True)
-class NoPlan:
+class NoPlan(_Without):
     """No plan without conflict costs at most the bound."""
 
     bound: int
@@ -53,7 +84,7 @@ class NoPlan:
 
 
 @dataclass(frozen=True)
-class GaveUp:
+class GaveUp(_Without):
     """The search ended at its limit on nodes; no plan without conflict costs less than `lower_bound`."""
 
     nodes: int
@@ -62,3 +93,18 @@ class GaveUp:
     def text(self) -> str:
         """The text, as ``mapf solve`` prints it."""
         return f"gave up {self.nodes} {self.lower_bound}\n"
+
+
+@dataclass(frozen=True)
+class OutOfTime(_Without):
+    """The search was ended at its limit on time; no plan without conflict costs less than `lower_bound`.
+
+    Both numbers are those that were told last, and 0 where nothing was told.
+    """
+
+    nodes: int
+    lower_bound: int
+
+    def text(self) -> str:
+        """The text, as ``python3 -m mapf solve`` prints it."""
+        return f"out of time {self.nodes} {self.lower_bound}\n"

@@ -7,15 +7,15 @@ import sys
 import unittest
 from contextlib import redirect_stderr, redirect_stdout
 
-import mapf._library
-import mapf._program
+import mapf.library
+import mapf.program
 from mapf.commands import main
 
 ROOT = os.path.normpath(os.path.join(os.path.dirname(os.path.realpath(__file__)), "..", "..", ".."))
 EXAMPLES = os.path.join(ROOT, "examples")
 PACKAGE = os.path.join(ROOT, "bindings", "python")
-HAS_LIBRARY = os.path.isfile(mapf._library.library_path())
-HAS_PROGRAM = os.access(mapf._program.program_path(), os.X_OK)
+HAS_LIBRARY = os.path.isfile(mapf.library.library_path())
+HAS_PROGRAM = os.access(mapf.program.program_path(), os.X_OK)
 
 with_program = unittest.skipUnless(HAS_PROGRAM, "no program: ./mapf --version builds it")
 with_library = unittest.skipUnless(HAS_LIBRARY, "no library: bindings/build makes it")
@@ -23,7 +23,7 @@ with_library = unittest.skipUnless(HAS_LIBRARY, "no library: bindings/build make
 
 def backends():
     """Those that are built."""
-    return ([mapf._program.Program()] if HAS_PROGRAM else []) + ([mapf._library.Library()] if HAS_LIBRARY else [])
+    return ([mapf.program.Program()] if HAS_PROGRAM else []) + ([mapf.library.Library()] if HAS_LIBRARY else [])
 
 
 def map_of(rows):

@@ -123,6 +123,34 @@ class Calls(unittest.TestCase):
             answer = solve_by(backend, *BAY, 2, 100, None, False)
             self.assertEqual(check_by(backend, *BAY, answer, None, False).line, "valid 4")
 
+    def test_lists_of_positions_are_judged(self):
+        lists = [[(1, 0), (1, 1), (1, 0)], [(0, 0), (1, 0), [2, 0]]]
+        for backend in self.each("lists"):
+            for plan, agents, line in ((lists, None, "valid 4"), (tuple(lists[:1]), 2, "61 agent count 1"),
+                                       ([lists[0], lists[1][:2]], None, "64 wrong end agent 1"),
+                                       ([lists[0], lists[1] + [(2, 0)]], None, "65 ends late agent 1")):
+                self.assertEqual(check_by(backend, *BAY, plan, agents, False).line, line)
+
+    def test_answers_without_a_plan_are_judged(self):
+        for backend in self.each("no plan"):
+            for answer in (mapf.NoPlan(9), mapf.GaveUp(5, 4), mapf.OutOfTime(2000000, 4)):
+                self.assertEqual(check_by(backend, *BAY, answer, None, False).line, "no plan given")
+
+    def test_lists_that_are_no_positions(self):
+        first = "no position of agent 0 at time 0"
+        cases = (([[(1, 0)], [(0, 0), (1, 0, 2)]], "no position of agent 1 at time 1", "'(1, 0, 2)'"),
+                 ([[(1, 0.5)]], first, "'(1, 0.5)'"), ([[1]], first, "'1'"), ([7], first, "'7'"), ([[]], first, "'[]'"))
+        for lists, text, found in cases:
+            for backend in self.each("no positions", text=text):
+                with self.assertRaises(mapf.PlanFault) as refused:
+                    check_by(backend, *BAY, lists, None, False)
+                self.assertEqual((refused.exception.text, refused.exception.found), (text, found))
+        for lists, number in (([], 31), ([[(-1, 0)]], 32), ([[(3, 0)]], 33)):
+            for backend in self.each("no plan", lists=str(lists)):
+                with self.assertRaises(mapf.PlanFault) as refused:
+                    check_by(backend, *BAY, lists, None, False)
+                self.assertEqual(refused.exception.number, number)
+
     @with_library
     @with_program
     def test_faults_are_the_same_by_both(self):
@@ -145,6 +173,22 @@ class Files(unittest.TestCase):
         self.assertTrue(mapf.check(grid, scen, os.path.join(EXAMPLES, "plans", "bay-2.plan")).valid)
         self.assertEqual(mapf.check(grid, scen, answer, no_following=True).kind, "following conflict")
         self.assertRegex(mapf.version(), r"^\S*[0-9]+\.[0-9]+\.[0-9]+\S*$")
+
+    def test_plans_of_other_planners(self):
+        plans, bay = os.path.join(EXAMPLES, "plans"), [os.path.join(EXAMPLES, "bay" + end) for end in (".map", ".scen")]
+        for name, file in (("eecbs", "eecbs/bay-2.eecbs"), ("plan", "bay-2.plan"), ("moves", "moves/bay-2.moves")):
+            with self.subTest(name):
+                self.assertEqual(mapf.read_plan(os.path.join(plans, file), name, *bay).cost, 4)
+        path = os.path.join(plans, "eecbs/bay-2.eecbs")
+        with self.assertRaises(mapf.ConversionFault) as refused:
+            mapf.read_plan(path, "lacam")
+        self.assertEqual((refused.exception.path, refused.exception.line), (path, 1))
+        with self.assertRaises(mapf.ArgumentFault) as refused:
+            mapf.read_plan(path, "cbs")
+        self.assertEqual(refused.exception.found, "'cbs'")
+        self.assertIn("plan, eecbs, ", refused.exception.wanted)
+        with self.assertRaises(mapf.ConversionFault):
+            mapf.read_plan(b"none 4\n")
 
     def test_paths_in_faults(self):
         with tempfile.TemporaryDirectory() as folder:
@@ -186,5 +230,6 @@ class Files(unittest.TestCase):
             with self.subTest(asked), self.assertRaises(mapf.NotBuilt):
                 mapf.solve(*LINE, 1)
         os.environ["MAPF_BACKEND"] = "both"
-        with self.assertRaises(ValueError):
+        with self.assertRaises(mapf.ArgumentFault) as refused:
             mapf.solve(*LINE, 1)
+        self.assertEqual(str(refused.exception), "MAPF_BACKEND: found 'both', wanted `library` or `program`")

@@ -92,7 +92,7 @@ class Check(unittest.TestCase):
             self.assertEqual(status, 1)
             self.assertEqual([(row["status"], row["line"]) for row in rows], [
                 (1, "61 agent count 2"), (3, "32 bad line 3"), (3, "22 too few rows: 2"), (3, "no plan by its name"), (5, "50 cannot open scenario")])
-            self.assertEqual((rows[0]["map"], rows[0]["scenario"]), (grid, scen))
+            self.assertEqual((rows[0]["map"], rows[0]["scenario"]), ("bay.map", "bay.scen"))
             self.assertTrue(all(row["message"] for row in rows[1:]))
             path = written(folder, "spoiled", "Agent 1: (0,1)->\n")
             status, (row,) = self.rows("--map", grid, "--scen", scen, "--from", "eecbs", path)

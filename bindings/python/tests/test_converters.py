@@ -4,14 +4,16 @@ import unittest
 
 import mapf
 from mapf.calls import check_by, solve_by
-from mapf.converters import FORMATS, SHAPES, read_plan, write_plan
+from mapf.converters import SHAPES, WRITTEN, read_plan, write_plan
 from support import BAY, CROSSING, EXAMPLES, backends, map_of, scen_of, small_instances
 
 PLAN = mapf.Plan((((1, 0), (1, 1), (1, 0)), ((0, 0), (1, 0), (2, 0))))
 UNEVEN = mapf.Plan((((1, 0), (1, 0), (1, 1), (1, 2)), ((0, 1), (1, 1), (2, 1))))
 TEXTS = {
     "eecbs": "Agent 0: (0,1)->(1,1)->(0,1)->\nAgent 1: (0,0)->(0,1)->(0,2)->\n",
+    "lns": "Agent 0:(0,1)->(1,1)->(0,1)->\nAgent 1:(0,0)->(0,1)->(0,2)->\n",
     "lacam": "agents=2\nsolved=1\nsoc=4\nmakespan=2\nsolution=\n0:(1,0),(0,0),\n1:(1,1),(1,0),\n2:(1,0),(2,0),\n",
+    "mapf-visualizer": "0:(1,0),(0,0),\n1:(1,1),(1,0),\n2:(1,0),(2,0),\n",
     "libmultirobotplanning": "statistics:\n  cost: 4\n  makespan: 2\nschedule:\n"
     "  agent0:\n    - x: 1\n      y: 0\n      t: 0\n    - x: 1\n      y: 1\n      t: 1\n    - x: 1\n      y: 0\n      t: 2\n"
     "  agent1:\n    - x: 0\n      y: 0\n      t: 0\n    - x: 1\n      y: 0\n      t: 1\n    - x: 2\n      y: 0\n      t: 2\n",
@@ -21,28 +23,43 @@ TEXTS = {
 SPOILED = {
     "eecbs": (
         (("Agent 0", "Agent 1"), 1), (("Agent 1", "Agent 2"), 2), (("Agent 0: ", "Agent 0:"), 1), (("Agent 0", "agent 0"), 1),
-        (("(0,1)->\nAgent", "(0,1)\nAgent"), 1), (("(0,2)->\n", "(0,2)->"), 2), (("(0,2)->\n", "(0,2)->\n\n"), 3),
+        (("(0,1)->\nAgent", "(0,1)\nAgent"), 1), (("(0,2)->\n", "(0,2)"), 2), (("(0,1)->\n", "(0,1)->\n\n"), 2),
         (("(0,0)", "(0, 0)"), 2), (("(0,0)", "(0,-1)"), 2), (("(0,0)", "(0,0,0)"), 2), (("(0,0)", "(00,0)"), 2),
         (("(0,2)->", "(0,3)->"), 2), (("(1,1)->", "(2,1)->"), 1), (("(0,0)", "[0,0]"), 2), (("(0,0)->(0,1)->(0,2)->", ""), 2),
         (("(0,0)", "(1000000000,0)"), 2), (("->", ","), 1), ((TEXTS["eecbs"], ""), 1), (("(0,1)->\n", "(0,1)-> \n"), 1),
     ),
+    "lns": (
+        (("Agent 0", "Agent 1"), 1), (("Agent 1", "Agent 0"), 2), (("Agent 0:", "Agent 0: "), 1),
+        (("Agent 1:", "Agent 1"), 2), (("(0,0)->", "(0,0)"), 2), (("(0,0)->", "(0,0) ->"), 2), (("(0,0)", "(0,0"), 2),
+        (("(0,0)", "(0.0,0)"), 2), (("(0,2)", "(0,3)"), 2), (("(1,1)", "(2,1)"), 1), (("(0,0)->(0,1)->(0,2)->", ""), 2),
+        (("\nAgent 1", "\n\nAgent 1"), 2), (("(0,2)->\n", "(0,2)->\nx"), 3), ((TEXTS["lns"], ""), 1),
+    ),
     "lacam": (
-        (("solution=\n", ""), 5), (("agents=2", "agents=3"), 1), (("makespan=2", "makespan=3"), 4), (("solved=1", "solved=0"), 2),
+        (("solution=\n", ""), 5), (("agents=2", "agents=3"), 1), (("makespan=2", "makespan=3"), 4), (("solved=1", "solved=2"), 2),
         (("1:(1,1)", "2:(1,1)"), 7), (("1:(1,1),(1,0),\n", ""), 7), (("(1,1),(1,0),", "(1,1),"), 7), (("(1,0),\n2", "(1,0)\n2"), 7),
-        (("(2,0),\n", "(2,0),"), 8), (("(2,0),\n", "(2,0),\n\n"), 9), (("(2,0)", "(3,0)"), 8), (("(1,1)", "(1,2)"), 7),
+        (("(2,0),\n", "(2,0)"), 8), (("(1,0),\n2", "(1,0),\n\n2"), 8), (("(2,0)", "(3,0)"), 8), (("(1,1)", "(1,2)"), 7),
         (("soc=4", "soc 4"), 3), (("soc=4", "agents=2"), 3), (("(2,0)", "(2;0)"), 8), (("0:", "00:"), 6), (("(2,0),", "(2,0), "), 8),
         ((TEXTS["lacam"], ""), 1), ((TEXTS["lacam"], "solution=\n"), 2), ((TEXTS["lacam"], "solution=\n0:\n"), 2), (("(2,0)", "(-2,0)"), 8),
+        (("soc=4", "soc=four"), 3), (("soc=4", "soc=1000000001"), 3), (("(1,1)", "(1,1,Y_PLUS)"), 7),
+    ),
+    "mapf-visualizer": (
+        (("0:", "1:"), 1), (("1:", "0:"), 2), (("1:", "solution=\n1:"), 2), (("(1,1),", "(1,1,X_BACK),"), 2),
+        (("(1,1),", "(1,1,Z_PLUS),"), 2), (("(1,1),", "(1,1,),"), 2), (("(1,1),", "(1,1)"), 2), (("(1,1),", ""), 2),
+        (("(1,1)", "(1,2)"), 2), (("(2,0)", "(3,0)"), 3), (("(2,0)", "(2,0"), 3), (("2:(1,0),(2,0),", "2:"), 3),
+        (("2:", "\n2:"), 3), ((TEXTS["mapf-visualizer"], ""), 1),
     ),
     "libmultirobotplanning": (
-        (("schedule:", "plan:"), 4), (("agent0", "agent1"), 5), (("agent1", "agent2"), 15), (("      t: 1\n", "      t: 2\n"), 11),
-        (("      t: 2\n  agent1", "  agent1"), 14), (("    - x: 0", "    - y: 0"), 16), (("    - x: 0", "      - x: 0"), 16),
+        (("schedule:", "plan:"), 4), (("agent0", "agent1"), 15), (("agent1", "agent2"), 15), (("      t: 1\n", "      t: 2\n"), 11),
+        (("      t: 2\n  agent1", "  agent1"), 14), (("    - x: 0", "    - y: 0"), 17), (("    - x: 0", "      - x: 0"), 16),
         (("    - x: 0", "\t- x: 0"), 16), (("    - x: 0", "    - x: -1"), 16), (("    - x: 2", "    - x: 3"), 22), (("y: 1", "y: 2"), 10),
         (("    - x: 1\n      y: 0\n      t: 0\n", "    - {x: 1, y: 0, t: 0}\n"), 6), (("x: 0", "x: 0.0"), 16), (("x: 0", "x:  0"), 16),
-        (("  agent1:\n", "  agent1:\n  agent2:\n"), 16), ((TEXTS["libmultirobotplanning"], ""), 1),
+        (("  agent1:\n", "  agent1:\n  agent2:\n"), 15), ((TEXTS["libmultirobotplanning"], ""), 1),
         ((TEXTS["libmultirobotplanning"], "schedule:\n"), 2), (("statistics", "# statistics"), 1), (("schedule:\n", "schedule:\n\n"), 5),
+        (("cost: 4", "cost: four"), 2), (("makespan: 2", "cost: 4"), 3), (("cost: 4", "cost:"), 2), (("schedule:\n", "schedule:\nschedule:\n"), 5),
+        (("      y: 0", "    y: 0"), 7), (("  agent1:", "  agent01:"), 15), (("  agent1:", " agent1:"), 15),
     ),
     "moves": (
-        (("d", "D"), 1), (("rr", "rx"), 2), (("rr\n", "rr"), 2), (("rr\n", "rr\nu\n"), 3), (("rr", "lr"), 2), (("rr", "rrr"), 2),
+        (("d", "D"), 1), (("rr", "rx"), 2), (("rr\n", "r r"), 2), (("rr\n", "rr\nu\n"), 3), (("rr", "lr"), 2), (("rr", "rrr"), 2),
         (("du", "dd"), 1), (("du", "d u"), 1), (("du", "1u"), 1), ((TEXTS["moves"], ""), 1), (("du", "d\ru"), 1), (("du", "d,u"), 1),
         (("rr", "\u2192r"), 2), (("du", "uu"), 1),
     ),
@@ -62,7 +79,7 @@ class ThereAndBack(unittest.TestCase):
                 self.assertEqual(read_plan(name, text.replace("\n", "\r\n").encode(), None, *BAY), PLAN)
 
     def test_paths_of_several_lengths(self):
-        for name in FORMATS:
+        for name in WRITTEN:
             with self.subTest(name):
                 self.assertEqual(read_plan(name, write_plan(name, UNEVEN).encode(), None, *CROSSING), UNEVEN)
 
@@ -76,7 +93,7 @@ class ThereAndBack(unittest.TestCase):
     def test_an_agent_that_never_moves(self):
         still = mapf.Plan((((0, 0),), ((1, 0), (2, 0))))
         instance = map_of("..."), scen_of(3, 1, (0, 0, 0, 0), (1, 0, 2, 0))
-        for name in FORMATS:
+        for name in WRITTEN:
             with self.subTest(name):
                 self.assertEqual(read_plan(name, write_plan(name, still).encode(), None, *instance), still)
 
@@ -87,7 +104,7 @@ class ThereAndBack(unittest.TestCase):
             answer = solve_by(backend, grid, scen, agents, 1000000, 300, False)
             if isinstance(answer, mapf.Plan):
                 plans += 1
-                for name in FORMATS:
+                for name in WRITTEN:
                     with self.subTest(name, plan=answer.text()):
                         self.assertEqual(read_plan(name, write_plan(name, answer).encode(), None, grid, scen), answer)
         self.assertGreater(plans, 50)

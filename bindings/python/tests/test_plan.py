@@ -1,5 +1,7 @@
 """Plans, their text, and verdicts, without a backend."""
+import types
 import unittest
+import unittest.mock
 
 import mapf
 from mapf.plan_text import agents_stated
@@ -26,6 +28,26 @@ class Plans(unittest.TestCase):
         self.assertEqual(BAY.text(), BAY_TEXT)
         self.assertEqual(mapf.read_text(BAY_TEXT), BAY)
         self.assertEqual(mapf.read_text(BAY_TEXT.encode()), BAY)
+
+    def test_rows(self):
+        rows = [(0, 0, 1, 0), (0, 1, 1, 1), (0, 2, 1, 0), (1, 0, 0, 0), (1, 1, 1, 0), (1, 2, 2, 0)]
+        self.assertEqual(BAY.rows(), rows)
+        self.assertEqual(BAY.rows()[1]._asdict(), {"agent": 0, "time": 1, "x": 1, "y": 1})
+
+    def test_an_array_is_padded_by_the_last_position(self):
+        plan = mapf.Plan((((5, 0),), ((0, 1), (1, 1), (1, 2))))
+        with unittest.mock.patch.dict("sys.modules", numpy=None):
+            self.assertEqual(plan.array(), [[[5, 0], [0, 1]], [[5, 0], [1, 1]], [[5, 0], [1, 2]]])
+
+    def test_an_array_of_numpy_where_it_is(self):
+        numpy = types.ModuleType("numpy")
+        numpy.array = lambda lists: ("array", lists)
+        with unittest.mock.patch.dict("sys.modules", numpy=numpy):
+            self.assertEqual(mapf.Plan((((5, 0),),)).array(), ("array", [[[5, 0]]]))
+
+    def test_a_plan_alone_is_true(self):
+        answers = (BAY, mapf.NoPlan(9), mapf.GaveUp(1, 4), mapf.OutOfTime(0, 0))
+        self.assertEqual([bool(answer) for answer in answers], [True, False, False, False])
 
     def test_the_other_answers(self):
         for answer in (mapf.NoPlan(0), mapf.NoPlan(1000000), mapf.GaveUp(1000, 652)):

@@ -1,51 +1,14 @@
 """`python3 -m mapf series`: on two small maps by the program, and by a stand-in for it where time matters."""
-import csv
 import os
 import shutil
 import signal
 import subprocess
-import tempfile
 import time
-import unittest
 
+from series_support import HEAD, Folder, WithStandIn, rows_of
 from support import RING, command, map_of, process, scen_of, with_program, written
 
 NARROW = map_of("..."), scen_of(3, 1, (0, 0, 2, 0), (2, 0, 0, 0), name="narrow.map")
-HEAD = "map,scenario,agents,status,cost,lower_bound,nodes,seconds"
-# Of up to 10 agents it finds a plan, of 15 it never ends, unless there is a limit on nodes; it says which agents it began with.
-STAND_IN = """#!/bin/sh
-nodes=
-while [ $# -gt 0 ]; do
-    case $1 in --help) echo "{help}"; exit ;; --agents) agents=$2 ;; --nodes) nodes=$2 ;; esac
-    shift
-done
-echo "$agents $$" >>"{folder}/began"
-{says}
-if [ "$agents" -le 10 ]; then echo "plan $agents $((agents * 10))" && exit; fi
-if [ -n "$nodes" ]; then echo "gave up $nodes 140" && exit 6; fi
-exec sleep 60
-"""
-
-
-def rows_of(path):
-    """A CSV's rows without their seconds, and all of them are whole."""
-    with open(path, newline="") as file:
-        text = file.read()
-    assert text.endswith("\n") and text.startswith(HEAD + "\n"), text
-    return [row[:-1] for row in list(csv.reader(text.splitlines()))[1:]]
-
-
-class Folder(unittest.TestCase):
-    """Tests with a folder of their own."""
-
-    def setUp(self):
-        folder = tempfile.TemporaryDirectory()
-        self.addCleanup(folder.cleanup)
-        self.folder = folder.name
-        self.csv = os.path.join(self.folder, "rows.csv")
-
-    def words(self, *more):
-        return ("series", "--maps", os.path.join(self.folder, "maps"), "--scens", os.path.join(self.folder, "scens"), "--csv", self.csv, *more)
 
 
 @with_program
@@ -62,7 +25,7 @@ class TwoMaps(Folder):
         written(self.folder, "scens/more/ring.scen", RING[1].replace(b"map.map", b"maps/ring.map"))
 
     def asked(self, *more):
-        return self.words("--from", 1, "--step", 1, "--bound", 6, "--seconds", 30, *more)
+        return self.words("--from", 1, "--step", 1, "--bound", 6, "--seconds", 600, *more)
 
     def sorted(self):
         return sorted(row[:6] for row in rows_of(self.csv))
@@ -109,6 +72,10 @@ class TwoMaps(Folder):
         command(*self.asked("--no-following", "--from", 4, "--bound", 4))
         self.assertEqual(self.sorted(), [["ring.map", "ring.scen", "4", "none", "", "5"]])
 
+    def test_any_optimum(self):
+        self.assertEqual(command(*self.asked("--any-optimum", "--jobs", 2)), (0, "", ""))
+        self.assertEqual(self.sorted(), self.ROWS)
+
     def test_rates(self):
         command(*self.asked("--jobs", 2))
         written(self.folder, "scens/other.scen", scen_of(3, 1, (0, 0, 2, 0), (1, 0, 1, 0), name="narrow.map"))
@@ -120,7 +87,9 @@ class TwoMaps(Folder):
     def test_what_the_program_refuses(self):
         written(self.folder, "scens/narrow.scen", scen_of(3, 1, (0, 0, 2, 0), (0, 0, 1, 0), name="narrow.map"))
         status, _, err = command(*self.asked())
-        self.assertEqual((status, err), (0, "mapf: narrow.scen, 2 agents: status 3, mapf: 26 shared start in rows 0 and 1\n"))
+        self.assertEqual((status, err.splitlines()), (1, [
+            "mapf: narrow.scen, 2 agents: status 3, mapf: 26 shared start in rows 0 and 1",
+            f"mapf: {self.csv}: 1 of 6 rows failed or were refused; --resume runs them again"]))
         self.assertEqual(self.sorted()[1], ["narrow.map", "narrow.scen", "2", "refused", "", ""])
 
     def test_scenarios_that_do_not_fit(self):
@@ -135,38 +104,24 @@ class TwoMaps(Folder):
             self.assertFalse(os.path.exists(self.csv))
 
 
-class StandIn(Folder):
-    """With a stand-in for the program, and three scenarios of 20 agents."""
-
-    def setUp(self):
-        super().setUp()
-        self.program("")
-        written(self.folder, "maps/wide.map", map_of("." * 20))
-        for name in "abc":
-            agents = [(x, 0, x, 0) for x in range(20)]
-            written(self.folder, f"scens/{name}.scen", scen_of(20, 1, *agents, name="wide.map"))
-        kept = os.environ.get("MAPF_PROGRAM")
-        os.environ["MAPF_PROGRAM"] = os.path.join(self.folder, "program")
-        self.addCleanup(lambda: os.environ.pop("MAPF_PROGRAM") if kept is None else os.environ.update(MAPF_PROGRAM=kept))
-
-    def program(self, says, shown=""):
-        path = written(self.folder, "program", STAND_IN.format(folder=self.folder, help=shown, says=says))
-        os.chmod(path, 0o755)
-
-    def began(self):
-        """The agents and the process of each run that began."""
-        with open(os.path.join(self.folder, "began")) as file:
-            return [tuple(int(word) for word in line.split()) for line in file]
-
-    def expected(self, *last):
-        return [["wide.map", f"{name}.scen", *row] for name in "abc"
-                for row in (["5", "solved", "50", "", ""], ["10", "solved", "100", "", ""], list(last))]
-
+class StandIn(WithStandIn):
     def test_the_first_that_is_out_of_time_is_the_last(self):
-        self.assertEqual(command(*self.words("--seconds", 0.5, "--jobs", 3)), (0, "", ""))
-        self.assertEqual(sorted(rows_of(self.csv), key=lambda row: (row[1], int(row[2]))), self.expected("15", "out_of_time", "", "", ""))
+        rows = self.out_of_time()
+        self.assertEqual(rows, self.expected("15", "out_of_time", "", "", ""))
         self.assertEqual(sorted(agents for agents, _ in self.began()), [5, 5, 5, 10, 10, 10, 15, 15, 15])
         self.gone()
+
+    def out_of_time(self):
+        """The rows, with a limit on time that leaves enough of it for all runs of up to 10 agents."""
+        for seconds in (3, 12, 50):
+            if self.runs():
+                os.remove(os.path.join(self.folder, "began"))
+                os.remove(self.csv)
+            self.assertEqual(command(*self.words("--seconds", seconds, "--jobs", 3)), (0, "", ""))
+            rows = sorted(rows_of(self.csv), key=lambda row: (row[1], int(row[2])))
+            if [row[3] for row in rows].count("solved") == 6:
+                break
+        return rows
 
     def test_rows_behind_the_first_unsolved_are_not_joined(self):
         _, out, _ = command(*self.words("--nodes", 9, "--list"))
@@ -187,26 +142,26 @@ class StandIn(Folder):
     def test_what_the_program_tells_of_its_search(self):
         says = 'echo "mapf: 0 nodes, no plan costs less than 90" >&2; echo "mapf: 77 nodes, no plan costs less than 99" >&2'
         self.program(says, "--progress")
-        command(*self.words("--seconds", 0.5, "--jobs", 3))
-        rows = sorted(rows_of(self.csv), key=lambda row: (row[1], int(row[2])))
-        self.assertEqual([row[2:] for row in rows[:3]], [
+        self.assertEqual([row[2:] for row in self.out_of_time()[:3]], [
             ["5", "solved", "50", "", "77"], ["10", "solved", "100", "", "77"], ["15", "out_of_time", "", "99", "77"]])
 
     def test_a_program_that_fails(self):
         self.program("kill -9 $$")
         status, _, err = command(*self.words())
-        self.assertEqual((status, {row[3] for row in rows_of(self.csv)}), (0, {"failed"}))
+        self.assertEqual((status, {row[3] for row in rows_of(self.csv)}), (1, {"failed"}))
         self.assertIn("a.scen, 5 agents: status -9", err)
 
     def test_ctrl_c_leaves_whole_rows_and_resume_goes_on(self):
         for number in (signal.SIGINT, signal.SIGTERM):
             with self.subTest(number):
+                self.program("")
                 self.interrupt(number)
+                self.program("nodes=7")
                 rows = rows_of(self.csv)
                 self.assertEqual([row[3] for row in rows], ["solved"] * len(rows))
                 self.gone()
                 before = len(self.began())
-                command(*self.words("--resume", "--nodes", 7))
+                command(*self.words("--resume", "--seconds", 500))
                 self.assertEqual(sorted(rows_of(self.csv)), sorted(self.expected("15", "gave_up", "", "140", "7")))
                 self.assertEqual(len(self.began()) - before, 9 - len(rows))
                 os.remove(self.csv)
@@ -216,13 +171,13 @@ class StandIn(Folder):
         """Begins a series, and stops it once three runs don't end."""
         # Where the tests run in the background, Ctrl-C is ignored, and a child would take that over.
         heard = signal.signal(signal.SIGINT, signal.default_int_handler)
-        running = process(*self.words("--jobs", 3), stderr=subprocess.PIPE)
+        running = process(*self.words("--jobs", 3, "--seconds", 500), stderr=subprocess.PIPE)
         signal.signal(signal.SIGINT, heard)
-        end = time.monotonic() + 30
+        end = time.monotonic() + 300
         while time.monotonic() < end and not (os.path.exists(self.folder + "/began") and [a for a, _ in self.began()].count(15) == 3):
             time.sleep(0.02)
         running.send_signal(number)
-        _, err = running.communicate(timeout=30)
+        _, err = running.communicate(timeout=300)
         self.assertEqual(running.returncode, 130)
         self.assertIn(b"stopped; ", err)
 
@@ -233,7 +188,7 @@ class StandIn(Folder):
                 os.kill(number, 0)
 
     def test_joins(self):
-        row = "wide.map,a.scen,5,solved,50,,,0.100\n"
+        row = "10,1000000,,,following,no,7.8.9,wide.map,a.scen,5,solved,50,,,0.100\n"
         one, two = (written(self.folder, name, HEAD + "\n" + text) for name, text in (("1.csv", row), ("2.csv", row.replace("a.scen", "b.scen"))))
         self.assertEqual(command("series", "--csv", self.csv, "--join", two, one)[0], 0)
         with open(self.csv) as file:

@@ -6,16 +6,21 @@ import os
 import sys
 from typing import List, Optional
 
+from .. import __version__
 from ..faults import BackendFailure, Fault, NotBuilt
-from . import check, convert, series
+from . import check, convert, score, series, show, solve
 from .status import status_of
 
-COMMANDS = (convert, check, series)
+COMMANDS = (solve, convert, check, show, score, series)
 
 
 def main(words: Optional[List[str]] = None) -> int:
     """Runs a command, and answers its status: 2 to 5 as the program's, 125 where nothing is built, 130 after Ctrl-C."""
-    parser = argparse.ArgumentParser(prog="python3 -m mapf", description="Plans of any planner: convert and judge them, and run series.")
+    name = os.path.basename(sys.argv[0])
+    parser = argparse.ArgumentParser(
+        prog=name if name == "mapf" else "python3 -m mapf",
+        description="Find plans, convert and judge those of any planner, and run series.")
+    parser.add_argument("--version", action="version", version=f"mapf {__version__}")
     commands = parser.add_subparsers(dest="command", metavar="COMMAND", required=True)
     for command in COMMANDS:
         command.add(commands)

@@ -9,12 +9,13 @@ from concurrent.futures import ThreadPoolExecutor
 from typing import Any, Iterator, NamedTuple, Optional, Tuple, Union
 
 from .. import calls
-from .._backend import Backend, chosen
+from ..backend import Backend, chosen
 from .._input import read_input
 from ..converters import FORMATS, read_plan
 from ..faults import Fault, PlanFault, ScenarioFault
 from ..instance import rows_of
 from ..plan_text import agents_stated
+from ..series.scenarios import scenarios_in
 from ..verdict import Verdict
 from .report import writer
 from .status import status_of
@@ -40,6 +41,8 @@ def add(commands: Any) -> None:
     parser.add_argument("--map", help="the map of all plans")
     parser.add_argument("--scen", help="the scenario of all plans")
     parser.add_argument("--instances", metavar="DIR", help="the folder of maps and scenarios, where plans are called SCENARIO-AGENTS")
+    parser.add_argument("--maps", metavar="DIR", help="the folder of maps, where plans are called SCENARIO-AGENTS")
+    parser.add_argument("--scens", action="append", metavar="DIR", help="a folder of scenarios; may be given again")
     parser.add_argument("--agents", type=int, metavar="N", help="the number of agents (the name's, or else the plan's)")
     parser.add_argument("--no-following", action="store_true", help="no agent may enter a cell in the step in which another leaves it")
     parser.add_argument("--suffix", help="how files of a folder end that are plans (a dot and the format's name)")
@@ -51,10 +54,12 @@ def add(commands: Any) -> None:
 
 def run(asked: argparse.Namespace) -> int:
     """Prints a line for each plan."""
-    if bool(asked.instances) == bool(asked.map and asked.scen) or bool(asked.map) != bool(asked.scen):
-        asked.parser.error("give --map and --scen, or --instances")
+    ways = [(asked.map, asked.scen), (asked.maps, asked.scens), (asked.instances,)]
+    if [all(way) for way in ways if any(way)] != [True]:
+        asked.parser.error("give --map and --scen, --maps and --scens, or --instances")
     if asked.jobs < 1:
         asked.parser.error("--jobs is 1 at least")
+    asked.found = {one.name: one for one in scenarios_in(asked.maps, asked.scens)} if asked.maps else None
     plans, backend = list(plans_of(asked)), chosen()
     write, bad = writer(asked.out, sys.stdout), 0
     with ThreadPoolExecutor(asked.jobs) as threads:
@@ -86,19 +91,24 @@ def judged(backend: Backend, asked: argparse.Namespace, path: str) -> dict:
         text, given = text_of(asked.source, job)
         job = job._replace(agents=agents_stated(text) if job.agents is None else job.agents)
         verdict = calls.check_by(backend, job.map, job.scenario, given, job.agents, asked.no_following)
-        return {**job._asdict(), "status": 0 if verdict.valid else 1, "line": verdict.line, **_places(verdict)}
+        return {**_named(job), "status": 0 if verdict.valid else 1, "line": verdict.line, **_places(verdict)}
     except Fault as fault:
         refusal = {"line": fault.text, "number": fault.number, "kind": "refused", "message": str(fault)}
-        return {**job._asdict(), "status": status_of(fault), **refusal}
+        return {**_named(job), "status": status_of(fault), **refusal}
 
 
 def job_of(asked: argparse.Namespace, path: str) -> Job:
     """The instance of a plan: the one that was named, or by the plan's name."""
-    if not asked.instances:
+    if asked.map:
         return Job(path, asked.map, asked.scen, asked.agents)
     name = NAME.fullmatch(os.path.splitext(os.path.basename(path))[0])
     if not name:
         raise PlanFault(None, "no plan by its name", path, os.path.basename(path), "SCENARIO-AGENTS and a suffix")
+    if asked.maps:
+        scenario = asked.found.get(name.group(1) + ".scen")
+        if not scenario:
+            raise PlanFault(None, "no scenario for a plan", path, name.group(1), "the name of a scenario of --scens")
+        return Job(path, scenario.map_path, scenario.path, int(name.group(2)) if asked.agents is None else asked.agents)
     scen = os.path.join(asked.instances, name.group(1) + ".scen")
     rows = rows_of(read_input("scenario", scen).contents)
     if not rows or rows[0] is None:
@@ -115,6 +125,11 @@ def text_of(source: str, job: Job) -> Tuple[bytes, Union[str, bytes]]:
     map_contents, scen_contents = read_input("map", job.map).contents, read_input("scenario", job.scenario).contents
     text = read_plan(source, contents, job.plan, map_contents, scen_contents).text().encode()
     return text, text
+
+
+def _named(job: Job) -> dict:
+    """The job's columns; map and scenario are called as in a series' rows."""
+    return {**job._asdict(), "map": os.path.basename(job.map), "scenario": os.path.basename(job.scenario)}
 
 
 def _places(verdict: Verdict) -> dict:

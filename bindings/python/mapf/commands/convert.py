@@ -6,7 +6,7 @@ import sys
 from typing import Any, Optional
 
 from .._input import read_input
-from ..converters import FORMATS, SHAPES, read_plan, write_plan
+from ..converters import FORMATS, SHAPES, WRITTEN, read_plan, write_plan
 
 LOOKS = "\n".join(f"  {name:<22} {shape.looks}" for name, shape in SHAPES.items())
 
@@ -18,9 +18,9 @@ def add(commands: Any) -> None:
         description="Converts a plan. What doesn't fit the format is refused by its line.",
         epilog=f"formats:\n  plan                   this project's plan text\n{LOOKS}")
     parser.add_argument("--from", dest="source", choices=FORMATS, default="plan", help="the format of FILE (plan)")
-    parser.add_argument("--to", dest="target", choices=FORMATS, default="plan", help="the format that is printed (plan)")
-    parser.add_argument("--map", help="refuse positions outside of this map")
-    parser.add_argument("--scen", help="the scenario that `moves` begin at")
+    parser.add_argument("--to", dest="target", choices=WRITTEN, default="plan", help="the format that is printed (plan)")
+    parser.add_argument("--map", help="refuse positions outside of this map; `eecbs-stdout` needs it")
+    parser.add_argument("--scen", help="the scenario that `moves` and `tracker` begin at")
     parser.add_argument("file", metavar="FILE", help="the plan")
     parser.set_defaults(run=run)
 

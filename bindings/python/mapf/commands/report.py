@@ -3,7 +3,7 @@ from __future__ import annotations
 
 import csv
 import json
-from typing import Callable, TextIO
+from typing import Callable, Sequence, TextIO
 
 COLUMNS = (
     "plan", "map", "scenario", "agents", "status", "line", "number", "kind", "first", "second", "x", "y", "to_x", "to_y", "time",
@@ -11,10 +11,10 @@ COLUMNS = (
 )
 
 
-def writer(kind: str, out: TextIO) -> Callable[[dict], None]:
+def writer(kind: str, out: TextIO, columns: Sequence[str] = COLUMNS) -> Callable[[dict], None]:
     """What writes a row; CSV begins with the columns' names. A row has all columns, empty (null) where it has no such thing."""
     if kind == "json":
-        return lambda row: print(json.dumps({name: row.get(name) for name in COLUMNS}), file=out)
-    table = csv.DictWriter(out, COLUMNS, lineterminator="\n")
+        return lambda row: print(json.dumps({name: row.get(name) for name in columns}), file=out)
+    table = csv.DictWriter(out, columns, lineterminator="\n")
     table.writeheader()
     return table.writerow

@@ -6,33 +6,46 @@ map, positions counted from 1) is for `check` to judge.
 """
 from __future__ import annotations
 
-from typing import Dict, Optional
+from typing import Dict, Optional, Union
 
 from ..faults import ConversionFault
 from ..instance import map_size, rows_of
 from ..plan import GaveUp, NoPlan, Plan
 from ..plan_text import MOST_AGENTS, read_text
-from . import eecbs, lacam, libmultirobotplanning, moves
+from . import eecbs, lacam, libmultirobotplanning, moves, robot_runners, tracker
 from .lines import Lines
-from .shape import Shape, without_padding
+from .shape import PlannersPlan, Shape, without_padding
 
 SHAPES: Dict[str, Shape] = {
     "eecbs": Shape(eecbs.read, eecbs.write, "EECBS and CBSH2-RTC: `Agent 0: (row,column)->(row,column)->`"),
+    "eecbs-stdout": Shape(
+        eecbs.read_printed, None, "what EECBS prints: `Agent 0 (I -->C): cell->cell->`, by the map's width (--map)"),
+    "lns": Shape(eecbs.read_lns, eecbs.write_lns, "MAPF-LNS and MAPF-LNS2: `Agent 0:(row,column)->(row,column)->`"),
     "lacam": Shape(lacam.read, lacam.write, "LaCAM and PIBT: `solution=`, then `time:(x,y),(x,y),`, padded"),
+    "mapf-visualizer": Shape(
+        lacam.read_visualizer, lacam.write_visualizer, "MAPF-visualizer: `time:(x,y),(x,y,X_PLUS),` alone, padded"),
     "libmultirobotplanning": Shape(
         libmultirobotplanning.read, libmultirobotplanning.write, "libMultiRobotPlanning: `schedule:` with x, y and t"),
-    "moves": Shape(moves.read, moves.write, "a line of u, d, l, r and w for each agent, from the scenario's starts"),
+    "moves": Shape(moves.read, moves.write, "a line of u, d, l, r and w for each agent, from the starts (--scen)"),
+    "tracker": Shape(tracker.read, None, "tracker.pathfinding.ai: CSV of one row, with such lines (--scen)"),
+    "robot-runners": Shape(robot_runners.read, None, "League of Robot Runners: JSON of the action model MAPF"),
 }
 FORMATS = ("plan", *SHAPES)
+WRITTEN = ("plan", *(name for name, shape in SHAPES.items() if shape.write))
+
+# What a planner answers that found no plan: it says nothing of the instance.
+UNSOLVED = GaveUp(1, 0)
 
 
 def read_plan(
     format_name: str, contents: bytes, path: Optional[str] = None, map_contents: Optional[bytes] = None,
     scen_contents: Optional[bytes] = None,
-) -> Plan:
-    """The plan that a file in this format states, cut behind each agent's last arrival.
+) -> Union[Plan, GaveUp]:
+    """The plan that a file in this format states, cut behind each agent's last arrival, or `UNSOLVED` where it says so.
 
-    The path is for messages alone. With a map, positions outside it are refused; `moves` needs a scenario.
+    Where the file states a cost, the plan has it as `stated`, and its text states it, right or wrong. The path is for
+    messages alone. With a map, positions outside it are refused; `eecbs-stdout` needs one, `moves` and `tracker` need a
+    scenario.
     """
     if format_name == "plan":
         answer = read_text(contents, path)
@@ -41,12 +54,21 @@ def read_plan(
         return answer
     lines = Lines(format_name, contents, path, map_size(map_contents) if map_contents is not None else None)
     starts = [row.start if row else None for row in rows_of(scen_contents)] if scen_contents is not None else None
-    paths = SHAPES[format_name].read(lines, starts)
-    if not 1 <= len(paths) <= MOST_AGENTS:
-        raise lines.fault(max(1, lines.last), f"{len(paths)} agents", "1 to 1,000")
-    return Plan(tuple(without_padding(path) for path in paths))
+    found = SHAPES[format_name].read(lines, starts)
+    if found is None:
+        return UNSOLVED
+    if not 1 <= len(found.paths) <= MOST_AGENTS:
+        raise lines.fault(max(1, lines.last), f"{len(found.paths)} agents", "1 to 1,000")
+    return PlannersPlan(tuple(without_padding(path) for path in found.paths), found.stated)
 
 
-def write_plan(format_name: str, plan: Plan) -> str:
-    """The text of a plan in this format."""
-    return plan.text() if format_name == "plan" else SHAPES[format_name].write(plan)
+def write_plan(format_name: str, answer: Union[Plan, GaveUp]) -> str:
+    """The text of a plan in this format; without a plan there is one for `plan` alone."""
+    if format_name == "plan":
+        return answer.text()
+    if not isinstance(answer, Plan):
+        raise ConversionFault(format_name, 1, None, "no plan given", "a plan")
+    write = SHAPES[format_name].write
+    if write is None:
+        raise ValueError(f"plans are only read in the format {format_name}")
+    return write(answer)

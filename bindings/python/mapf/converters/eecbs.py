@@ -1,45 +1,78 @@
-"""EECBS and CBSH2-RTC (`--outputPaths`): a line `Agent 0: (row,column)->(row,column)->` for each agent, in their order.
+"""EECBS and CBSH2-RTC, MAPF-LNS and MAPF-LNS2: a line for each agent, in their order, in which an arrow ends each step.
 
-The row comes first, both from 0; each path ends with an arrow, and no path is padded.
+In path files a step is `(row,column)`. EECBS (`--outputPaths`) has a blank before the first, `Agent 0: (0,1)->`, and
+LNS has none, `Agent 0:(0,1)->`. On standard output EECBS has `Agent 0 (I -->C): 1->`, where C is what the path costs,
+and a cell is the number row * width + column. All count from 0, and no path is padded.
 """
 from __future__ import annotations
 
 import re
-from typing import List
+from typing import Iterator, List, Match, Pattern
 
 from ..plan import Plan, Position
 from .lines import COORDINATE, Lines
-from .shape import Starts
+from .shape import Found, Starts
 
-STEP = re.compile(rf"\({COORDINATE},{COORDINATE}\)->")
+FILE, LNS_FILE = "Agent {}: ", "Agent {}:"
+PRINTED = re.compile(rf"Agent {COORDINATE} \([0-9]+ -->{COORDINATE}\): ")
+PLACE = re.compile(rf"\({COORDINATE},{COORDINATE}\)->")
+CELL = re.compile(rf"{COORDINATE}->")
 
 
-def read(lines: Lines, starts: Starts) -> List[List[Position]]:
-    """The paths."""
+def read(lines: Lines, starts: Starts, shape: str = FILE) -> Found:
+    """The paths of a file of EECBS."""
     paths: List[List[Position]] = []
     for line in lines:
-        head = f"Agent {len(paths)}: "
+        head = shape.format(len(paths))
         if not line.startswith(head):
             raise lines.unfit(line, f"`{head}(row,column)->..`")
-        paths.append(_path(lines, line, len(head)))
-    return paths
+        steps = _steps(lines, line, len(head), PLACE, "(row,column)->")
+        paths.append(lines.path_of(lines.position(int(step.group(2)), int(step.group(1))) for step in steps))
+    return Found(paths)
 
 
-def _path(lines: Lines, line: str, place: int) -> List[Position]:
-    path: List[Position] = []
-    while place < len(line) or not path:
-        step = STEP.match(line, place)
+def read_lns(lines: Lines, starts: Starts) -> Found:
+    """The paths of a file of LNS."""
+    return read(lines, starts, LNS_FILE)
+
+
+def read_printed(lines: Lines, starts: Starts) -> Found:
+    """The paths on standard output, and the sum of what they are said to cost there; the map's width is needed."""
+    if lines.size is None:
+        raise lines.fault(1, "no map with a size", "the map, whose width parts cells into rows and columns")
+    paths: List[List[Position]] = []
+    stated = 0
+    for line in lines:
+        head = PRINTED.match(line)
+        if not head or head.group(1) != str(len(paths)):
+            raise lines.unfit(line, f"`Agent {len(paths)} (I -->C): cell->..`")
+        stated = lines.cost(lines.last, str(stated + int(head.group(2))))
+        steps = _steps(lines, line, head.end(), CELL, "cell->")
+        paths.append(lines.path_of(lines.cell(int(step.group(1))) for step in steps))
+    return Found(paths, stated)
+
+
+def _steps(lines: Lines, line: str, place: int, shape: Pattern[str], wanted: str) -> Iterator[Match[str]]:
+    """One step or more, from a place of the line up to its end."""
+    while True:
+        step = shape.match(line, place)
         if not step:
-            raise lines.unfit(line[place:], f"`(row,column)->` from column {place + 1} on")
-        lines.step(path, lines.position(step.group(2), step.group(1)))
+            raise lines.unfit(line[place:], f"`{wanted}` from column {place + 1} on")
+        yield step
         place = step.end()
-    return path
+        if place == len(line):
+            return
 
 
-def write(plan: Plan) -> str:
-    """The text."""
+def write(plan: Plan, shape: str = FILE) -> str:
+    """The text of a file of EECBS."""
     lines = []
     for agent, path in enumerate(plan.paths):
         steps = "".join(f"({y},{x})->" for x, y in path)
-        lines.append(f"Agent {agent}: {steps}\n")
+        lines.append(f"{shape.format(agent)}{steps}\n")
     return "".join(lines)
+
+
+def write_lns(plan: Plan) -> str:
+    """The text of a file of LNS."""
+    return write(plan, LNS_FILE)

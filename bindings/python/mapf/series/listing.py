@@ -3,11 +3,11 @@ from __future__ import annotations
 
 import os
 import shlex
-from typing import Iterator, List, Optional, Sequence
+from typing import Iterator, Sequence
 
-from .._program import program_path
+from ..program import program_path
+from .limits import Limits, option, seconds_text
 from .protocol import Agents
-from .runner import Limits
 from .scenarios import Scenario
 
 PACKAGE = os.path.normpath(os.path.join(os.path.dirname(os.path.realpath(__file__)), "..", ".."))
@@ -35,12 +35,7 @@ def one_a_scenario(scenarios: Sequence[Scenario], agents: Agents, limits: Limits
 def _command(scenario: Scenario, agents: Agents, limits: Limits, parts: str, part: str) -> str:
     words = ["env", f"PYTHONPATH={PACKAGE}", f"MAPF_PROGRAM={os.path.abspath(program_path())}", "python3", "-m", "mapf", "series"]
     words += ["--maps", os.path.abspath(scenario.map_path), "--scens", os.path.abspath(scenario.path)]
-    words += ["--from", str(agents.first), "--step", str(agents.step), *_option("--to", agents.last)]
-    words += ["--seconds", f"{limits.seconds:g}", "--bound", str(limits.bound), *_option("--nodes", limits.nodes)]
-    words += ["--no-following"] if limits.no_following else []
+    words += ["--from", str(agents.first), "--step", str(agents.step), *option("--to", agents.last)]
+    words += ["--seconds", seconds_text(limits.seconds), *option("--memory", limits.memory), *limits.options(0).limits()]
     words += ["--resume", "--csv", os.path.join(parts, part)]
     return f"mkdir -p {shlex.quote(parts)} && " + " ".join(shlex.quote(word) for word in words)
-
-
-def _option(name: str, value: Optional[int]) -> List[str]:
-    return [] if value is None else [name, str(value)]

@@ -1,12 +1,13 @@
 """The protocol: agents of a scenario are added until the first instance that isn't solved in time (Stern et al. 2019)."""
 from __future__ import annotations
 
-from concurrent.futures import ThreadPoolExecutor, wait
+from concurrent.futures import FIRST_EXCEPTION, ThreadPoolExecutor, wait
 from typing import Callable, Iterator, NamedTuple, Optional, Sequence
 
-from .rows import Row, Table
+from .rows import Row
 from .runner import Runner
 from .scenarios import Scenario
+from .table import Table
 
 
 class Agents(NamedTuple):
@@ -49,9 +50,8 @@ def run_series(
     with ThreadPoolExecutor(jobs) as threads:
         futures = [threads.submit(one, scenario) for scenario in scenarios]
         try:
-            wait(futures)
+            for future in wait(futures, return_when=FIRST_EXCEPTION).done:
+                future.result()
         except BaseException:
             runner.stop()
             raise
-    for future in futures:
-        future.result()

@@ -5,9 +5,12 @@ import re
 import subprocess
 import threading
 import time
-from typing import List, NamedTuple, Optional, Set, Tuple
+from contextlib import suppress
+from typing import Dict, List, NamedTuple, Optional, Set, Tuple
 
-from .._program import Program
+from ..child import Child
+from ..program import Program
+from .limits import Limits
 from .rows import Row
 from .scenarios import Scenario
 
@@ -16,15 +19,6 @@ NONE = re.compile(rb"none ([0-9]+)\n")
 GAVE_UP = re.compile(rb"gave up ([0-9]+) ([0-9]+)\n")
 PROGRESS = re.compile(rb"^mapf: ([0-9]+) nodes, no plan costs less than ([0-9]+)$", re.MULTILINE)
 STATUSES = {0: "solved", 1: "none", 3: "refused", 4: "out_of_memory", 6: "gave_up"}
-
-
-class Limits(NamedTuple):
-    """What a run may take, and the rule."""
-
-    seconds: float
-    bound: int
-    nodes: Optional[int]
-    no_following: bool
 
 
 class Ended(NamedTuple):
@@ -55,19 +49,21 @@ class Runner:
         row = row_of(ended, scenario, agents)
         return row, _said(ended) if row.status in ("refused", "failed") else ""
 
+    def columns(self) -> Dict[str, str]:
+        """What each row says of the ask."""
+        return self.limits.columns(self._program.version())
+
     def stop(self) -> None:
         """Ends all runs, and lets none begin."""
         with self._lock:
             self.stopped = True
             for process in self._running:
-                process.kill()
+                with suppress(ProcessLookupError):
+                    process.kill()
 
     def _words(self, scenario: Scenario, agents: int) -> List[str]:
-        limits = self.limits
-        words = [self._program.path, "solve", f"--map={scenario.map_path}", f"--scen={scenario.path}", "--agents", str(agents)]
-        words += ["--bound", str(limits.bound), "--workers", "1"]
-        words += [] if limits.nodes is None else ["--nodes", str(limits.nodes)]
-        words += ["--no-following"] if limits.no_following else []
+        words = [*self.limits.around(), self._program.path, "solve", f"--map={scenario.map_path}", f"--scen={scenario.path}"]
+        words += self.limits.options(agents).words()
         return words + (["--progress"] if self._tells else [])
 
     def _ended(self, words: List[str]) -> Optional[Ended]:
@@ -76,8 +72,7 @@ class Runner:
         with self._lock:
             if self.stopped:
                 return None
-            process = subprocess.Popen(
-                words, stdin=subprocess.DEVNULL, stdout=subprocess.PIPE, stderr=subprocess.PIPE, start_new_session=True)
+            process = Child(words, start_new_session=True)
             self._running.add(process)
         in_time = True
         try:

@@ -54,5 +54,7 @@ def _by_name(kind: str, paths: Sequence[str]) -> Dict[str, str]:
         name = os.path.basename(path)
         if name in named:
             raise Fault(None, f"two {kind}s of one name", path, named[name], "another name")
+        if "\n" in name or "\r" in name:
+            raise Fault(None, f"a {kind}'s name of two lines", repr(path), "the end of a line", "another name")
         named[name] = path
     return named

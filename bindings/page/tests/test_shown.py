@@ -1,0 +1,49 @@
+"""Pages of `mapf show`: the program's verdict, small and as large as can be."""
+import os
+
+from pages import PageTest
+from support import BAY, CROSSING, command, map_of, scen_of, written
+
+SIDE, AGENTS, STEPS = 2048, 1000, 300
+
+
+class Shown(PageTest):
+    def page(self, instance, plan, *words):
+        """Makes a page, and opens it."""
+        contents = {"a.map": instance[0], "a.scen": instance[1], "a.plan": plan}
+        files = [written(self.folder, name, text) for name, text in contents.items()]
+        self.assertEqual(command("show", *files, *words)[0], 0)
+        self.browser.open(os.path.join(self.folder, "a.html"))
+
+    def test_a_conflict(self):
+        self.page(CROSSING, "plan 2 4\n1,0 1,1 1,2\n0,1 1,1 2,1\n")
+        self.assertEqual(self.shown(), ("A conflict", "66 vertex conflict agents 0 1 cell 1,1 time 1"))
+        self.assertEqual(self.browser.value("[$('count').value, $('solve').disabled, state.plan.end]"), ["2", True, 2])
+        self.assertIn("Not proved", self.browser.value("document.querySelector('footer').innerText"))
+        self.browser.key("c")
+        self.assertEqual(self.browser.value("state.time"), 1)
+        self.browser.key(" ")
+        self.browser.until("state.time > 1.2")
+
+    def test_the_rule(self):
+        self.page(BAY, "plan 2 4\n1,0 1,1 1,0\n0,0 1,0 2,0\n", "--no-following")
+        self.assertEqual(self.shown()[1], "66 following conflict agents 1 0 cell 1,0 time 1")
+        self.assertTrue(self.browser.value("$('rule').checked"))
+
+    def test_no_verdict_on_what_is_changed(self):
+        self.page(BAY, "plan 2 4\n1,0 1,1 1,0\n0,0 1,0 2,0\n")
+        self.assertEqual(self.shown(), ("Valid, cost 4", "valid 4"))
+        self.browser.value("document.querySelector('details').open = true, $('text').focus()")
+        self.browser.send("Input.insertText", text="x")
+        self.assertEqual(self.shown(), ("No verdict", ""))
+
+    def test_the_largest_map_and_a_thousand_agents(self):
+        """Each agent goes along a row of its own."""
+        ends = [(0, 2 * i, STEPS, 2 * i) for i in range(AGENTS)]
+        lines = [" ".join(f"{x},{y}" for x in range(STEPS + 1)) for _, y, _, _ in ends]
+        plan = "\n".join([f"plan {AGENTS} {AGENTS * STEPS}", *lines, ""])
+        self.page((map_of(" ".join(["." * SIDE] * SIDE)), scen_of(SIDE, SIDE, *ends)), plan)
+        self.assertEqual(self.shown(), (f"Valid, cost {AGENTS * STEPS}", f"valid {AGENTS * STEPS}"))
+        self.assertEqual(self.browser.value("$('agents').children.length"), AGENTS)
+        self.browser.value("stay(150.5)")
+        self.assertEqual(self.pixel(150.5, 2 * AGENTS - 2), self.hue(AGENTS - 1))

@@ -1,0 +1,69 @@
+"""The backend crates/mapf/out/mapf: the built program, started for each call."""
+from __future__ import annotations
+
+import os
+import subprocess
+from contextlib import ExitStack
+from typing import Optional, Sequence, Tuple
+
+from ._input import Input
+from .faults import BackendFailure, NotBuilt
+from .options import Options
+from .run import Ended, Progress, run
+
+HERE = os.path.dirname(os.path.realpath(__file__))
+BUILT = os.path.realpath(os.path.join(HERE, "built", "mapf"))
+ANSWERED = (0, 1, 6)
+REFUSED = (3, 4, 5)
+
+
+def program_path() -> str:
+    """Where the program is: MAPF_PROGRAM of the environment, or in the package, which has it from ./mapf."""
+    return os.environ.get("MAPF_PROGRAM") or BUILT
+
+
+class Program:
+    """Runs of the program."""
+
+    name = "program"
+
+    def __init__(self, path: Optional[str] = None) -> None:
+        self.path = path or program_path()
+        if not os.access(self.path, os.X_OK):
+            raise NotBuilt(f"no program {self.path}: ./mapf --version builds it")
+
+    def solve(
+        self, map_file: Input, scen_file: Input, options: Options, seconds: Optional[float] = None,
+        progress: Optional[Progress] = None,
+    ) -> Ended:
+        """How the run ended: with the answer's text, or the refusal's line without `mapf: `, as `out`."""
+        telling = [] if seconds is None and progress is None else ["--progress"]
+        return run_on([self.path, "solve", *options.words(), *telling], [map_file, scen_file], seconds, progress)
+
+    def check(
+        self, map_file: Input, scen_file: Input, plan: Input, agents: int, no_following: bool
+    ) -> Tuple[int, str]:
+        """The status, and the verdict's or the refusal's line."""
+        words = [self.path, "check", "--agents", str(agents)] + (["--no-following"] if no_following else [])
+        ended = run_on(words, [map_file, scen_file, plan])
+        return ended.status or 0, ended.out
+
+    def version(self) -> str:
+        """The version that the program states."""
+        done = subprocess.run([self.path, "--version"], stdout=subprocess.PIPE, check=True)
+        return done.stdout.decode("ascii").split()[-1]
+
+
+def run_on(
+    words: Sequence[str], files: Sequence[Input], seconds: Optional[float] = None, progress: Optional[Progress] = None
+) -> Ended:
+    """Runs a command on a map, a scenario and a plan, and answers its text or, without `mapf: `, its refusal's line."""
+    with ExitStack() as stack:
+        paths = [os.path.abspath(stack.enter_context(given.file())) for given in files]
+        named = [f"--{kind}={path}" for kind, path in zip(("map", "scen", "plan"), paths)]
+        ended = run([*words, *named], seconds, progress)
+    if ended.status is None or ended.status in ANSWERED and ended.out:
+        return ended
+    if ended.status in REFUSED and ended.err.startswith("mapf: "):
+        return ended._replace(out=ended.err[len("mapf: "):])
+    raise BackendFailure(f"{' '.join([*words, *named])} ended with status {ended.status}: {ended.err[:400]}")

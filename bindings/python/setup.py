@@ -1,0 +1,75 @@
+"""What pyproject.toml can't say: the platform of built files, and the command bdist_wheel where there is none."""
+import atexit
+import base64
+import hashlib
+import os
+import shutil
+import tempfile
+import zipfile
+
+from setuptools import Command, Distribution, setup
+
+HERE = os.path.dirname(os.path.realpath(__file__))
+BUILT = any(os.path.isfile(os.path.join(HERE, "mapf", "built", name)) for name in ("libmapf.so", "mapf"))
+PARTS = {"PKG-INFO": "METADATA", "entry_points.txt": "entry_points.txt", "top_level.txt": "top_level.txt"}
+TAG = "Wheel-Version: 1.0\nGenerator: mapf\nRoot-Is-Purelib: true\nTag: py3-none-{}\n"
+
+
+class Wheel(Command):
+    """The command bdist_wheel: a zip file of the package, its metadata and, at last, the hashes of all of them."""
+
+    user_options = [("dist-dir=", "d", "the folder for the wheel"), ("plat-name=", "p", "the platform")]
+
+    def initialize_options(self):
+        self.dist_dir = self.plat_name = None
+
+    def finalize_options(self):
+        self.dist_dir, self.plat_name = self.dist_dir or "dist", self.plat_name or "any"
+
+    def egg2dist(self, egg_info, dist_info):
+        """Turns the folder of metadata that setuptools made into a wheel's."""
+        os.makedirs(dist_info, exist_ok=True)
+        for old, new in PARTS.items():
+            shutil.copy(os.path.join(egg_info, old), os.path.join(dist_info, new))
+        with open(os.path.join(dist_info, "WHEEL"), "w") as file:
+            file.write(TAG.format(self.plat_name))
+
+    def run(self):
+        """Makes the wheel."""
+        self.run_command("build")
+        self.run_command("egg_info")
+        folder, name = self.get_finalized_command("build").build_lib, f"mapf-{self.distribution.get_version()}"
+        record = f"{name}.dist-info/RECORD"
+        self.egg2dist(self.get_finalized_command("egg_info").egg_info, os.path.join(folder, f"{name}.dist-info"))
+        os.makedirs(self.dist_dir, exist_ok=True)
+        path = os.path.join(self.dist_dir, f"{name}-py3-none-{self.plat_name}.whl")
+        files = sorted(os.path.join(parent, file) for parent, _, files in os.walk(folder) for file in files)
+        with zipfile.ZipFile(path, "w", zipfile.ZIP_DEFLATED) as wheel:
+            lines = [added(wheel, file, folder) for file in files]
+            wheel.writestr(record, "".join([*lines, f"{record},,\n"]))
+
+
+def added(wheel, path, folder):
+    """Adds a file to a wheel, and answers its line of hashes."""
+    name = os.path.relpath(path, folder)
+    wheel.write(path, name)
+    with open(path, "rb") as file:
+        contents = file.read()
+    digest = base64.urlsafe_b64encode(hashlib.sha256(contents).digest()).decode().rstrip("=")
+    return f"{name},sha256={digest},{len(contents)}\n"
+
+
+def makes_wheels():
+    """Whether setuptools, or the package wheel, has the command."""
+    try:
+        return bool(Distribution().get_command_class("bdist_wheel"))
+    except Exception:
+        return False
+
+
+work = tempfile.mkdtemp()
+atexit.register(shutil.rmtree, work, ignore_errors=True)
+platform = {"plat_name": "linux_x86_64"} if BUILT else {}
+setup(
+    cmdclass={} if makes_wheels() else {"bdist_wheel": Wheel},
+    options={"bdist_wheel": platform, "build": {"build_base": work}, "egg_info": {"egg_base": work}})
