@@ -1,12 +1,11 @@
 -- Agents of a plan without conflict never collide.
-use Rattle.std.proofs.Common.{◌≡◌, ℕ, ◌<◌, ◌-◌, List, length, inl, inr, refl, sym, ap, ◌∙◌, ⊎_elim, arith}
+use Rattle.std.proofs.Common.{◌≡◌, ℕ, ◌<◌, ◌-◌, List, length, refl, sym, ap, ◌∙◌, ⊎_elim, arith}
 use Rattle.std.proofs.lemmas.Bool.{cases_lt}
 use native.Mathlib.Decide.{ℕ_discrete}
 use Rattle.mapf_grid.proofs.Decide.{by_cases}
 use Rattle.mapf_plan.specs.declared.conflict.Conflict.TheVariants.{Vertex, Swapping, Following}
 use Rattle.mapf_plan.specs.declared.rule.Rule.{Rule}
 use Rattle.mapf_plan.specs.declared.rule.Rule.TheVariants.{Classical, NoFollowing}
-use Rattle.mapf_plan.specs.Collisions.{DoCollide}
 use Rattle.mapf_plan.specs.Plan.{HasNoConflict, path_of, place}
 use Rattle.mapf_optimum.specs.Dependence.{NeverCollide}
 

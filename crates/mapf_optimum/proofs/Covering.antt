@@ -12,7 +12,7 @@ use Rattle.mapf_tree.specs.declared.tree.side.Side.{Side}
 use Rattle.mapf_tree.specs.declared.tree.side.Side.TheVariants.{Left, Right}
 use Rattle.mapf_tree.specs.Problem.{Problem}
 use Rattle.mapf_optimum.specs.FreeTree.{FreeNode, IsFreeNode, IsCandidate}
-use Rattle.mapf_optimum.specs.FreeSearch.{AreSideSets, IsSideOf, IsBounded, IsTaken, Expands, Bounds, IsUnderWay}
+use Rattle.mapf_optimum.specs.FreeSearch.{AreSideSets, IsSideOf, IsBounded, IsTaken, Expands}
 use Rattle.mapf_optimum.specs.Laws.{ExpansionCovers, BoundingCovers, LeastIsOptimum, LeastLabelIsBelow, NothingWaits}
 use Rattle.mapf_optimum.proofs.SideSets.{side_sets}
 use Rattle.mapf_optimum.proofs.Sides.{has_a_side}

@@ -9,6 +9,7 @@ mod Collisions
 mod Adding
 mod Moves
 mod Meetings
+mod KnownMoves
 mod Layers
 mod PairBounds
 mod Choosing

@@ -1,12 +1,11 @@
 -- Agents that cost more together: in each candidate their paths do.
-use Rattle.std.proofs.Common.{◌≡◌, ℕ, ◌+◌, ◌-◌, ◌<◌, List, [], length, get_or, subst, sym, ap, ap₂, ◌∙◌, ⊎_elim, arith}
+use Rattle.std.proofs.Common.{◌≡◌, ℕ, ◌+◌, ◌-◌, ◌<◌, List, [], length, get_or, subst, ap, ap₂, ◌∙◌, ⊎_elim, arith}
 use Rattle.std.proofs.lemmas.List.{get_or_default}
 use Rattle.std.proofs.lemmas.Bool.{cases_lt}
 use Rattle.mapf_plan.specs.Path.{cost}
 use Rattle.mapf_plan.specs.Plan.{path_of}
 use Rattle.mapf_low.specs.declared.constraint.Constraint.{Constraint}
 use Rattle.mapf_tree.specs.Problem.{Problem}
-use Rattle.mapf_optimum.specs.declared.pair_bound.PairBound.{PairBound}
 use Rattle.mapf_optimum.specs.FreeTree.{IsCandidate, IsPairBound, HaveLeastPaths, cost_of_two}
 use Rattle.mapf_optimum.specs.Dependence.{Agent, agent_of, CostMore}
 use Rattle.mapf_optimum.proofs.LeastPaths.{pays_least}

@@ -1,5 +1,5 @@
 -- The root of a search: each agent's own path under no constraints.
-use Rattle.std.proofs.Common.{◌≡◌, ℕ, ◌<◌, ◌≤◌, List, [], ◌++◌, length, get_or, replicate, Option, Some, None, MatchOption, subst, sym, ap, ◌∙◌, refl, arith, IsPermutation, All}
+use Rattle.std.proofs.Common.{◌≡◌, ℕ, ◌<◌, ◌≤◌, List, [], ◌++◌, length, get_or, replicate, Option, Some, None, MatchOption, subst, sym, ap, ◌∙◌, refl, arith, IsPermutation}
 use Rattle.std.specs.Option.{option_to_list}
 use Rattle.std.specs.List.{AllByRecursion}
 use Rattle.std.proofs.lemmas.List.{get_or-replicate, length-replicate}

@@ -1,5 +1,5 @@
 -- The sides of any conflict of a node's plan.
-use Rattle.std.proofs.Common.{◌≡◌, ◌⊎◌, ◌↔◌, ℕ, ◌+◌, ◌<◌, ◌≤◌, max, List, [], ◌∷◌, length, get_or, set, Option, Some, None, MatchOption, inl, inr, subst, subst₂, sym, refl, ap, ◌∙◌, ⊎_elim, arith, Contains, length-set}
+use Rattle.std.proofs.Common.{◌≡◌, ◌⊎◌, ◌↔◌, ℕ, ◌+◌, ◌<◌, ◌≤◌, max, List, [], ◌∷◌, length, get_or, set, Option, Some, None, inl, inr, subst, subst₂, sym, refl, ap, ◌∙◌, ⊎_elim, arith, Contains, length-set}
 use Rattle.std.specs.List.{AllByRecursion}
 use Rattle.std.proofs.lemmas.List.{get_or_default}
 use Rattle.std.proofs.lemmas.List.Sums.{sum_by-set, get_or-le-sum_by}
@@ -23,7 +23,7 @@ use Rattle.mapf_optimum.specs.FreeSearch.{AreSideSets, IsSideOf, IsLeastWithin}
 use Rattle.mapf_optimum.specs.Laws.{HasASide}
 use Rattle.mapf_optimum.proofs.Choosing.{all_map, all_contains}
 use Rattle.mapf_optimum.proofs.LeastPaths.{pays_least, least_paths_are_below, least_by_bound}
-use Rattle.mapf_optimum.proofs.SideSets.{side_agents, side_own, side_other, obeys_new, obeys_old, obeys_again}
+use Rattle.mapf_optimum.proofs.SideSets.{side_agents, side_own, side_other, obeys_new, obeys_old}
 
 -- pairs' bounds hold of fewer candidates, too
 pub bounds_stay : (problem : Problem) (old new : List (List Constraint)) (pairs : List PairBound) → ((plan : List (List ℕ)) → IsCandidate problem new plan → IsCandidate problem old plan) →

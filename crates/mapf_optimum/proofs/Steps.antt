@@ -1,5 +1,5 @@
 -- A step of a search under way.
-use Rattle.std.proofs.Common.{◌≡◌, ◌++◌, false, List, Option, Some, subst, sym, ◌∙◌, All, IsPermutation}
+use Rattle.std.proofs.Common.{◌≡◌, ◌++◌, false, List, Option, Some, subst, IsPermutation}
 use Rattle.std.specs.Option.{option_to_list}
 use Rattle.std.proofs.lemmas.List.Elements.{All-contains}
 use Rattle.mapf_plan.specs.declared.conflict.Conflict.{Conflict}

@@ -1,5 +1,5 @@
 -- What holds of every search that may branch on any conflict: nothing is lost, and what is found is an optimum.
-use Rattle.std.specs.Prelude.{◌≡◌, ◌⊎◌, ℕ, ◌+◌, ◌<◌, ◌≤◌, List, [], length, All, Some, slice_index_or, sum_by}
+use Rattle.std.specs.Prelude.{◌⊎◌, ℕ, ◌+◌, ◌<◌, ◌≤◌, List, [], length, All, Some, sum_by}
 use Rattle.std.specs.List.{AllByRecursion}
 use Rattle.mapf_plan.specs.declared.conflict.Conflict.{Conflict}
 use Rattle.mapf_plan.specs.Plan.{HasNoConflict, IsOptimum, IsValid, plan_cost}

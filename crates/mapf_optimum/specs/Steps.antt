@@ -1,5 +1,5 @@
 -- Where two agents may go at a time step on paths of their least costs, without a collision.
-use Rattle.std.specs.Prelude.{◌≡◌, ◌⊎◌, ℕ, ◌-◌, ◌<◌, ◌≤◌, List, Option, Contains}
+use Rattle.std.specs.Prelude.{◌≡◌, ◌⊎◌, ℕ, ◌-◌, ◌<◌, ◌≤◌, List, length, slice_get, Option, Some, Contains}
 use Rattle.mapf_grid.specs.Grid.{IsFree, Next, HasSizes}
 use Rattle.mapf_plan.specs.Collisions.{DoStepsCollide}
 use Rattle.mapf_plan.specs.Path.{at}
@@ -26,6 +26,20 @@ pub record MayEnter (agent : Agent) (time u v : ℕ) : Type 0 where
 -- it does so up to its cost, and rests from then on
 abbrev pub MayGo : Agent → ℕ → ℕ → ℕ → Type 0
 MayGo agent time u v = ((agent.cost < time) × (u ≡ v)) ⊎ ((time ≤ agent.cost) × MayEnter agent time u v)
+
+-- a cell, and where an agent may go from it
+pub record MovesFrom : Type 0 where
+  pub cell : ℕ
+  pub moves : List ℕ
+
+-- these are all moves from the cell at this time
+abbrev pub HasMoves : Agent → ℕ → MovesFrom → Type 0
+HasMoves agent time from = (v : ℕ) → MayGo agent time from.cell v → Contains from.moves v
+
+-- what is known at a place are all moves from this cell at this time
+pub record IsKnownAt (agent : Agent) (time cell : ℕ) (known : List MovesFrom) (place : ℕ) : Type 0 where
+  pub inside : place < length known
+  pub moves : (from : MovesFrom) → slice_get known place ≡ Some from → (v : ℕ) → MayGo agent time cell v → Contains from.moves v
 
 -- two agents may go from a pair of cells to another at this time without a collision
 pub record MayBothGo (rule : Rule) (one other : Agent) (time : ℕ) (from to : ℕ × ℕ) : Type 0 where

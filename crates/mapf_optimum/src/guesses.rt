@@ -7,6 +7,6 @@ mod few_conflicts;
 mod occupancy;
 
 pub(crate) use branching::branching_conflict;
-pub(crate) use conflicts::conflicts_of;
+pub(crate) use conflicts::{colliding_pairs, conflicts_of};
 pub(crate) use few_conflicts::few_conflicts;
 pub(crate) use occupancy::Occupancy;

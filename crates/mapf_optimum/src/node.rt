@@ -12,7 +12,7 @@ mod order;
 
 use crate::PairBound;
 use crate::agents::{copy_paths, copy_sets, empty_sets};
-use crate::guesses::{Occupancy, branching_conflict, conflicts_of};
+use crate::guesses::{Occupancy, branching_conflict, colliding_pairs};
 use crate::low_level::LowLevel;
 use crate::pair_bounds::{pair_bounds, pairs_without};
 use crate::pairs::disjoint_surplus;
@@ -36,6 +36,8 @@ pub struct FreeNode {
     collisions: usize,
     /// Whether the label was found from the pairs.
     is_bounded: bool,
+    /// The conflicts of the plan that were found then.
+    conflicts: Vec<Conflict>,
 }
 
 // By hand, so that a proof about what holds one sees a call where it is dropped, and not its fields.
@@ -48,6 +50,7 @@ impl Drop for FreeNode {
             label: _,
             collisions: _,
             is_bounded: _,
+            conflicts: _,
         } = self;
     }
 }
@@ -91,6 +94,7 @@ impl FreeNode {
             label,
             collisions: 0,
             is_bounded: false,
+            conflicts: Vec::new(alloc),
         }))
     }
 
@@ -99,22 +103,13 @@ impl FreeNode {
         &self,
         alloc: Global,
         low: &LowLevel<'_>,
-        occupancy: &mut Occupancy,
     ) -> Result<Option<Conflict>, NoMemory>
         requires { IsFreeNode low.now self.now }
         ensures { IfOk result (λ found.
             MatchOption found (HasNoConflict low.now.rule self.now.plan) (IsChoice low.now self.now.plan)) }
     {
         let problem = low.problem();
-        let conflicts = conflicts_of(alloc, problem.rule(), self.plan.paths(), occupancy)?;
-        let guess = branching_conflict(
-            alloc,
-            low,
-            &self.sets,
-            &self.plan,
-            &self.pairs,
-            &conflicts,
-        )?;
+        let guess = branching_conflict(alloc, low, &self.sets, &self.plan, &self.conflicts)?;
         match guess {
             Some(conflict) => Ok(Some(conflict)),
             None => Ok(self.first_conflict(problem)),
@@ -155,6 +150,7 @@ impl FreeNode {
             label: _,
             collisions: _,
             is_bounded: _,
+            conflicts: _,
         } = self;
         plan
     }
@@ -178,16 +174,16 @@ impl FreeNode {
             label,
             collisions: _,
             is_bounded: _,
+            conflicts: _,
         } = self;
-        let plan = settled(alloc, low, &sets, &plan, occupancy)?;
-        let conflicts = conflicts_of(alloc, problem.rule(), plan.paths(), occupancy)?;
+        let (plan, conflicts) = settled(alloc, low, &sets, &plan, occupancy)?;
         let pairs = pair_bounds(alloc, problem, &sets, &plan, known, &conflicts)?;
         let surplus = disjoint_surplus(alloc, &plan, &pairs)?;
         let label = label.max(plan.cost().saturating_add(surplus));
         if label > u64::from(problem.bound()) {
             return Ok(None);
         }
-        let collisions = conflicts.len();
+        let collisions = colliding_pairs(&conflicts);
         Ok(Some(FreeNode {
             sets,
             plan,
@@ -195,6 +191,7 @@ impl FreeNode {
             label,
             collisions,
             is_bounded: true,
+            conflicts,
         }))
     }
 
@@ -228,6 +225,7 @@ impl FreeNode {
             label,
             collisions: self.collisions,
             is_bounded: false,
+            conflicts: Vec::new(alloc),
         }))
     }
 

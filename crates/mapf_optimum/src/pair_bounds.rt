@@ -15,7 +15,7 @@ use mapf_tree::{Problem, Side, agent_of};
 use std::alloc::Global;
 
 /// How many pairs of cells are looked at for a pair of agents, at most.
-const BUDGET: usize = 5_000;
+const BUDGET: usize = 20_000;
 
 /// What is known of pairs, and what each pair that has one of these conflicts costs together at least, if it isn't known.
 pub(crate) fn pair_bounds(

@@ -4,6 +4,7 @@ mod agent;
 mod dependence;
 mod disjoint;
 mod extra_cost;
+mod known_moves;
 mod place_pairs;
 mod steps;
 

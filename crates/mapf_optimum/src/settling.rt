@@ -17,30 +17,32 @@ use std::alloc::Global;
 /// How many times all agents that have a conflict choose anew, at most.
 const MOST_ROUNDS: u32 = 4;
 
-/// The plan, in which agents that have conflicts took other least paths, as long as conflicts got fewer.
+/// The plan, in which agents that have conflicts took other least paths, as long as conflicts got fewer; and its conflicts.
 pub(crate) fn settled(
     alloc: Global,
     low: &LowLevel<'_>,
     sets: &[Constraints],
     plan: &Plan,
     occupancy: &mut Occupancy,
-) -> Result<Plan, NoMemory>
+) -> Result<(Plan, Vec<Conflict>), NoMemory>
     requires sets { length sets.now ≡ length low.now.inst.starts }
     requires paths { HaveLeastPaths low.now sets.now plan.now }
-    ensures { IfOk result (AreSettled low.now sets.now plan.now) }
+    ensures { IfOk result (λ settled. AreSettled low.now sets.now plan.now settled.0) }
 {
     let rule = low.problem().rule();
     let mut paths = copy_paths(alloc, plan.paths())?;
-    let mut fewest = usize::MAX;
+    let mut conflicts = conflicts_of(alloc, rule, &paths, occupancy)?;
+    let mut are_fewer = true;
     for _round in 0..MOST_ROUNDS {
-        let conflicts = conflicts_of(alloc, rule, &paths, occupancy)?;
-        if conflicts.len() >= fewest || conflicts.is_empty() {
+        if conflicts.is_empty() || !are_fewer {
             break;
         }
-        fewest = conflicts.len();
         settle_all(alloc, low, sets, &mut paths, &conflicts, occupancy)?;
+        let next = conflicts_of(alloc, rule, &paths, occupancy)?;
+        are_fewer = next.len() < conflicts.len();
+        conflicts = next;
     }
-    Ok(Plan::of(paths))
+    Ok((Plan::of(paths), conflicts))
 }
 
 /// All agents that have one of these conflicts choose anew, each once.

@@ -83,7 +83,7 @@ fn search<W: OptimumWatch>(
             continue 'steps;
         }
         watch.nodes_expanded(problem, nodes, node.label());
-        let Some(conflict) = node.choice(alloc, low, occupancy)? else {
+        let Some(conflict) = node.choice(alloc, low)? else {
             let plan = node.into_plan();
             let stated = plan.cost();
             return Ok(Answer::Plan { plan, stated });

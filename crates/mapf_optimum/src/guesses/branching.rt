@@ -3,47 +3,34 @@
 ghost use Rattle.std.specs.Prelude.{IfOk, MatchOption, ⊤};
 ghost use Rattle.mapf_optimum.specs.FreeTree.{IsChoice};
 
-use crate::PairBound;
 use crate::allowed::is_choice;
 use crate::low_level::LowLevel;
-use crate::pairs::surplus_of;
 use mapf_grid::NoMemory;
 use mapf_low::Constraints;
 use mapf_plan::{Conflict, Plan};
 use mapf_tree::{Side, agent_of, constraint_of};
 use std::alloc::Global;
 
-/// How many conflicts of pairs that cost more are tried, at most.
-const MOST_TRIED: usize = 32;
+/// How many conflicts are tried, at most.
+const MOST_TRIED: usize = 200;
 
-/// A conflict of the plan up to the bound, if one is found among these: one whose two sides cost more than the node; else one of
-/// which one side does; else the first one.
-///
-/// A conflict whose sides both cost more is one of a pair that costs more together, so those of no other pair are tried.
+/// A conflict of the plan up to the bound, if one is found among these: that whose sides cost most, by the lesser of the two first, and
+/// of equals the first one.
 pub(crate) fn branching_conflict(
     alloc: Global,
     low: &LowLevel<'_>,
     sets: &[Constraints],
     plan: &Plan,
-    pairs: &[PairBound],
     conflicts: &[Conflict],
 ) -> Result<Option<Conflict>, NoMemory>
     ensures { IfOk result (λ found. MatchOption found ⊤ (IsChoice low.now plan.now)) }
 {
     let mut best = None;
     let mut greatest = (0, 0);
-    let mut tried = 0;
-    for conflict in conflicts {
-        if !is_choice(low.problem(), plan, conflict) {
-            continue;
-        }
-        if best.is_none() {
-            best = Some(*conflict);
-        }
-        if tried < MOST_TRIED && costs_more(plan, pairs, conflict) {
-            tried += 1;
+    for conflict in conflicts.iter().take(MOST_TRIED) {
+        if is_choice(low.problem(), plan, conflict) {
             let rises = rises(alloc, low, sets, plan, conflict)?;
-            if rises > greatest {
+            if best.is_none() || rises > greatest {
                 greatest = rises;
                 best = Some(*conflict);
             }
@@ -65,17 +52,6 @@ fn rises(
     let one = rise(alloc, low, sets, plan, conflict, Side::Left)?;
     let other = rise(alloc, low, sets, plan, conflict, Side::Right)?;
     Ok((one.min(other), one.max(other)))
-}
-
-/// Whether the two agents of the conflict cost more together than now.
-fn costs_more(plan: &Plan, pairs: &[PairBound], conflict: &Conflict) -> bool {
-    let (one, other) = (
-        agent_of(conflict, Side::Left),
-        agent_of(conflict, Side::Right),
-    );
-    pairs.iter().any(|pair| {
-        (pair.first, pair.second) == (one, other) && surplus_of(plan, pair) > 0
-    })
 }
 
 /// How much more the side's agent pays there; the greatest number where it has no path.

@@ -3,6 +3,7 @@
 use crate::guesses::Occupancy;
 use mapf_grid::NoMemory;
 use mapf_plan::{Conflict, Path, Rule};
+use mapf_tree::{Side, agent_of};
 use std::alloc::Global;
 
 /// The conflicts that agents on these paths have, by time, as far as they are found: where more than two are on one cell, not each
@@ -88,4 +89,28 @@ fn add_passing(
         }
     }
     Ok(())
+}
+
+/// How many pairs of agents have one of these conflicts.
+pub(crate) fn colliding_pairs(conflicts: &[Conflict]) -> usize {
+    let mut count = 0_usize;
+    for (place, conflict) in conflicts.iter().enumerate() {
+        let pair = agents_of(conflict);
+        if !conflicts
+            .iter()
+            .take(place)
+            .any(|known| agents_of(known) == pair)
+        {
+            count = count.saturating_add(1);
+        }
+    }
+    count
+}
+
+/// The two agents of a conflict, in their order.
+fn agents_of(conflict: &Conflict) -> (usize, usize) {
+    (
+        agent_of(conflict, Side::Left),
+        agent_of(conflict, Side::Right),
+    )
 }

@@ -5,6 +5,7 @@ ghost use Rattle.mapf_optimum.specs.Dependence.{AreDependent};
 ghost use Rattle.mapf_optimum.specs.Steps.{MayBothGo, HasPlaces};
 
 use super::agent::Agent;
+use super::known_moves::place_of;
 use super::place_pairs::PlacePairs;
 use super::steps::add_apart;
 use mapf_grid::NoMemory;
@@ -38,15 +39,17 @@ fn next_layer(
         → MayBothGo rule one.now other.now time from to → Contains next to) }
 {
     let mut reached = PlacePairs::new(alloc);
+    let mut ones = Vec::new(alloc);
+    let mut others = Vec::new(alloc);
     for from in layer.as_slice() {
-        let ones = one.moves(alloc, from.0, time)?;
-        let others = other.moves(alloc, from.1, time)?;
+        let first = place_of(alloc, one, &mut ones, from.0, time)?;
+        let second = place_of(alloc, other, &mut others, from.1, time)?;
         add_apart(
             rule,
             from.0,
-            ones.as_slice(),
+            ones[first].as_slice(),
             from.1,
-            others.as_slice(),
+            others[second].as_slice(),
             &mut reached,
         )?;
     }

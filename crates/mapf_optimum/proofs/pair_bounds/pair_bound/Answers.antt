@@ -1,4 +1,4 @@
-use Rattle.std.proofs.Common.{ℕ, ◌≡◌, ◌<◌, ◌+◌, length, subst, subst₂, sym, ap, arith}
+use Rattle.std.proofs.Common.{◌≡◌, ◌<◌, ◌+◌, length, subst, subst₂, ap, arith}
 use Rattle.mapf_plan.specs.declared.rule.Rule.{Rule}
 use Rattle.mapf_optimum.specs.Dependence.{CostMore}
 use Rattle.mapf_optimum.specs.FreeTree.{IsPairBound, cost_of_two}

@@ -1,6 +1,5 @@
-use Rattle.std.proofs.Common.{ap, ◌∙◌, subst, sym, get_or, arith, List, [], refl}
+use Rattle.std.proofs.Common.{subst, get_or, arith, List, [], refl}
 use Rattle.mapf_low.specs.declared.constraint.Constraint.{Constraint}
-use Rattle.mapf_plan.specs.Path.{cost}
 use Rattle.mapf_tree.specs.Problem.{Problem}
 use Rattle.mapf_tree.specs.Tree.{IsAllowedFor}
 use Rattle.mapf_optimum.proofs.Bounding.{takes_another, set_at}

@@ -1,4 +1,4 @@
-use Rattle.std.proofs.Common.{Some, None, MatchOption, subst}
+use Rattle.std.proofs.Common.{None, MatchOption, subst}
 use Rattle.mapf_tree.specs.Family.{AreRootPaths, IsRoot}
 use Rattle.mapf_optimum.proofs.Roots.{begins, begins_empty, no_root}
 use Rattle.mapf_optimum.proofs.solving.begin.Goals as goal

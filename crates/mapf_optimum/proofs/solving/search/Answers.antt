@@ -1,8 +1,8 @@
-use Rattle.std.proofs.Common.{Some, None, MatchOption, subst, sym, ap, ◌∙◌, arith}
-use Rattle.mapf_plan.specs.Plan.{HasNoConflict, IsOptimum, plan_cost}
+use Rattle.std.proofs.Common.{Some, MatchOption, subst, sym, ap, ◌∙◌, arith}
+use Rattle.mapf_plan.specs.Plan.{HasNoConflict, IsOptimum}
 use Rattle.mapf_tree.specs.LowerBound.{IsBelowAll}
 use Rattle.mapf_tree.specs.Problem.{Problem}
-use Rattle.mapf_optimum.specs.FreeTree.{FreeNode, IsChoice}
+use Rattle.mapf_optimum.specs.FreeTree.{IsChoice}
 use Rattle.mapf_optimum.specs.FreeSearch.{IsTaken}
 use Rattle.mapf_optimum.proofs.Covering.{bounding_covers, expansion_covers, least_is_optimum, least_label_is_below}
 use Rattle.mapf_optimum.proofs.Steps.{taken_is_free, taken_node, bounds, expands}

@@ -1,7 +1,6 @@
 use Rattle.std.proofs.Common.{[], length, ap, ◌∙◌, arith, false, replicate}
 use Rattle.mapf_grid.specs.Instance.{Instance}
 use Rattle.mapf_plan.specs.Plan.{plan_cost}
-use Rattle.mapf_low.specs.declared.constraint.Constraint.{Constraint}
 use Rattle.mapf_optimum.proofs.Roots.{too_dear, root_is}
 use Rattle.mapf_optimum.proofs.node.FreeNode.root.Goals as goal
 

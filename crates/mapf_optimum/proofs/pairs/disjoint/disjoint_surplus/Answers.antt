@@ -1,4 +1,3 @@
-use Rattle.mapf_optimum.proofs.Choosing.{none_chosen}
 use Rattle.mapf_optimum.proofs.pairs.disjoint.disjoint_surplus.Goals as goal
 
 pub returns : goal.returns
