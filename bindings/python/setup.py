@@ -8,11 +8,25 @@ import tempfile
 import zipfile
 
 from setuptools import Command, Distribution, setup
+from setuptools.command.build_py import build_py
 
 HERE = os.path.dirname(os.path.realpath(__file__))
-BUILT = any(os.path.isfile(os.path.join(HERE, "mapf", "built", name)) for name in ("libmapf.so", "mapf"))
+FILES = (os.path.join(HERE, "../out/libmapf.so"), os.path.join(HERE, "../../crates/mapf/out/mapf"))
+BUILT = [path for path in FILES if os.path.isfile(path)]
 PARTS = {"PKG-INFO": "METADATA", "entry_points.txt": "entry_points.txt", "top_level.txt": "top_level.txt"}
 TAG = "Wheel-Version: 1.0\nGenerator: mapf\nRoot-Is-Purelib: true\nTag: py3-none-{}\n"
+
+
+class WithBuilt(build_py):
+    """The command build_py, which takes the library and the program along where they are built."""
+
+    def run(self):
+        """Copies the modules, and then these files."""
+        super().run()
+        folder = os.path.join(self.build_lib, "mapf", "built")
+        for path in BUILT:
+            os.makedirs(folder, exist_ok=True)
+            shutil.copy(path, folder)
 
 
 class Wheel(Command):
@@ -71,5 +85,5 @@ work = tempfile.mkdtemp()
 atexit.register(shutil.rmtree, work, ignore_errors=True)
 platform = {"plat_name": "linux_x86_64"} if BUILT else {}
 setup(
-    cmdclass={} if makes_wheels() else {"bdist_wheel": Wheel},
+    cmdclass={"build_py": WithBuilt, **({} if makes_wheels() else {"bdist_wheel": Wheel})},
     options={"bdist_wheel": platform, "build": {"build_base": work}, "egg_info": {"egg_base": work}})

@@ -11,11 +11,10 @@ from typing import Any, List, Optional, Tuple
 from ._input import Input, read_input
 from .faults import BackendFailure, NotBuilt
 from .options import MOST_AGENTS, MOST_BOUND, MOST_NODES, MOST_WORKERS, Options
-from .program import ANSWERED, run_on
+from .program import ANSWERED, built, run_on
 from .run import Ended, Progress
 
 HERE = os.path.dirname(os.path.realpath(__file__))
-BUILT = os.path.realpath(os.path.join(HERE, "built", "libmapf.so"))
 REFUSED = 3
 GAVE_UP = 6
 TOO_SHORT = 7
@@ -34,8 +33,8 @@ ARGUMENTS = {
 
 
 def library_path() -> str:
-    """Where the library is: MAPF_LIBRARY of the environment, or in the package, which has it from bindings/build."""
-    return os.environ.get("MAPF_LIBRARY") or BUILT
+    """Where the library is: MAPF_LIBRARY of the environment, or where bindings/build leaves it."""
+    return os.environ.get("MAPF_LIBRARY") or built("libmapf.so", "bindings", "out")
 
 
 class Library:

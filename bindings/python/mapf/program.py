@@ -12,14 +12,19 @@ from .options import Options
 from .run import Ended, Progress, run
 
 HERE = os.path.dirname(os.path.realpath(__file__))
-BUILT = os.path.realpath(os.path.join(HERE, "built", "mapf"))
 ANSWERED = (0, 1, 6)
 REFUSED = (3, 4, 5)
 
 
+def built(name: str, *in_checkout: str) -> str:
+    """Where a built file is: in a package that was installed with it, else at its place in the checkout."""
+    installed = os.path.join(HERE, "built", name)
+    return installed if os.path.isfile(installed) else os.path.normpath(os.path.join(HERE, "../../..", *in_checkout, name))
+
+
 def program_path() -> str:
-    """Where the program is: MAPF_PROGRAM of the environment, or in the package, which has it from ./mapf."""
-    return os.environ.get("MAPF_PROGRAM") or BUILT
+    """Where the program is: MAPF_PROGRAM of the environment, or where ./mapf leaves it."""
+    return os.environ.get("MAPF_PROGRAM") or built("mapf", "crates", "mapf", "out")
 
 
 class Program:
