@@ -2,6 +2,7 @@
 import io
 import os
 import random
+import signal
 import subprocess
 import sys
 import unittest
@@ -16,6 +17,11 @@ EXAMPLES = os.path.join(ROOT, "examples")
 PACKAGE = os.path.join(ROOT, "bindings", "python")
 HAS_LIBRARY = os.path.isfile(mapf.library.library_path())
 HAS_PROGRAM = os.access(mapf.program.program_path(), os.X_OK)
+
+# nohup, and a shell's `&`, start programs that ignore these, as all would that the tests start.
+for _number in (signal.SIGHUP, signal.SIGINT, signal.SIGQUIT):
+    if signal.getsignal(_number) is signal.SIG_IGN:
+        signal.signal(_number, signal.default_int_handler if _number == signal.SIGINT else signal.SIG_DFL)
 
 with_program = unittest.skipUnless(HAS_PROGRAM, "no program: ./mapf --version builds it")
 with_library = unittest.skipUnless(HAS_LIBRARY, "no library: bindings/build makes it")

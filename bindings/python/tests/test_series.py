@@ -169,10 +169,7 @@ class StandIn(WithStandIn):
 
     def interrupt(self, number):
         """Begins a series, and stops it once three runs don't end."""
-        # Where the tests run in the background, Ctrl-C is ignored, and a child would take that over.
-        heard = signal.signal(signal.SIGINT, signal.default_int_handler)
         running = process(*self.words("--jobs", 3, "--seconds", 500), stderr=subprocess.PIPE)
-        signal.signal(signal.SIGINT, heard)
         end = time.monotonic() + 300
         while time.monotonic() < end and not (os.path.exists(self.folder + "/began") and [a for a, _ in self.began()].count(15) == 3):
             time.sleep(0.02)

@@ -87,12 +87,9 @@ class Stopping(unittest.TestCase):
     def started(self, script, backend):
         """A process that runs the script."""
         environment = {**os.environ, "PYTHONPATH": PACKAGE, "MAPF_BACKEND": backend}
-        # Where the tests run in the background, Ctrl-C is ignored, and a child would take that over.
-        heard = signal.signal(signal.SIGINT, signal.default_int_handler)
         running = subprocess.Popen(
             [sys.executable, "-c", SCRIPT.format(folder=self.folder, code=script)], env=environment, cwd=self.folder,
             stdout=subprocess.PIPE, stderr=subprocess.PIPE, start_new_session=True)
-        signal.signal(signal.SIGINT, heard)
         self.addCleanup(running.kill)
         return running
 
