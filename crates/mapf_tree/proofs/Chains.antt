@@ -1,5 +1,5 @@
 -- One change more at the end of a chain.
-use Rattle.std.proofs.Common.{◌≡◌, ◌≢◌, ◌↔◌, ℕ, ◌+◌, ◌<◌, List, [], ◌∷◌, ◌++◌, length, take, take_all, map, get_or, set, All, Option, Some, Result, Ok, Err, IfOk, replicate, ap₂, refl, sym, ap, ◌∙◌, subst, subst₂, arith, Contains, get_or-set_same}
+use Rattle.std.proofs.Common.{◌≡◌, ◌≢◌, ◌↔◌, ℕ, ◌+◌, ◌<◌, List, [], ◌∷◌, ◌++◌, length, take, take_all, map, get_or, set, All, Option, Some, replicate, ap₂, refl, sym, ap, ◌∙◌, subst, subst₂, arith, Contains, get_or-set_same}
 use Rattle.std.specs.List.{AllZip, AppendsClones, slice_get}
 use Rattle.std.proofs.lemmas.List.{length-set, length_push, map-append, take_more}
 use Rattle.std.proofs.lemmas.Option.{slice_get_within, get_or_from_slice_get}
@@ -142,8 +142,3 @@ module _ (name : List Side) (root : List (List ℕ)) (xs : List Changed) (rule :
 
         old : All (λ y. y.agent < length node.plan) xs
         old = subst (λ (n : Node). All (λ y. y.agent < length n.plan) xs) is agrees.agents
-
--- what follows of an answer follows of what is answered
-pub if_ok : {A E : Type 0} (r : Result A E) (P Q : A → Type 0) → ((x : A) → P x → Q x) → IfOk r P → IfOk r Q
-if_ok (Ok x) P Q f h = f x h
-if_ok (Err e) P Q f h = h

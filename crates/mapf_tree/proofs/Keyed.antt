@@ -1,5 +1,5 @@
 -- The order of keys is that of their ranks.
-use Rattle.std.proofs.Common.{◌≡◌, ◌⊎◌, ◌↔◌, ℕ, ◌<◌, List, [], ◌∷◌, Ordering, Less, Equal, Greater, nat_cmp, inl, inr, refl, sym, ap, ◌∙◌, arith}
+use Rattle.std.proofs.Common.{◌≡◌, ◌⊎◌, ◌↔◌, ℕ, ◌<◌, List, [], ◌∷◌, Less, Equal, Greater, nat_cmp, inl, inr, refl, sym, ap, ◌∙◌, arith}
 use Rattle.std.specs.Ordering.{ordering_then}
 use Rattle.std.specs.Cmp.Lexicographic.{slice_cmp}
 use Rattle.std.proofs.lemmas.Bool.{cases_order}
@@ -34,7 +34,3 @@ Precedes-slice_cmp (a ∷ p) (b ∷ q) = go (Precedes-slice_cmp p q)
         back : Precedes (a ∷ p) (b ∷ q) → ordering_then (nat_cmp a b) (slice_cmp nat_cmp p q) ≡ Less
         back (inl l) = ap (λ o. ordering_then o (slice_cmp nat_cmp p q)) (cmp_less a b l)
         back (inr h) = ap (λ o. ordering_then o (slice_cmp nat_cmp p q)) (cmp_equal a b h.0) ∙ ih.1 h.1
-
--- where two keys compare as their ranks do, the first comes before the other where its rank does
-pub key_order : (p q : List ℕ) (r : Ordering) → r ≡ slice_cmp nat_cmp p q → (r ≡ Less) ↔ Precedes p q
-key_order p q r is = ((λ h. (Precedes-slice_cmp p q).0 (sym is ∙ h)), (λ h. is ∙ (Precedes-slice_cmp p q).1 h))

@@ -28,10 +28,6 @@ mod Queries
 mod SameSets
 mod PathCaches
 mod Rising
-mod Queues
-mod InOrder
-mod BucketQueues
-mod Buckets
 pub mod OpenNodes
 pub mod Expansions
 pub mod Remaining

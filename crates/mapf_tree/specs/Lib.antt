@@ -11,7 +11,6 @@ pub mod PathCache
 pub mod SharedChanges
 pub mod Laws
 pub mod OpenList
-pub mod Buckets
 pub mod Search
 pub mod LowerBound
 pub mod Steps

@@ -7,6 +7,7 @@ pub(crate) mod chain;
 pub(crate) mod change;
 mod current_paths;
 mod newest_changes;
+mod order;
 pub(crate) mod side_extensions;
 mod with_change;
 

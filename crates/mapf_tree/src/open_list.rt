@@ -1,48 +1,34 @@
-ghost use Rattle.std.specs.Prelude.{◌≡◌, ◌↔◌, [], take, OnOk, IfErr, IsTrue};
-ghost use Rattle.mapf_tree.specs.OpenList.{IsTaken};
-
-mod bucket;
-mod first;
-mod queue;
+ghost use Rattle.std.specs.Prelude.{◌≡◌, ◌↔◌, [], length, take, OnOk, IfErr, IsTrue};
+ghost use Rattle.std.specs.Iterator.{at_most};
+ghost use Rattle.mapf_tree.specs.OpenList.{IsTaken, GivesFirst};
 
 use crate::Node;
-use bucket::Bucket;
-pub use first::First;
 use std::alloc::Global;
-use std::collections::BTreeMap;
+use std::collections::{BTreeSet, btree_set};
 use std::marker::Model;
 
 /// The nodes that wait, in the order of their keys; no two have one key.
-///
-/// Parents are taken in this order, so the children of one cost and depth come in it, too, as far as their parents cost the
-/// same: they are a union of as many rising sequences as their parents have different costs, and need no more queues.
 pub struct OpenList {
-    alloc: Global,
-    /// By cost and depth; each has a node.
-    buckets: BTreeMap<(u64, usize), Bucket>,
+    nodes: BTreeSet<Node>,
 }
 
-// By hand, so that a proof about what holds one sees a call where it is dropped, and not its fields.
+// By hand, so that a proof about what holds one sees a call where it is dropped, and not its field.
 impl Drop for OpenList {
     fn drop(self) {
-        let OpenList {
-            alloc: _,
-            buckets: _,
-        } = self;
+        let OpenList { nodes: _ } = self;
     }
 }
 
 impl Model for OpenList {
     ghost use Rattle.std.specs.Prelude.{List};
     ghost use Rattle.mapf_tree.specs.Nodes.{Node};
-    ghost use Rattle.std.specs.BTreeMap.{values};
-    ghost use Rattle.mapf_tree.specs.Buckets.{nodes_of, AreBuckets};
+    ghost use Rattle.mapf_tree.specs.OpenList.{IsRising};
 
     ghost Value = { List Node };
 
-    ghost view = { λ l. nodes_of (values l.buckets) };
+    ghost view = { λ l. l.nodes.keys };
 
-    ghost invariant = { λ l. AreBuckets l.buckets.entries };
+    ghost invariant = { λ l. IsRising l.nodes.keys };
 }
 
 impl OpenList {
@@ -53,8 +39,7 @@ impl OpenList {
         ensures { result ≡ [] }
     {
         OpenList {
-            alloc,
-            buckets: BTreeMap::new(alloc),
+            nodes: BTreeSet::new(alloc),
         }
     }
 
@@ -62,7 +47,7 @@ impl OpenList {
     pub fn is_empty(&self) -> bool
         ensures { IsTrue result ↔ (self.now ≡ []) }
     {
-        self.buckets.is_empty()
+        self.nodes.is_empty()
     }
 
     /// Puts a node in at its place; a node that waits there with the same key goes.
@@ -74,15 +59,9 @@ impl OpenList {
         ensures err { IfErr result (λ _. self.new ≡ self.old) }
         ensures rising { IsRising self.new }
     {
-        let level = (node.key().cost, node.key().depth);
-        if let Some(bucket) = self.buckets.get_mut(&level) {
-            return bucket.put(node);
-        }
-        let mut bucket = Bucket::new(self.alloc);
-        bucket.put(node)?;
-        match self.buckets.insert(level, bucket) {
-            Ok(_none) => Ok(()),
-            Err(refused) => Err(refused.value.1.into_one()),
+        match self.nodes.replace(node) {
+            Ok(_replaced) => Ok(()),
+            Err(refused) => Err(refused.value),
         }
     }
 
@@ -91,13 +70,7 @@ impl OpenList {
         ensures taken { IsTaken self.old result self.new }
         ensures rising { IsRising self.old }
     {
-        let level = *self.buckets.first_key_value()?.0;
-        let bucket = self.buckets.get_mut(&level)?;
-        let first = bucket.take_first();
-        if bucket.is_empty() {
-            self.buckets.pop_first();
-        }
-        first
+        self.nodes.pop_first()
     }
 
     /// The first so many of the nodes, in the order of their keys.
@@ -105,6 +78,41 @@ impl OpenList {
         ensures first { result ≡ take count self.now }
         ensures rising { IsRising self.now }
     {
-        First::of(self.buckets.values(), count)
+        First {
+            nodes: self.nodes.iter(),
+            left: count,
+        }
+    }
+}
+
+/// The first waiting nodes, in the order of their keys.
+#[derive(Drop)]
+pub struct First<'a> {
+    nodes: btree_set::Iter<'a, Node>,
+    left: usize,
+}
+
+impl<'a> Model for First<'a> {
+    ghost use Rattle.std.specs.Prelude.{List, take};
+    ghost use Rattle.mapf_tree.specs.Nodes.{Node};
+
+    ghost Value = { List Node };
+
+    ghost view = { λ f. take f.left f.nodes };
+}
+
+impl<'a> Iterator for First<'a> {
+    type Item = &'a Node;
+
+    ghost next_gives = { GivesFirst };
+
+    ghost remaining = { λ s. at_most (length s) };
+
+    fn next(&mut self) -> Option<&'a Node> {
+        if self.left == 0 {
+            return None;
+        }
+        self.left -= 1;
+        self.nodes.next()
     }
 }

@@ -1,6 +1,4 @@
-ghost use Rattle.std.specs.Prelude.{◌≡◌, ◌↔◌, IfOk, IsTrue};
-ghost use Rattle.mapf_grid.specs.Least.{Precedes};
-ghost use Rattle.mapf_tree.specs.Tree.{key_rank};
+ghost use Rattle.std.specs.Prelude.{◌≡◌, IfOk};
 
 use crate::Name;
 use mapf_grid::NoMemory;
@@ -18,13 +16,6 @@ pub struct Key {
 }
 
 impl Key {
-    /// Whether a node of this key comes before one of the other key.
-    pub fn is_before(&self, other: &Key) -> bool
-        ensures { IsTrue result ↔ Precedes (key_rank self.now) (key_rank other.now) }
-    {
-        self.cmp(other).is_lt()
-    }
-
     /// An equal key. An error is that memory ran out.
     pub fn copy(&self, alloc: Global) -> Result<Key, NoMemory>
         ensures { IfOk result (λ other. other ≡ self.now) }

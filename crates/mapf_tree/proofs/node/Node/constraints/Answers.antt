@@ -1,8 +1,9 @@
-use Rattle.mapf_tree.proofs.Chains.{if_ok, sets_at}
+use Rattle.std.proofs.lemmas.Result.{IfOk-weaker}
+use Rattle.mapf_tree.proofs.Chains.{sets_at}
 use Rattle.mapf_tree.specs.declared.node.Body.{Body}
 use Rattle.mapf_tree.proofs.node.Node.constraints.Goals as goal
 use Rattle.std.proofs.Common.{ap}
 
 pub returns : goal.returns
 returns c =
-    if_ok c.constraints.result _ _ (λ set gathered. sets_at _ _ _ _ _ c.args.self.now c.self.view_is c.args.agent set c.deref.result.now.changes (ap (λ (b : Body). b.changes) c.deref.ensures) c.requires gathered) c.constraints.ensures
+    IfOk-weaker c.constraints.result _ _ (λ set gathered. sets_at _ _ _ _ _ c.args.self.now c.self.view_is c.args.agent set c.deref.result.now.changes (ap (λ (b : Body). b.changes) c.deref.ensures) c.requires gathered) c.constraints.ensures

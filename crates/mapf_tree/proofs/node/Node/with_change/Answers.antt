@@ -1,8 +1,9 @@
 use Rattle.std.proofs.Common.{set, [], ◌∷◌, ◌++◌, ap, ap₂, ◌∙◌}
+use Rattle.std.proofs.lemmas.Result.{IfOk-weaker}
 use Rattle.mapf_plan.specs.Plan.{plan_cost}
 use Rattle.mapf_tree.specs.Nodes.{Changed, Node}
 use Rattle.mapf_tree.specs.declared.node.Body.{Body}
-use Rattle.mapf_tree.proofs.Chains.{plan_turned, sets_turned, agrees_turned, if_ok}
+use Rattle.mapf_tree.proofs.Chains.{plan_turned, sets_turned, agrees_turned}
 use Rattle.mapf_tree.proofs.node.Node.with_change.Goals as goal
 
 pub of-requires : goal.of-requires
@@ -16,15 +17,15 @@ of-requires c =
     c.requires.conflict
 
 pub returns-clause-name : goal.returns-clause-name
-returns-clause-name c = if_ok c.of.result _ _ (λ n is. ap (λ (m : Node). m.name) is ∙ c.in_ok-key.ensures.name) c.of.ensures
+returns-clause-name c = IfOk-weaker c.of.result _ _ (λ n is. ap (λ (m : Node). m.name) is ∙ c.in_ok-key.ensures.name) c.of.ensures
 
 pub returns-clause-changes : goal.returns-clause-changes
 returns-clause-changes c =
-    if_ok c.of.result _ _ (λ n is. ap (λ (m : Node). m.changes) is ∙ c.in_ok-with.ensures ∙ ap (λ (b : Body). b.changes ++ c.args.change.value ∷ []) c.deref-6.ensures ∙ ap (λ (m : Node). m.changes ++ c.args.change.value ∷ []) c.self.view_is) c.of.ensures
+    IfOk-weaker c.of.result _ _ (λ n is. ap (λ (m : Node). m.changes) is ∙ c.in_ok-with.ensures ∙ ap (λ (b : Body). b.changes ++ c.args.change.value ∷ []) c.deref-6.ensures ∙ ap (λ (m : Node). m.changes ++ c.args.change.value ∷ []) c.self.view_is) c.of.ensures
 
 pub returns-clause-constraints : goal.returns-clause-constraints
 returns-clause-constraints c =
-    if_ok c.of.result _ _
+    IfOk-weaker c.of.result _ _
     (λ n is.
     ap (λ (m : Node). m.constraints) is
     ∙ sets_turned _ _ _ _ _ c.args.self.now c.self.view_is c.in_ok-try_clone.field-0.value c.in_ok-with.field-0 c.args.change.value
@@ -34,7 +35,7 @@ returns-clause-constraints c =
 
 pub returns-clause-plan : goal.returns-clause-plan
 returns-clause-plan c =
-    if_ok c.of.result _ _
+    IfOk-weaker c.of.result _ _
     (λ n is.
     ap (λ (m : Node). m.plan) is
     ∙ plan_turned _ _ _ _ _ c.args.self.now c.self.view_is c.in_ok-try_clone.field-0.value c.in_ok-with.field-0 c.args.change.value

@@ -1,0 +1,6 @@
+use Rattle.std.proofs.Common.{nat_cmp, ap₂, ◌∙◌}
+use Rattle.std.specs.Cmp.Lexicographic.{slice_cmp}
+use Rattle.mapf_tree.proofs.node.order.NodeOrd.cmp.Goals as goal
+
+pub returns : goal.returns
+returns c = c.cmp.ensures ∙ ap₂ (λ p q. slice_cmp nat_cmp p q) c.key.ensures.rank c.key-2.ensures.rank
