@@ -8,15 +8,9 @@ use std::collections::{BTreeSet, btree_set};
 use std::marker::Model;
 
 /// The nodes that wait, in the order of their keys; no two have one key.
+#[derive(Drop)]
 pub struct OpenList {
     nodes: BTreeSet<Node>,
-}
-
-// By hand, so that a proof about what holds one sees a call where it is dropped, and not its field.
-impl Drop for OpenList {
-    fn drop(self) {
-        let OpenList { nodes: _ } = self;
-    }
 }
 
 impl Model for OpenList {

@@ -8,7 +8,6 @@ mod children;
 mod expansion;
 mod lower_bound;
 mod progress;
-mod taken;
 
 use crate::search::expansion::{Expansion, add_if_some, expand_least};
 use crate::search::lower_bound::answer_at_limit;

@@ -3,7 +3,6 @@ ghost use Rattle.mapf_tree.specs.OpenList.{IsAddedIfSome};
 ghost use Rattle.mapf_tree.specs.Steps.{TakesLeast};
 ghost use Rattle.mapf_tree.specs.Nodes.{AllStand};
 
-use crate::search::taken::key_and_plan;
 use crate::{Children, Key, Node, OpenList, Problem};
 use mapf_grid::NoMemory;
 use mapf_plan::Plan;
@@ -35,7 +34,8 @@ pub(crate) fn expand_least<C: Children>(
         return Ok(Expansion::Empty);
     };
     if node.conflict().is_none() {
-        let (key, plan) = key_and_plan(node)?;
+        let plan = node.plan(node.allocator())?;
+        let key = node.into_key();
         return Ok(Expansion::Solved { key, plan });
     }
     let node = node.share_changes();

@@ -7,8 +7,8 @@ use Rattle.mapf_tree.proofs.search.expansion.expand_least.Goals as goal
 
 pub returns-then-is_none-clause-expanded : goal.returns-then-is_none-clause-expanded
 returns-then-is_none-clause-expanded g c =
-    solved_case c.args.problem.now c.args.waiting.now c.take_least.new.self c.in-Some.node c.in_ok-key.key c.in_ok-key.plan c.in-Some.ensures.taken c.in-Some.ensures.rising c.requires.nodes
-    (conflict_absent _ _ _ c.is_none.ensures c.conflict.ensures.conflict c.if-is_none.true) c.in_ok-key.ensures.rank c.in_ok-key.ensures.plan c.in_ok-key.ensures.cost
+    solved_case c.args.problem.now c.args.waiting.now c.take_least.new.self c.in-Some.node c.into_key-key.result c.in_ok-plan.plan c.in-Some.ensures.taken c.in-Some.ensures.rising c.requires.nodes
+    (conflict_absent _ _ _ c.is_none.ensures c.conflict.ensures.conflict c.if-is_none.true) c.into_key-key.ensures.rank c.in_ok-plan.ensures c.into_key-key.ensures.cost
 
 pub returns-clause-expanded : goal.returns-clause-expanded
 returns-clause-expanded g c =

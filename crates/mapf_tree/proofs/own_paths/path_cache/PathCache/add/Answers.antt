@@ -1,6 +1,7 @@
 use Rattle.std.proofs.Common.{◌≡◌, ℕ, List, Option, Some, ◌∙◌}
 use Rattle.std.specs.Prelude.{IfSome, slice_get}
 use Rattle.std.proofs.lemmas.List.Elements.{All-weaker}
+use Rattle.std.proofs.lemmas.Option.{IfSome_then}
 use Rattle.mapf_plan.specs.KnownPaths.{KnownPaths}
 use Rattle.mapf_plan.proofs.PlanNumbers.{known_stays}
 use Rattle.mapf_tree.specs.Problem.{Problem}
@@ -9,7 +10,7 @@ use Rattle.mapf_tree.specs.declared.own_paths.constraint_sets.ConstraintSet.{Con
 use Rattle.mapf_tree.specs.declared.own_paths.shared_changes.SharedChange.{SharedChange}
 use Rattle.mapf_tree.specs.SharedChanges.{IsShared}
 use Rattle.mapf_tree.specs.PathCache.{IsRemembered}
-use Rattle.mapf_tree.proofs.PathCaches.{known_kept, if_some}
+use Rattle.mapf_tree.proofs.PathCaches.{known_kept}
 use Rattle.mapf_tree.proofs.own_paths.path_cache.PathCache.add.Goals as goal
 
 -- all that is remembered stays so where each path keeps its number
@@ -19,9 +20,9 @@ all_kept problem old new sets firsts latest changes same keeps is = (
   known_kept problem old.paths new.paths sets keeps is.0,
   is.1,
   same ∙ is.2,
-  if_some latest _ _ (λ at known. known_stays old new at.plan.numbers.items at.plan.conflicts.items same keeps known) is.3,
+  IfSome_then latest is.3 (λ at known. known_stays old new at.plan.numbers.items at.plan.conflicts.items same keeps known),
   All-weaker (λ place. IfSome place (IsShared old.paths)) (λ place. IfSome place (IsShared new.paths))
-      (λ place. if_some place (IsShared old.paths) (IsShared new.paths) (λ one is. keeps one.path one.change.value.path is)) changes is.4,
+      (λ place shared. IfSome_then place shared (λ one is. keeps one.path one.change.value.path is)) changes is.4,
 )
 
 pub invariant_of-self-in_err-number-in-Some : goal.invariant_of-self-in_err-number-in-Some
