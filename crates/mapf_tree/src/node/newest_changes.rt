@@ -20,15 +20,9 @@ enum Held {
 /// The newest changes of a chain, which a node has by itself, at most three.
 ///
 /// They stand in the node, so a node that waits takes no memory apart for them.
+#[derive(Drop)]
 pub(crate) struct NewestChanges {
     held: Held,
-}
-
-// By hand, so that a proof about what holds one sees a call where it is dropped, and not its fields.
-impl Drop for NewestChanges {
-    fn drop(self) {
-        let NewestChanges { held: _ } = self;
-    }
 }
 
 impl Model for NewestChanges {

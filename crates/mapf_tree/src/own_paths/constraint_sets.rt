@@ -39,6 +39,7 @@ pub(crate) struct Extension {
 
 /// The sets of constraints that agents have met, by number, and which of them is which other one with one constraint more. Two
 /// numbers may be those of one set.
+#[derive(Drop)]
 pub(crate) struct ConstraintSets {
     sets: Vec<ConstraintSet>,
     extensions: Vec<Extension>,
@@ -46,18 +47,6 @@ pub(crate) struct ConstraintSets {
     set_places: HashMap<u64, usize>,
     /// Where a set with a constraint more is looked for; nothing rests on it.
     extension_places: HashMap<u64, usize>,
-}
-
-// By hand, so that a proof about what holds one sees a call where it is dropped, and not its fields.
-impl Drop for ConstraintSets {
-    fn drop(self) {
-        let ConstraintSets {
-            sets: _,
-            extensions: _,
-            set_places: _,
-            extension_places: _,
-        } = self;
-    }
 }
 
 impl Model for ConstraintSets {

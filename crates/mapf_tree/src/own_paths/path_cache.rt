@@ -16,6 +16,7 @@ use std::alloc::Global;
 use std::marker::Model;
 
 /// Own paths that were searched before, by the sets of constraints of their agents.
+#[derive(Drop)]
 pub(crate) struct PathCache<'p> {
     alloc: Global,
     problem: &'p Problem,
@@ -27,21 +28,6 @@ pub(crate) struct PathCache<'p> {
     latest: Option<NodeNumbers>,
     /// The changes that nodes share, by the numbers of their extensions.
     changes: Vec<Option<SharedChange>>,
-}
-
-// By hand, so that a proof about what holds one sees a call where it is dropped, and not its fields.
-impl<'p> Drop for PathCache<'p> {
-    fn drop(self) {
-        let PathCache {
-            alloc: _,
-            problem: _,
-            sets: _,
-            paths: _,
-            firsts: _,
-            latest: _,
-            changes: _,
-        } = self;
-    }
 }
 
 impl<'p> Model for PathCache<'p> {
