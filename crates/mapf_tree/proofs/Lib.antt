@@ -11,7 +11,7 @@ mod OneAgent
 pub mod Descent
 mod Finite
 mod Solutions
-mod SearchLaws
+pub mod SearchLaws
 mod TakenNodes
 pub mod Limits
 mod Keyed

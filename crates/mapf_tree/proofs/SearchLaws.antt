@@ -20,7 +20,7 @@ use Rattle.mapf_tree.proofs.Plans.{AllowedAt}
 use Rattle.mapf_tree.proofs.Unique.{same_member}
 
 -- a path that obeys a side obeys the node
-obeys_fewer : (cs : List (List Constraint)) (a i : ℕ) (x : Constraint) (q : List ℕ) → Obeys (get_or (set cs a (x ∷ get_or cs a [])) i []) q → Obeys (get_or cs i []) q
+pub obeys_fewer : (cs : List (List Constraint)) (a i : ℕ) (x : Constraint) (q : List ℕ) → Obeys (get_or (set cs a (x ∷ get_or cs a [])) i []) q → Obeys (get_or cs i []) q
 obeys_fewer [] a i x q h = h
 obeys_fewer (c ∷ cs) zero zero x q h = h.1
 obeys_fewer (c ∷ cs) zero (suc i) x q h = h

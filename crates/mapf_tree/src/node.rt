@@ -5,7 +5,7 @@ ghost use Rattle.mapf_tree.specs.Nodes.{changed_sets};
 mod agents;
 pub(crate) mod chain;
 pub(crate) mod change;
-mod current_paths;
+pub(crate) mod current_paths;
 mod newest_changes;
 mod order;
 pub(crate) mod side_extensions;
@@ -108,7 +108,7 @@ impl Node {
     }
 
     /// The same node, whose changes stand in one list for the nodes below it, where it has as many of its own as may be.
-    pub(crate) fn share_changes(self) -> Node
+    pub fn share_changes(self) -> Node
         ensures { result ≡ self }
     {
         let Node { mut body } = self;

@@ -15,7 +15,7 @@ use crate::own_paths::path_cache::PathCache;
 use crate::{Children, Node, OpenList, Problem, Side, SideQuery};
 use mapf_grid::NoMemory;
 use mapf_low::{Distances, Lookup};
-use mapf_plan::Path;
+use mapf_plan::{PairConflict, Path};
 use std::alloc::Global;
 use std::marker::Model;
 use std::sync::Arc;
@@ -134,6 +134,14 @@ impl<'p> OwnPaths<'p> {
         let path = query.own_path(self.alloc)?;
         let extension = self.cache.learn(node, query, path.as_ref());
         Ok((path, extension))
+    }
+
+    /// The pairs of agents that collide at a node, each with the time step of its first conflict, as far as the agents' paths are known.
+    pub fn pair_conflicts(&mut self, node: &Node) -> Result<Vec<PairConflict>, NoMemory>
+        requires { IsBranching self.old node.now }
+        ensures { self.new ≡ self.old }
+    {
+        self.cache.pair_conflicts(node)
     }
 
     /// The own path that a side of a node asks for, where it isn't known. None where it is.

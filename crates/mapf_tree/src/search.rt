@@ -3,7 +3,6 @@ ghost use Rattle.std.specs.Option.{option_copied, option_map};
 ghost use Rattle.mapf_plan.specs.declared.answer.Answer.{Answer};
 ghost use Rattle.mapf_tree.specs.Tree.{key_rank};
 
-mod alone;
 mod children;
 mod expansion;
 mod lower_bound;
@@ -12,7 +11,6 @@ mod progress;
 use crate::search::expansion::{Expansion, add_if_some, expand_least};
 use crate::search::lower_bound::answer_at_limit;
 use crate::{Key, Node, OpenList, Problem, root};
-pub use alone::solve_alone;
 pub use children::{ByChild, Children};
 use mapf_grid::NoMemory;
 use mapf_plan::Answer;
@@ -224,6 +222,22 @@ impl<'p> Search<'p> {
         ensures search { IsSearch self.now }
     {
         &self.waiting
+    }
+
+    /// The problem, and the nodes that wait, taken out of the search.
+    pub fn into_waiting(self) -> (&'p Problem, OpenList)
+        ensures problem { result.0.now ≡ self.entry.problem }
+        ensures waiting { result.1 ≡ self.entry.waiting }
+        ensures search { IsSearch self.entry }
+    {
+        let Search {
+            problem,
+            waiting,
+            last: _last,
+            taken: _taken,
+            outcome: _outcome,
+        } = self;
+        (problem, waiting)
     }
 
     /// The key of the last node that was taken; none where no node was.

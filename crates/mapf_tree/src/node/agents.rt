@@ -46,14 +46,14 @@ impl Node {
     }
 
     /// The agents' paths.
-    pub(crate) fn paths(&self, alloc: Global) -> Result<CurrentPaths<'_>, NoMemory>
+    pub fn paths(&self, alloc: Global) -> Result<CurrentPaths<'_>, NoMemory>
         ensures { IfOk result (λ paths. paths ≡ self.now.plan) }
     {
         self.body.changes.paths(alloc, &self.body.root)
     }
 
     /// What an agent is forbidden.
-    pub(crate) fn constraints(&self, alloc: Global, agent: usize) -> Result<Constraints, NoMemory>
+    pub fn constraints(&self, alloc: Global, agent: usize) -> Result<Constraints, NoMemory>
         requires { agent < length self.now.plan }
         ensures { IfOk result (λ set. (c : _)
             → Contains set c ↔ Contains (slice_index_or self.now.constraints agent []) c) }

@@ -8,7 +8,7 @@ use std::marker::Model;
 
 /// Each agent's path at a node, where it is kept: agent 0 first.
 #[derive(Drop)]
-pub(crate) struct CurrentPaths<'a> {
+pub struct CurrentPaths<'a> {
     paths: Vec<&'a Path>,
 }
 

@@ -13,7 +13,7 @@ use crate::node::change::Change;
 use crate::own_paths::constraint_sets::{CachedPath, ConstraintSets};
 use crate::own_paths::path_cache::PathCache;
 use mapf_grid::NoMemory;
-use mapf_plan::KnownPlan;
+use mapf_plan::{KnownPlan, PairConflict};
 use std::mem::replace;
 
 /// Of more agents than these nothing is kept by node, as there are too many pairs of them.
@@ -46,6 +46,20 @@ impl<'p> PathCache<'p> {
             }
         }
         self.all_numbers(node)
+    }
+
+    /// The pairs of agents that collide at a node, as far as the agents' paths are known.
+    pub(crate) fn pair_conflicts(&mut self, node: &Node) -> Result<Vec<PairConflict>, NoMemory>
+        requires { IsBranching self.old.problem node.now }
+        ensures { self.new.problem ≡ self.old.problem }
+    {
+        let at = self.numbers_at(node)?;
+        let found = match &at {
+            Some(known) => Vec::from_slice(self.alloc, known.plan.conflicts.as_slice())?,
+            None => Vec::new(self.alloc),
+        };
+        self.latest = at;
+        Ok(found)
     }
 
     /// The numbers at a node, from those at another one with as many agents.
