@@ -1,0 +1,40 @@
+use Rattle.std.proofs.Common.{None, [], refl, subst, sym, ap, ◌∙◌, arith}
+use Rattle.mapf_plan.specs.declared.answer.Answer.TheVariants as answer
+use Rattle.mapf_tree.specs.LowerBound.{IsBelowAll}
+use Rattle.mapf_tree.specs.Problem.{Problem}
+use Rattle.mapf_tree.specs.Tree.{IsAnswer}
+use Rattle.mapf_tree.proofs.Descent.{none_is_none}
+use Rattle.mapf_tree.proofs.GoingOn.{best_out}
+use Rattle.mapf_bounds.specs.Bounds.{Bounding, IsRange}
+use Rattle.mapf_bounds.specs.Below.{IsEnough}
+use Rattle.mapf_bounds.specs.Waiting.{IsCovering, IsMoving}
+use Rattle.mapf_bounds.proofs.Moving.{moves_first}
+use Rattle.mapf_bounds.proofs.Turns.{stated_answer, stated_below}
+use Rattle.mapf_bounds.proofs.solving.finish_by_bounds.Goals as goal
+
+pub nodes_expanded-requires : goal.nodes_expanded-requires
+nodes_expanded-requires g c =
+    let p = c.into_waiting-open_list.result.0.now in
+    subst (IsBelowAll p) (omega (arith, c.from.ensures, c.bound-bound.ensures.bound)) (stated_below p (answer.None p.bound) (None, subst (IsRange p) c.in_default.is c.in_ok-range.ensures, refl))
+
+pub returns-in_default-clause-best : goal.returns-in_default-clause-best
+returns-in_default-clause-best g c = (
+  c.bound-bound.ensures.bound ∙ ap (λ (p : Problem). p.bound) c.into_waiting-open_list.ensures.problem,
+  (none_is_none c.args.search.problem).0 (subst (λ (p : Problem). IsAnswer p None) c.into_waiting-open_list.ensures.problem (subst (IsRange c.into_waiting-open_list.result.0.now) c.in_default.is c.in_ok-range.ensures)),
+)
+
+pub search_by_bounds-requires-clause-enough : goal.search_by_bounds-requires-clause-enough
+search_by_bounds-requires-clause-enough g c =
+    subst (λ (b : Bounding). IsEnough b.problem b.most) (sym c.new-bounds.ensures) (subst (IsRange c.into_waiting-open_list.result.0.now) c.in-Some.is c.in_ok-range.ensures).1
+
+pub search_by_bounds-requires-clause-covering : goal.search_by_bounds-requires-clause-covering
+search_by_bounds-requires-clause-covering g c =
+    subst (λ (b : Bounding). IsCovering b.problem b.most c.in_ok-waiting.waiting.entries) (sym c.new-bounds.ensures)
+    (c.in_ok-waiting.ensures c.into_waiting-open_list.result.0.now (subst (IsRange c.into_waiting-open_list.result.0.now) c.in-Some.is c.in_ok-range.ensures).0
+    (subst (λ (p : Problem). IsMoving p c.in-Some.range.most c.into_waiting-open_list.result.1 []) (sym c.into_waiting-open_list.ensures.problem)
+    (moves_first c.in-Some.range.most c.args.search c.into_waiting-open_list.result.1 c.into_waiting-open_list.ensures.search c.requires.open_yet c.into_waiting-open_list.ensures.waiting)))
+
+pub returns-clause-best : goal.returns-clause-best
+returns-clause-best g c =
+    best_out c.args.search.problem c.search_by_bounds.result
+    (stated_answer c.new-bounds.result.problem c.args.search.problem c.search_by_bounds.result (ap (λ (b : Bounding). b.problem) c.new-bounds.ensures ∙ c.into_waiting-open_list.ensures.problem) c.requires.unlimited c.search_by_bounds.ensures)

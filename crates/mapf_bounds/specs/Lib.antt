@@ -1,0 +1,5 @@
+pub mod Below
+pub mod Bounds
+pub mod Pairs
+pub mod Waiting
+pub mod Laws

@@ -1,0 +1,140 @@
+-- The nodes that wait in a search by bounds, each under a key of a bound.
+use Rattle.std.specs.BTreeMap.{insert_entry}
+use Rattle.std.specs.Cmp.Lexicographic.{slice_cmp}
+use Rattle.std.specs.Ordering.{nat_cmp}
+use Rattle.std.specs.declared.cmp.Ordering.{Ordering}
+use Rattle.std.specs.Prelude.{◌≡◌, ◌⊎◌, ◌<◌, ℕ, max, length, Bool, true, false, List, [], ◌∷◌, Option, Some, None, Contains}
+use Rattle.mapf_plan.specs.Plan.{HasNoConflict, plan_cost}
+use Rattle.mapf_optimum.specs.declared.pair_bound.PairBound.{PairBound}
+use Rattle.mapf_tree.specs.declared.tree.key.Key.{Key}
+use Rattle.mapf_tree.specs.declared.tree.side.Side.{Side}
+use Rattle.mapf_tree.specs.declared.tree.side.Side.TheVariants.{Left, Right}
+use Rattle.mapf_tree.specs.Answered.{IsStated}
+use Rattle.mapf_tree.specs.Family.{IsBranching, IsChildOf}
+use Rattle.mapf_tree.specs.LowerBound.{IsBelowAll}
+use Rattle.mapf_tree.specs.Problem.{Problem}
+use Rattle.mapf_tree.specs.Tree.{PlannedNode, key, key_rank}
+use Rattle.mapf_tree.specs.Nodes.{Node, StandsFor, AllStand, HasNodeFor}
+use Rattle.mapf_bounds.specs.declared.bound.Bound.{Bound}
+use Rattle.mapf_bounds.specs.declared.waiting.Stage.{Stage}
+use Rattle.mapf_bounds.specs.declared.waiting.Stage.TheVariants.{Own, Inherited, Handed}
+use Rattle.mapf_bounds.specs.declared.turn.Outcome.{Outcome}
+use Rattle.mapf_bounds.specs.declared.turn.Outcome.TheVariants.{Raised, Expanded, Ended}
+use Rattle.mapf_bounds.specs.Below.{IsBounded, CoversUpTo}
+use Rattle.mapf_bounds.specs.Pairs.{AreKnownAt}
+use Rattle.mapf_bounds.specs.Bounds.{IsBoundOf, IsOfTree, IsRaised, node_bound}
+
+-- the bound is a node's own, from its own pairs
+abbrev pub is_own : Stage → Bool
+is_own Own = true
+is_own Inherited = false
+is_own Handed = false
+
+-- the entry of a node that waits
+pub record Waiting : Type 0 where
+  pub node : Node
+  pub stage : Stage
+  pub pairs : List PairBound
+
+-- the bound in a key, and the key of a bound and a name
+abbrev pub key_bound : Key → Bound
+key_bound k = record { cost = k.cost; depth = k.depth }
+
+abbrev pub bound_key : Bound → List Side → Key
+bound_key b name = record { cost = b.cost; depth = b.depth; name = name }
+
+-- a key of a node by a bound: no solution at or below the node comes before it, and a node without a conflict has its own
+pub record IsBoundKey (problem : Problem) (k : Key) (m : PlannedNode) : Type 0 where
+  pub bounded : IsBounded problem m (key_bound k)
+  pub name : k.name ≡ m.0.name
+  pub exact : HasNoConflict problem.rule m.1 → key_rank k ≡ key m
+
+-- such a key of the node of the tree that a node stands for
+abbrev pub IsKeyOf : Problem → Key → Node → Type 0
+IsKeyOf problem k n = (m : PlannedNode) → StandsFor problem n m → IsBoundKey problem k m
+
+-- one of those that wait stands for this node of the tree
+abbrev pub HasEntryFor : Problem → List (Key × Waiting) → PlannedNode → Type 0
+HasEntryFor problem waiting m = (e : Key × Waiting) × Contains waiting e × StandsFor problem e.1.node m
+
+-- each is a node of the tree, under a key by a bound, and what is known of its pairs is so
+pub record AreKeyed (problem : Problem) (waiting : List (Key × Waiting)) : Type 0 where
+  pub stand : (e : Key × Waiting) → Contains waiting e → IsOfTree problem e.1.node
+  pub keys : (e : Key × Waiting) → Contains waiting e → IsKeyOf problem e.0 e.1.node
+  pub pairs : (e : Key × Waiting) → Contains waiting e → AreKnownAt problem e.1.node e.1.pairs
+
+-- and all solutions that cost at most so much are at or below those that wait
+pub record IsCovering (problem : Problem) (most : ℕ) (waiting : List (Key × Waiting)) : Type 0 where
+  pub keyed : AreKeyed problem waiting
+  pub covers : CoversUpTo problem most (HasEntryFor problem waiting)
+
+-- some nodes still wait by their keys, and others by bounds already
+pub record IsMoving (problem : Problem) (most : ℕ) (open_yet : List Node) (waiting : List (Key × Waiting)) : Type 0 where
+  pub stand : AllStand problem open_yet
+  pub keyed : AreKeyed problem waiting
+  pub covers : CoversUpTo problem most (λ m. HasNodeFor problem open_yet m ⊎ HasEntryFor problem waiting m)
+
+-- keys are compared by cost, then by depth, then by name
+abbrev pub key_cmp : Key → Key → Ordering
+key_cmp a b = slice_cmp nat_cmp (key_rank a) (key_rank b)
+
+-- it waits under the key of this bound, or is left out, since that costs more than `most`
+abbrev pub IsAdmitted : ℕ → List (Key × Waiting) → Bound → Waiting → List (Key × Waiting) → Type 0
+IsAdmitted most old b w new = (new ≡ insert_entry key_cmp old (bound_key b w.node.name) w) ⊎ ((most < b.cost) × (new ≡ old))
+
+-- a node waits by its own cost and depth, where all solutions cost at least so much; nothing is known of pairs
+pub record IsAdmittedOwn (most least : ℕ) (old : List (Key × Waiting)) (node : Node) (new : List (Key × Waiting)) : Type 0 where
+  pub entry : Waiting
+  pub is : entry.node ≡ node
+  pub unknown : entry.pairs ≡ []
+  pub puts : IsAdmitted most old (record { cost = max (plan_cost node.plan) least; depth = length node.name }) entry new
+
+-- a child, if there is one, waits by its own cost and depth, or by what is known of its parent where that is above these; what is known
+-- of pairs is what was known there
+pub data IsAdmittedChild (most : ℕ) (old : List (Key × Waiting)) (known : Bound) (pairs : List PairBound) : Option Node → List (Key × Waiting) → Type 0 where
+  absent : {new : List (Key × Waiting)} → new ≡ old → IsAdmittedChild most old known pairs None new
+  present : {node : Node} {new : List (Key × Waiting)} (b : Bound) (w : Waiting) → IsRaised (node_bound node) known b →
+      w.node ≡ node → w.pairs ≡ pairs → is_own w.stage ≡ false → IsAdmitted most old b w new → IsAdmittedChild most old known pairs (Some node) new
+
+-- the children of a node of the tree wait, of which this bound and what is known of pairs hold
+pub record Expands (problem : Problem) (most : ℕ) (known : Bound) (entry : Waiting) (old new : List (Key × Waiting)) : Type 0 where
+  pub left : Option Node
+  pub right : Option Node
+  pub is_left : IsChildOf problem entry.node Left left
+  pub is_right : IsChildOf problem entry.node Right right
+  pub middle : List (Key × Waiting)
+  pub puts_left : IsAdmittedChild most old known entry.pairs left middle
+  pub puts_right : IsAdmittedChild most middle known entry.pairs right new
+
+-- the first of those that wait has a conflict, and its children in the tree wait in its place
+pub record Branches (problem : Problem) (most : ℕ) (old new : List (Key × Waiting)) : Type 0 where
+  pub first : Key × Waiting
+  pub rest : List (Key × Waiting)
+  pub was : old ≡ first ∷ rest
+  pub conflict : IsBranching problem first.1.node
+  pub entry : Waiting
+  pub same : entry.node ≡ first.1.node
+  pub known : AreKnownAt problem first.1.node entry.pairs
+  pub expands : Expands problem most (key_bound first.0) entry rest new
+
+-- the first of those that wait has a conflict, and waits by a bound of its own now
+pub record Raises (problem : Problem) (most : ℕ) (old new : List (Key × Waiting)) : Type 0 where
+  pub first : Key × Waiting
+  pub rest : List (Key × Waiting)
+  pub was : old ≡ first ∷ rest
+  pub conflict : IsBranching problem first.1.node
+  pub unknown : is_own first.1.stage ≡ false
+  pub again : Waiting
+  pub same : again.node ≡ first.1.node
+  pub own : is_own again.stage ≡ true
+  pub known : AreKnownAt problem first.1.node again.pairs
+  pub to : Bound
+  pub bound : IsBoundOf problem first.1.node to
+  pub puts : IsAdmitted most rest to again new
+
+-- what came of a turn: the search goes on with the children of the first of those that wait, where no valid plan costs less than it says,
+-- or with a bound of it, or it has the answer
+abbrev pub IsTurn : Problem → ℕ → List (Key × Waiting) → List (Key × Waiting) → Outcome → Type 0
+IsTurn problem most old new (Expanded least) = Branches problem most old new × IsBelowAll problem least
+IsTurn problem most old new Raised = Raises problem most old new
+IsTurn problem most old new (Ended given) = IsStated problem given

@@ -1,0 +1,80 @@
+//! Pairs of agents that collide in a node's plan: each of disjoint ones takes another turn.
+
+ghost use Rattle.std.specs.Prelude.{◌≡◌, ◌<◌, ℕ, length, IfOk, IsTrue};
+ghost use Rattle.mapf_plan.specs.Collisions.{DoCollide};
+ghost use Rattle.mapf_optimum.specs.Pairs.{AreChosenBy};
+ghost use Rattle.mapf_bounds.specs.Pairs.{HaveCollisions, IsCollidingPair};
+
+use mapf_grid::NoMemory;
+use mapf_optimum::{PairBound, do_steps_collide, take};
+use mapf_plan::{AgentPaths, PairConflict, Path, Rule};
+use std::alloc::Global;
+
+/// How many disjoint pairs collide, of those that may.
+pub(crate) fn disjoint_collisions<P: AgentPaths>(
+    alloc: Global,
+    rule: Rule,
+    paths: &P,
+    conflicts: &[PairConflict],
+) -> Result<usize, NoMemory>
+    ensures { IfOk result (HaveCollisions rule (P.paths paths.now)) }
+{
+    let mut taken = vec![in alloc; false; paths.agents()]?;
+    let mut count = 0_usize;
+    for conflict in conflicts {
+        count = count_one(rule, paths, conflict, &mut taken, count);
+    }
+    Ok(count)
+}
+
+/// Counts a pair, if its agents collide and are in no pair that was counted.
+fn count_one<P: AgentPaths>(
+    rule: Rule,
+    paths: &P,
+    conflict: &PairConflict,
+    taken: &mut Vec<bool>,
+    count: usize,
+) -> usize
+    requires { AreChosenBy (length (P.paths paths.now)) (IsCollidingPair rule (P.paths paths.now)) (λ _. 1)
+        taken.old.items count }
+    ensures { AreChosenBy (length (P.paths paths.now)) (IsCollidingPair rule (P.paths paths.now)) (λ _. 1)
+        taken.new.items result }
+{
+    let pair = PairBound {
+        first: usize::from(conflict.first),
+        second: usize::from(conflict.second),
+        least: 0,
+    };
+    if count == usize::MAX || !is_collision(rule, paths, &pair, conflict.time) {
+        return count;
+    }
+    if !take(taken, &pair) {
+        return count;
+    }
+    count + 1
+}
+
+/// Whether the two agents collide at that time step.
+fn is_collision<P: AgentPaths>(rule: Rule, paths: &P, pair: &PairBound, time: u32) -> bool
+    ensures { IsTrue result → IsCollidingPair rule (P.paths paths.now) pair.now }
+{
+    let agents = paths.agents();
+    if pair.first >= agents || pair.second >= agents {
+        return false;
+    }
+    do_collide(rule, paths.path(pair.first), paths.path(pair.second), time)
+}
+
+/// Whether two agents on these paths collide at this time step.
+fn do_collide(rule: Rule, one: &Path, other: &Path, time: u32) -> bool
+    ensures { IsTrue result → DoCollide rule one.now other.now time }
+{
+    let before = time.saturating_sub(1);
+    do_steps_collide(
+        rule,
+        one.at(before),
+        one.at(time),
+        other.at(before),
+        other.at(time),
+    )
+}

@@ -1,0 +1,14 @@
+//! The first solution of the constraint tree, by lower bounds on what lies below its nodes.
+#![tactic(auto)]
+
+mod bound;
+mod collisions;
+pub mod laws;
+mod node_bounds;
+mod pair_costs;
+mod solving;
+mod turn;
+mod waiting;
+
+pub use bound::Bound;
+pub use solving::{finish_by_bounds, solve_alone};

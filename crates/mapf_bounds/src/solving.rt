@@ -1,0 +1,170 @@
+//! The answer of a problem, by bounds.
+
+ghost use Rattle.std.specs.Prelude.{◌≡◌, ℕ, Option, [], IfOk, None, Ok};
+ghost use Rattle.mapf_tree.specs.Answered.{IsAnswerOf, IsBestAnswer};
+ghost use Rattle.mapf_optimum.specs.AnyAnswer.{IsAnyAnswerUpTo};
+ghost use Rattle.mapf_bounds.specs.Bounds.{IsRange};
+ghost use Rattle.mapf_tree.specs.Answered.{IsStated};
+ghost use Rattle.mapf_tree.specs.LowerBound.{IsBelowAll, least_stated};
+ghost use Rattle.mapf_tree.specs.Problem.{Problem};
+ghost use Rattle.mapf_bounds.specs.Below.{IsEnough};
+ghost use Rattle.mapf_bounds.specs.Waiting.{IsCovering, IsMoving};
+
+use crate::node_bounds::NodeBounds;
+use crate::turn::{Outcome, turn};
+use crate::waiting::{Waiting, admit_own};
+use mapf_grid::NoMemory;
+use mapf_optimum::{NoWatch, Watch, solve_any_up_to};
+use mapf_plan::Answer;
+use mapf_tree::{Key, OpenList, OwnPaths, Problem, Progress, Search};
+use std::alloc::Global;
+use std::collections::BTreeMap;
+
+/// How many nodes are taken by their keys at first.
+const KEYED_NODES: u64 = 256;
+
+/// How many nodes the search for the optimal cost expands, at most.
+const OPTIMUM_NODES: u64 = 300;
+
+/// Solves a problem on this thread.
+///
+/// The answer is the plan of the constraint tree's first solution, or none; with a limit on nodes, it may be that the search gave up.
+/// An error is that memory ran out.
+pub fn solve_alone(alloc: Global, problem: &Problem) -> Result<Answer, NoMemory>
+    ensures answer { IfOk result (IsAnswerOf problem.now) }
+    ensures best { IfOk result (IsBestAnswer problem.now) }
+{
+    let mut paths = OwnPaths::new(alloc, problem)?;
+    let mut search = Search::new(alloc, problem)?;
+    if problem.nodes().is_some() {
+        return search.finish(&mut paths);
+    }
+    if let Progress::Finished = search.go(&mut paths, KEYED_NODES)? {
+        return search.into_answer().ok_or(NoMemory);
+    }
+    finish_by_bounds(alloc, search, paths, &mut NoWatch)
+}
+
+/// The answer of a search by keys that has none yet, where there is no limit on nodes: what waits there is searched by bounds, with the
+/// own paths that are known.
+///
+/// The watch is told of the nodes that both searches expanded. An error is that memory ran out.
+pub fn finish_by_bounds<W: Watch>(
+    alloc: Global,
+    search: Search<'_>,
+    paths: OwnPaths<'_>,
+    watch: &mut W,
+) -> Result<Answer, NoMemory>
+    requires open_yet { search.outcome ≡ Ok None }
+    requires unlimited { search.problem.nodes ≡ None }
+    requires paths { paths ≡ search.problem }
+    ensures answer { IfOk result (IsAnswerOf search.entry.problem) }
+    ensures best { IfOk result (IsBestAnswer search.entry.problem) }
+{
+    let nodes = search.taken_nodes();
+    let (problem, open_list) = search.into_waiting();
+    let Some(range) = cost_range(alloc, problem)? else {
+        let bound = problem.bound();
+        watch.nodes_expanded(problem, nodes, u64::from(bound) + 1);
+        return Ok(Answer::None { bound });
+    };
+    let waiting = take_over(alloc, range, open_list)?;
+    let bounds = NodeBounds::new(alloc, problem, range.most);
+    search_by_bounds(waiting, paths, bounds, nodes, watch)
+}
+
+/// What the first solution costs.
+#[derive(Clone, Copy, Debug)]
+pub(crate) struct CostRange {
+    /// At least so much.
+    pub(crate) least: u64,
+    /// At most so much, if there is one.
+    pub(crate) most: u64,
+}
+
+/// What the first solution of a problem costs, as far as a search for any optimum tells; none where there is no solution.
+fn cost_range(alloc: Global, problem: &Problem) -> Result<Option<CostRange>, NoMemory>
+    ensures { IfOk result (IsRange problem.now) }
+{
+    let given = solve_any_up_to(alloc, problem, Some(OPTIMUM_NODES), &mut NoWatch)?;
+    Ok(range_of(problem, &given))
+}
+
+/// What the answer of a search for any optimum tells of the cost of the first solution.
+fn range_of(problem: &Problem, given: &Answer) -> Option<CostRange>
+    ensures { (nodes : Option ℕ) → IsAnyAnswerUpTo nodes problem.now given.now → IsRange problem.now result }
+{
+    match given {
+        Answer::None { .. } => None,
+        Answer::Plan { stated, .. } => Some(CostRange {
+            least: *stated,
+            most: *stated,
+        }),
+        Answer::GaveUp { least, .. } => Some(CostRange {
+            least: *least,
+            most: u64::from(problem.bound()),
+        }),
+    }
+}
+
+/// The nodes of an open list, each under the key of a bound.
+fn take_over(
+    alloc: Global,
+    range: CostRange,
+    open_list: OpenList,
+) -> Result<BTreeMap<Key, Waiting>, NoMemory>
+    ensures { IfOk result (λ waiting. (problem : Problem) → IsBelowAll problem range.least
+        → IsMoving problem range.most open_list [] → IsCovering problem range.most waiting.entries) }
+{
+    let mut open_list = open_list;
+    let mut waiting = BTreeMap::new(alloc);
+    'nodes: while let Some(node) = open_list.take_least() {
+        admit_own(alloc, range.least, range.most, &mut waiting, node)?;
+    }
+    Ok(waiting)
+}
+
+/// Takes turns until there is the answer. It returns, since a turn puts deeper nodes in the place of one, or a bound that each node has
+/// once.
+fn search_by_bounds<W: Watch>(
+    waiting: BTreeMap<Key, Waiting>,
+    paths: OwnPaths<'_>,
+    bounds: NodeBounds<'_>,
+    nodes: u64,
+    watch: &mut W,
+) -> Result<Answer, NoMemory>
+    requires paths { paths ≡ bounds.problem }
+    requires enough { IsEnough bounds.problem bounds.most }
+    requires covering { IsCovering bounds.problem bounds.most waiting.entries }
+    ensures { IfOk result (IsStated bounds.entry.problem) }
+{
+    let mut waiting = waiting;
+    let mut paths = paths;
+    let mut bounds = bounds;
+    let mut nodes = nodes;
+    'turns: loop {
+        let outcome = turn(&mut waiting, &mut paths, &mut bounds)?;
+        match outcome {
+            Outcome::Raised => {}
+            Outcome::Expanded(least) => {
+                nodes = nodes.saturating_add(1);
+                watch.nodes_expanded(bounds.problem(), nodes, least);
+            }
+            Outcome::Ended(answer) => {
+                watch.nodes_expanded(bounds.problem(), nodes, least_stated(&answer));
+                return Ok(answer);
+            }
+        }
+    }
+}
+
+/// What each plan without conflict costs at least, as an answer states it.
+fn least_stated(answer: &Answer) -> u64
+    ensures { result ≡ least_stated answer.now }
+{
+    match answer {
+        Answer::Plan { stated, .. } => *stated,
+        Answer::None { bound } => u64::from(*bound) + 1,
+        Answer::GaveUp { least, .. } => *least,
+    }
+}

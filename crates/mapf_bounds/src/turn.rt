@@ -1,0 +1,101 @@
+//! A turn of the search by bounds.
+
+ghost use Rattle.std.specs.Prelude.{◌≡◌, IfOk, OnOk};
+ghost use Rattle.mapf_tree.specs.Family.{IsBranching};
+ghost use Rattle.mapf_bounds.specs.Below.{IsEnough};
+ghost use Rattle.mapf_bounds.specs.Pairs.{AreKnownAt};
+ghost use Rattle.mapf_bounds.specs.Waiting.{Expands, IsCovering, IsTurn};
+
+use crate::Bound;
+use crate::node_bounds::NodeBounds;
+use crate::waiting::{Stage, Waiting, admit, admit_child};
+use mapf_grid::NoMemory;
+use mapf_plan::Answer;
+use mapf_tree::{Children, Key, OwnPaths};
+use std::collections::BTreeMap;
+use std::sync::Arc;
+
+/// What came of a turn.
+#[derive(Drop)]
+pub(crate) enum Outcome {
+    /// The first node that waited waits by a bound of its own.
+    Raised,
+    /// Its children wait in its place. Each plan without conflict costs at least so much.
+    Expanded(u64),
+    /// There is the answer.
+    Ended(Answer),
+}
+
+/// Takes the first node that waits. Its plan is the answer if that has no conflict; else it waits by a bound of its own, where
+/// that is above what was known, or its children wait in its place. Where none waits there is no plan.
+pub(crate) fn turn(
+    waiting: &mut BTreeMap<Key, Waiting>,
+    paths: &mut OwnPaths<'_>,
+    bounds: &mut NodeBounds<'_>,
+) -> Result<Outcome, NoMemory>
+    requires paths { paths.old ≡ bounds.old.problem }
+    requires enough { IsEnough bounds.old.problem bounds.old.most }
+    requires covering { IsCovering bounds.old.problem bounds.old.most waiting.old.entries }
+    ensures paths { paths.new ≡ paths.old }
+    ensures bounds { bounds.new ≡ bounds.old }
+    ensures turn { IfOk result (IsTurn bounds.old.problem bounds.old.most waiting.old.entries waiting.new.entries) }
+{
+    let Some((key, first)) = waiting.pop_first() else {
+        let bound = bounds.problem().bound();
+        return Ok(Outcome::Ended(Answer::None { bound }));
+    };
+    let Waiting { node, stage, pairs } = first;
+    if node.conflict().is_none() {
+        let plan = node.plan(bounds.alloc())?;
+        let stated = key.cost;
+        return Ok(Outcome::Ended(Answer::Plan { plan, stated }));
+    }
+    let known = Bound {
+        cost: key.cost,
+        depth: key.depth,
+    };
+    let least = known.cost.min(u64::from(bounds.problem().bound()) + 1);
+    if stage.is_own() {
+        let entry = Waiting { node, stage, pairs };
+        expand(waiting, paths, bounds, known, entry)?;
+        return Ok(Outcome::Expanded(least));
+    }
+    let found = bounds.of(paths, &node, stage, known, &pairs)?;
+    let raised = known.raised(found.bound);
+    let entry = Waiting {
+        node,
+        stage: Stage::Own,
+        pairs: Arc::new(bounds.alloc(), found.pairs)?,
+    };
+    if raised == known {
+        expand(waiting, paths, bounds, known, entry)?;
+        return Ok(Outcome::Expanded(least));
+    }
+    admit(bounds.alloc(), bounds.most(), waiting, raised, entry)?;
+    Ok(Outcome::Raised)
+}
+
+/// Puts the children of a node in, of which this bound and what is known of its pairs hold.
+fn expand(
+    waiting: &mut BTreeMap<Key, Waiting>,
+    paths: &mut OwnPaths<'_>,
+    bounds: &NodeBounds<'_>,
+    known: Bound,
+    entry: Waiting,
+) -> Result<(), NoMemory>
+    requires paths { paths.old ≡ bounds.now.problem }
+    requires node { IsBranching bounds.now.problem entry.node }
+    ensures paths { paths.new ≡ paths.old }
+    ensures expands { OnOk result (Expands bounds.now.problem bounds.now.most known entry waiting.old.entries waiting.new.entries) }
+{
+    let Waiting {
+        node,
+        stage: _stage,
+        pairs,
+    } = entry;
+    let node = node.share_changes();
+    let (left, right) = paths.both(bounds.problem(), &node)?;
+    admit_child(bounds.alloc(), bounds.most(), waiting, known, &pairs, left)?;
+    admit_child(bounds.alloc(), bounds.most(), waiting, known, &pairs, right)?;
+    Ok(())
+}

@@ -1,0 +1,121 @@
+//! The nodes that wait, each under a key of a bound.
+
+ghost use Rattle.std.specs.Prelude.{◌≡◌, OnOk, IsTrue, IfOk};
+ghost use Rattle.mapf_bounds.specs.Waiting.{IsAdmitted, IsAdmittedOwn, IsAdmittedChild, is_own};
+
+use crate::Bound;
+use mapf_grid::NoMemory;
+use mapf_optimum::PairBound;
+use mapf_tree::{Key, Node};
+use std::alloc::Global;
+use std::collections::BTreeMap;
+use std::marker::Model;
+use std::sync::Arc;
+
+/// How far a node's bound is known.
+#[derive(Clone, Copy, Debug, PartialEq, Eq)]
+pub(crate) enum Stage {
+    /// By its plan alone.
+    Handed,
+    /// By its plan and what is known of its parent.
+    Inherited,
+    /// By its own pairs.
+    Own,
+}
+
+impl Stage {
+    /// Whether it is known by the node's own pairs.
+    pub(crate) fn is_own(self) -> bool
+        ensures { result ≡ is_own self }
+    {
+        matches!(self, Stage::Own)
+    }
+}
+
+/// A node that waits.
+#[derive(Drop)]
+pub(crate) struct Waiting {
+    pub(crate) node: Node,
+    pub(crate) stage: Stage,
+    /// What two agents cost together at least, of those pairs of which it is known.
+    pub(crate) pairs: Arc<Vec<PairBound>>,
+}
+
+impl Model for Waiting {
+    ghost use Rattle.mapf_bounds.specs.Waiting.{Waiting};
+
+    ghost Value = { Waiting };
+
+    ghost view = { λ w. record { node = w.node; stage = w.stage; pairs = w.pairs.value.items } };
+}
+
+/// Puts a node in under the key of a bound, unless that costs more than `most`.
+pub(crate) fn admit(
+    alloc: Global,
+    most: u64,
+    waiting: &mut BTreeMap<Key, Waiting>,
+    bound: Bound,
+    entry: Waiting,
+) -> Result<(), NoMemory>
+    ensures { OnOk result (IsAdmitted most waiting.old.entries bound entry waiting.new.entries) }
+{
+    if bound.cost > most {
+        return Ok(());
+    }
+    let key = Key {
+        cost: bound.cost,
+        depth: bound.depth,
+        name: entry.node.key().name.copy(alloc)?,
+    };
+    match waiting.insert(key, entry) {
+        Ok(_replaced) => Ok(()),
+        Err(_refused) => Err(NoMemory),
+    }
+}
+
+/// Puts a node in by its own cost and depth, where each solution costs at least so much.
+pub(crate) fn admit_own(
+    alloc: Global,
+    least: u64,
+    most: u64,
+    waiting: &mut BTreeMap<Key, Waiting>,
+    node: Node,
+) -> Result<(), NoMemory>
+    ensures { OnOk result (IsAdmittedOwn most least waiting.old.entries node waiting.new.entries) }
+{
+    let own = Bound::own(&node);
+    let bound = Bound {
+        cost: own.cost.max(least),
+        depth: own.depth,
+    };
+    let entry = Waiting {
+        node,
+        stage: Stage::Handed,
+        pairs: Arc::new(alloc, Vec::new(alloc))?,
+    };
+    admit(alloc, most, waiting, bound, entry)
+}
+
+/// Puts a child in, if there is one, by its own cost and depth, or by what is known of its parent where that is above these.
+pub(crate) fn admit_child(
+    alloc: Global,
+    most: u64,
+    waiting: &mut BTreeMap<Key, Waiting>,
+    known: Bound,
+    pairs: &Arc<Vec<PairBound>>,
+    child: Option<Node>,
+) -> Result<(), NoMemory>
+    ensures { OnOk result (IsAdmittedChild most waiting.old.entries known pairs.now.value.items child waiting.new.entries) }
+{
+    let Some(node) = child else {
+        return Ok(());
+    };
+    let bound = Bound::own(&node).raised(known);
+    let entry = Waiting {
+        node,
+        stage: Stage::Inherited,
+        pairs: Arc::try_clone(pairs)?,
+    };
+    admit(alloc, most, waiting, bound, entry)?;
+    Ok(())
+}
