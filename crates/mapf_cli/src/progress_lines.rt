@@ -1,7 +1,7 @@
 //! The lines that say how far a search has come.
 
 use mapf_plan::{Sink, write_whole};
-use mapf_solve::{OneProblem, OptimumWatch, Watch};
+use mapf_solve::{Watch};
 use mapf_tree::Problem;
 use std::alloc::Global;
 use std::time::{Clock, Duration, Instant};
@@ -85,12 +85,6 @@ impl<'a, R: Clock, E: Sink> ProgressLines<'a, R, E> {
 }
 
 impl<R: Clock, E: Sink> Watch for ProgressLines<'_, R, E> {
-    fn nodes_taken<P: OneProblem>(&mut self, nodes: u64, least: u64) {
-        self.hear(Standing { nodes, least });
-    }
-}
-
-impl<R: Clock, E: Sink> OptimumWatch for ProgressLines<'_, R, E> {
     fn nodes_expanded(&mut self, _problem: &Problem, nodes: u64, least: u64) {
         self.hear(Standing { nodes, least });
     }

@@ -3,4 +3,3 @@ pub mod AnyOut
 pub mod Run
 pub mod Rounds
 pub mod Sessions
-pub mod Watch

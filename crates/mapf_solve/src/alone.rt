@@ -5,7 +5,8 @@ ghost use Rattle.mapf_solve.specs.Out.{IsProblemOf, IsOut, IsBest, KeepsLimit, I
 
 use crate::answers::{asked_instance, asked_problem, spell};
 use crate::{Ask, Refusal};
-use mapf_tree::{Problem, solve_alone};
+use mapf_bounds::solve_alone;
+use mapf_tree::Problem;
 use std::alloc::Global;
 
 /// The text of the answer, or the first fault, as [`answer`](crate::answer) gives it: no thread is started, whatever number of

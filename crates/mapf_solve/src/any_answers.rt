@@ -8,9 +8,9 @@ use crate::alone::problem_alone;
 use crate::answers::{problem_by_rounds, spell};
 use crate::means::Means;
 use crate::rounds::root_paths;
-use crate::{Ask, NoWatch, Pace, Refusal};
+use crate::{Ask, NoWatch, Pace, Refusal, Watch};
 use mapf_board::{AlwaysGrants, Gate};
-use mapf_optimum::{OptimumWatch, solve_any, solve_any_from};
+use mapf_optimum::{solve_any, solve_any_from};
 use mapf_tree::Problem;
 use std::alloc::Global;
 use std::thread::Threads;
@@ -43,7 +43,7 @@ pub fn answer_any<R: Threads + Sync, G: Gate>(
 }
 
 /// What [`answer_any`] gives, and a watch is told how far the search has come.
-pub fn answer_any_watched<R: Threads + Sync, G: Gate, W: OptimumWatch>(
+pub fn answer_any_watched<R: Threads + Sync, G: Gate, W: Watch>(
     rt: &R,
     alloc: Global,
     map: &[u8],
@@ -86,7 +86,7 @@ pub fn answer_any_alone(
 
 /// The same by the ask's number of workers, where nothing is said of other plans. The tables and the paths of the root are the jobs of
 /// rounds; the search goes on alone.
-pub(crate) fn any_text_or_fault<R: Threads + Sync, G: Gate, W: OptimumWatch>(
+pub(crate) fn any_text_or_fault<R: Threads + Sync, G: Gate, W: Watch>(
     mut means: Means<'_, R, G, AlwaysGrants>,
     map: &[u8],
     scen: &[u8],

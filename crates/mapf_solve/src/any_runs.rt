@@ -7,9 +7,8 @@ ghost use Rattle.mapf_solve.specs.Run.{end_of, files, LeavesAnyText, LeavesBest,
 
 use crate::any_answers::any_text_or_fault;
 use crate::means::Means;
-use crate::{Ask, NoWatch, Pace, RunFault};
+use crate::{Ask, NoWatch, Pace, RunFault, Watch};
 use mapf_board::{AlwaysGrants, NoGate};
-use mapf_optimum::OptimumWatch;
 use mapf_plan::{DeviceFault, FileName, Sink, Source, read_file, write_text};
 use std::alloc::Global;
 use std::thread::Threads;
@@ -57,7 +56,7 @@ pub fn run_any<R: Threads + Sync, M: Source, S: Source, O: Sink>(
 }
 
 /// What [`run_any`] does, and a watch is told how far the search has come.
-pub fn run_any_watched<R: Threads + Sync, M: Source, S: Source, O: Sink, W: OptimumWatch>(
+pub fn run_any_watched<R: Threads + Sync, M: Source, S: Source, O: Sink, W: Watch>(
     rt: &R,
     alloc: Global,
     map: &mut M,
@@ -88,7 +87,7 @@ pub fn run_any_watched<R: Threads + Sync, M: Source, S: Source, O: Sink, W: Opti
 }
 
 /// The same, where nothing is said of other plans.
-fn write_any_text_or_fault<R: Threads + Sync, M: Source, S: Source, O: Sink, W: OptimumWatch>(
+fn write_any_text_or_fault<R: Threads + Sync, M: Source, S: Source, O: Sink, W: Watch>(
     means: Means<'_, R, NoGate, AlwaysGrants>,
     map: &mut M,
     scen: &mut S,

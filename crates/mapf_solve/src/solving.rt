@@ -9,8 +9,10 @@ use crate::means::Means;
 use crate::pace::{MOST_SESSION_NODES, MOST_WORKER_TURNS, Pace};
 use crate::rounds::root;
 use crate::sessions::{Lookahead, OneProblem, SessionSearch, session};
-use crate::watch::{NoWatch, Watch, tell};
+use crate::watch::tell;
+use crate::{NoWatch, Watch};
 use mapf_board::{AlwaysGrants, Gate, Supply};
+use mapf_bounds::finish_by_bounds;
 use mapf_grid::NoMemory;
 use mapf_plan::Answer;
 use mapf_tree::{Problem, Progress, Search};
@@ -121,14 +123,18 @@ fn solve_in_sessions<P: OneProblem, R: Threads + Sync, G: Gate, S: Supply, W: Wa
     ensures { IfOk result (IsAnswerOf P.problem) }
 {
     let mut sessions = begin::<P, R, G, S>(means, problem, first)?;
-    tell::<P, W>(watch, &sessions.search);
+    tell(watch, problem, &sessions.search);
     loop {
         let (further, progress) = session(means, sessions);
         sessions = further;
-        tell::<P, W>(watch, &sessions.search);
+        tell(watch, problem, &sessions.search);
         let Ok(Progress::Working) = progress else {
             break;
         };
+        if problem.nodes().is_none() {
+            let SessionSearch { search, lookahead } = sessions;
+            return finish_by_bounds(means.alloc, search, lookahead.into_own_paths(), watch);
+        }
     }
     let SessionSearch { search, .. } = sessions;
     search.into_answer().ok_or(NoMemory)

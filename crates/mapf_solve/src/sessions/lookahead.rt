@@ -74,6 +74,21 @@ impl<'p, P: OneProblem> Lookahead<'p, P> {
         })
     }
 
+    /// The own paths, for a search that goes on without workers.
+    pub(crate) fn into_own_paths(self) -> OwnPaths<'p>
+        ensures { result ≡ P.problem }
+    {
+        let Lookahead {
+            alloc: _,
+            own_paths,
+            entries: _,
+            workers: _,
+            next: _,
+            alone: _,
+        } = self;
+        Box::into_inner(own_paths)
+    }
+
     /// The job for a child of a node, to be posted in this slot, where nothing is known of that child: neither its path, nor
     /// that it was worked ahead. None where memory runs out, too.
     pub(crate) fn job(&mut self, node: &Node, side: Side, slot: Slot) -> Option<SideJob<'p>>
