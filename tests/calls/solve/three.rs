@@ -1,6 +1,5 @@
 //! That three workers work at one time, in a round and in a session.
 
-use super::counting::MOST_LOOKS;
 use crate::worked::RING;
 use mapf_board::{Gate, Supply};
 use mapf_grid::instance_of;
@@ -11,10 +10,16 @@ use std::alloc::{AllocError, Global};
 use std::sync::atomic::{AtomicU64, Ordering};
 use std::thread::Threads;
 
+/// How long a job waits for two others at most, in looks.
+const MOST_LOOKS: u64 = 100_000_000;
+
 /// How long the coordinator waits for the three at each job that it does itself, in looks.
 const SOME_LOOKS: u64 = 100_000;
 
-/// Free cells, on which twenty agents are crowded.
+/// The agents on the square. So many jobs are for their paths, before those of the session.
+const CROWD: u64 = 20;
+
+/// Free cells, on which they are crowded.
 const SQUARE: &[u8] = b"type octile\nheight 8\nwidth 8\nmap\n........\n........\n........\n........\n........\n........\n........\n........\n";
 
 /// Jobs wait for each other here: each of three goes on only when all three have come.
@@ -69,8 +74,10 @@ impl Gate for InRounds {
 struct InSession(Meeting);
 
 impl Supply for InSession {
-    fn grants(&self, _n: u64) -> bool {
-        self.0.come(1);
+    fn grants(&self, n: u64) -> bool {
+        if n >= CROWD {
+            self.0.come(1);
+        }
         true
     }
 }
@@ -78,8 +85,10 @@ impl Supply for InSession {
 impl Gate for InSession {
     fn enter(&self, _n: u64) {}
 
-    fn leave(&self, _n: u64) {
-        let _came = self.0.have_come(3, SOME_LOOKS);
+    fn leave(&self, n: u64) {
+        if n >= CROWD {
+            let _came = self.0.have_come(3, SOME_LOOKS);
+        }
     }
 }
 
@@ -100,10 +109,10 @@ fn three_workers_in_a_round(rt: HostRuntime) {
     assert_eq!(rt; gate.0.come.load(Ordering::SeqCst), 6);
 }
 
-/// A scenario of twenty agents on the square, whose starts and goals lie scattered.
+/// A scenario of the agents on the square, whose starts and goals lie scattered.
 fn crowd(alloc: Global) -> Result<String, AllocError> {
     let mut text = format!(in alloc; "version 1\n")?;
-    for i in 0..20 {
+    for i in 0..CROWD {
         let start = (97 * i + 5) % 64;
         let goal = (61 * i + 33) % 64;
         write!(text, "0 square.map 8 8 {} {} ", start % 8, start / 8)?;
@@ -119,7 +128,7 @@ fn given_up<R: Threads + Sync>(rt: &R, alloc: Global, met: &InSession) -> Option
         session_nodes: MOST_SESSION_NODES,
     };
     let scen = crowd(alloc).ok()?;
-    let instance = instance_of(alloc, SQUARE, scen.as_bytes(), 20).ok()?;
+    let instance = instance_of(alloc, SQUARE, scen.as_bytes(), CROWD).ok()?;
     let problem = Problem::new(alloc, instance, 1000).ok()?.with_nodes(1000);
     solve_paced(rt, alloc, &problem, 3, pace, met, met).ok()
 }
