@@ -11,7 +11,7 @@ use Rattle.mapf_plan.specs.Plan.{plan_cost}
 use Rattle.mapf_tree.specs.Problem.{Problem}
 use Rattle.mapf_optimum.specs.declared.pair_bound.PairBound.{PairBound}
 use Rattle.mapf_optimum.specs.FreeTree.{IsPairBound, HaveLeastPaths, IsLowerBoundOf}
-use Rattle.mapf_optimum.specs.Pairs.{AreApart, AreDisjoint, AreTaken, AreChosen, HaveSurplus, Takes, surplus}
+use Rattle.mapf_optimum.specs.Pairs.{AreApart, AreDisjoint, AreTaken, AreChosenBy, HaveSurplus, Takes}
 use Rattle.mapf_optimum.proofs.PairLabels.{pairs_raise}
 
 -- what follows for each element holds of each
@@ -23,8 +23,8 @@ all_map P Q f (x ∷ xs) all = (f x all.0, all_map P Q f xs all.1)
 pub all_contains : {X : Type 0} (P : X → Type 0) (xs : List X) → AllByRecursion P xs → (x : X) → Contains xs x → P x
 all_contains P xs all x i = All-contains P xs x (All-from_recursion P xs all) i
 
-pub none_chosen : (plan : List (List ℕ)) (pairs : List PairBound) (taken : List Bool) → length taken ≡ length plan → AreChosen plan pairs taken 0
-none_chosen plan pairs taken n = record { chosen = []; few = n; disjoint = tt; sums = refl; within = tt; marked = tt }
+pub none_chosen : (agents : ℕ) (P : PairBound → Type 0) (weight : PairBound → ℕ) (taken : List Bool) → length taken ≡ agents → AreChosenBy agents P weight taken 0
+none_chosen agents P weight taken n = record { chosen = []; few = n; disjoint = tt; sums = refl; within = tt; marked = tt }
 
 -- a mark that is set leaves the others
 marked_more : (taken : List Bool) (i k : ℕ) → i < length taken → get_or taken k false ≡ true → get_or (set taken i true) k false ≡ true
@@ -33,12 +33,12 @@ marked_more taken i k l e =
     (λ n. get_or-set_other taken i k true false n ∙ e)
 
 -- a pair of two agents without marks is apart from all that have marks
-pub one_chosen : (plan : List (List ℕ)) (pairs : List PairBound) (taken new : List Bool) (sum more : ℕ) (p : PairBound) → Contains pairs p → Takes p taken new → surplus plan p ≡ more → AreChosen plan pairs taken sum → AreChosen plan pairs new (sum + more)
-one_chosen plan pairs taken new sum more p inside t weighs h = record {
+pub one_chosen : (n : ℕ) (P : PairBound → Type 0) (weight : PairBound → ℕ) (taken new : List Bool) (sum more : ℕ) (p : PairBound) → P p → Takes p taken new → weight p ≡ more → AreChosenBy n P weight taken sum → AreChosenBy n P weight new (sum + more)
+one_chosen n P weight taken new sum more p inside t weighs h = record {
   chosen = p ∷ h.chosen;
   few = ap length t.marked ∙ length-set (set taken p.first true) p.second true ∙ length-set taken p.first true ∙ h.few;
   disjoint = (t.two, omega (arith, t.inside, h.few), all_map (AreTaken taken) (AreApart p) apart h.chosen h.marked, h.disjoint);
-  sums = omega (arith, sum_by-cons (surplus plan) p h.chosen, h.sums, weighs);
+  sums = omega (arith, sum_by-cons weight p h.chosen, h.sums, weighs);
   within = (inside, h.within);
   marked = ((first, second), all_map (AreTaken taken) (AreTaken new) still h.chosen h.marked);
 }
@@ -54,8 +54,8 @@ one_chosen plan pairs taken new sum more p inside t weighs h = record {
       second_second = differs p.second q.second t.second_free m.1;
     }
 
-    n : p.second < length (set taken p.first true)
-    n = omega (arith, t.inside, length-set taken p.first true)
+    inner : p.second < length (set taken p.first true)
+    inner = omega (arith, t.inside, length-set taken p.first true)
 
     first_inside : p.first < length taken
     first_inside = omega (arith, t.two, t.inside)
@@ -64,13 +64,13 @@ one_chosen plan pairs taken new sum more p inside t weighs h = record {
     mark k e = subst (λ xs. get_or xs k false ≡ true) (sym t.marked) e
 
     first : get_or new p.first false ≡ true
-    first = mark p.first (marked_more (set taken p.first true) p.second p.first n (get_or-set_same taken p.first true false first_inside))
+    first = mark p.first (marked_more (set taken p.first true) p.second p.first inner (get_or-set_same taken p.first true false first_inside))
 
     second : get_or new p.second false ≡ true
-    second = mark p.second (get_or-set_same (set taken p.first true) p.second true false n)
+    second = mark p.second (get_or-set_same (set taken p.first true) p.second true false inner)
 
     one : (k : ℕ) → get_or taken k false ≡ true → get_or new k false ≡ true
-    one k e = mark k (marked_more (set taken p.first true) p.second k n (marked_more taken p.first k first_inside e))
+    one k e = mark k (marked_more (set taken p.first true) p.second k inner (marked_more taken p.first k first_inside e))
 
     still : (q : PairBound) → AreTaken taken q → AreTaken new q
     still q m = (one q.first m.0, one q.second m.1)

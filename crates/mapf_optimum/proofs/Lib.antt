@@ -1,19 +1,19 @@
 mod SideSets
-mod LeastPaths
+pub mod LeastPaths
 mod PairLabels
 mod Roots
 mod Sides
 mod Covering
 mod Work
-mod Collisions
+pub mod Collisions
 mod Adding
 mod Moves
 mod Meetings
 mod KnownMoves
 mod Layers
-mod PairBounds
-mod Choosing
+pub mod PairBounds
+pub mod Choosing
 mod StartTables
 mod ExtraCosts
 mod Bounding
-mod Steps
+pub mod Steps

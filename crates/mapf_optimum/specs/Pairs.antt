@@ -33,14 +33,18 @@ pub record Takes (pair : PairBound) (old new : List Bool) : Type 0 where
 abbrev pub AreTaken : List Bool → PairBound → Type 0
 AreTaken taken p = (slice_index_or taken p.first false ≡ true) × (slice_index_or taken p.second false ≡ true)
 
--- disjoint pairs were chosen from a list, whose agents have marks, and their surpluses come to this sum
-pub record AreChosen (plan : List (List ℕ)) (pairs : List PairBound) (taken : List Bool) (sum : ℕ) : Type 0 where
+-- disjoint pairs of n agents were chosen, of each of which P holds and whose agents have marks, and their weights come to this sum
+pub record AreChosenBy (n : ℕ) (P : PairBound → Type 0) (weight : PairBound → ℕ) (taken : List Bool) (sum : ℕ) : Type 0 where
   pub chosen : List PairBound
-  pub few : length taken ≡ length plan
-  pub disjoint : AreDisjoint (length plan) chosen
-  pub sums : sum_by (surplus plan) chosen ≡ sum
-  pub within : AllByRecursion (Contains pairs) chosen
+  pub few : length taken ≡ n
+  pub disjoint : AreDisjoint n chosen
+  pub sums : sum_by weight chosen ≡ sum
+  pub within : AllByRecursion P chosen
   pub marked : AllByRecursion (AreTaken taken) chosen
+
+-- pairs of a list, by their surpluses
+abbrev pub AreChosen : List (List ℕ) → List PairBound → List Bool → ℕ → Type 0
+AreChosen plan pairs = AreChosenBy (length plan) (Contains pairs) (surplus plan)
 
 -- disjoint pairs of a list have surpluses that come to this sum
 abbrev pub HaveSurplus : List (List ℕ) → List PairBound → ℕ → Type 0

@@ -45,7 +45,7 @@ pub(crate) fn empty_sets(alloc: Global, agents: usize) -> Result<Vec<Constraints
 }
 
 /// The agent as it stands under these constraints, at this cost.
-pub(crate) fn agent_at<'a>(
+pub fn agent_at<'a>(
     problem: &'a Problem,
     agent: usize,
     constraints: &'a Constraints,

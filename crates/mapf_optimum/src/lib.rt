@@ -16,7 +16,11 @@ mod solving;
 mod waiting;
 mod watch;
 
+pub use agents::agent_at;
 pub use node::FreeNode;
 pub use pair_bound::PairBound;
-pub use solving::{solve_any, solve_any_from};
-pub use watch::OptimumWatch;
+pub use pairs::{
+    Agent, Effort, MOST_EXTRA, disjoint_surplus, do_steps_collide, extra_cost, surplus_of, take,
+};
+pub use solving::{solve_any, solve_any_from, solve_any_up_to};
+pub use watch::{NoWatch, Watch};

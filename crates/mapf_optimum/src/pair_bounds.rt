@@ -7,15 +7,18 @@ ghost use Rattle.mapf_optimum.specs.FreeTree.{HaveLeastPaths, IsPairBound};
 use crate::PairBound;
 use crate::agents::agent_at;
 use crate::low_level::LowLevel;
-use crate::pairs::extra_cost;
+use crate::pairs::{Effort, MOST_EXTRA, extra_cost};
 use mapf_grid::NoMemory;
 use mapf_low::Constraints;
 use mapf_plan::{Conflict, Plan};
 use mapf_tree::{Problem, Side, agent_of};
 use std::alloc::Global;
 
-/// How many pairs of cells are looked at for a pair of agents, at most.
-const BUDGET: usize = 20_000;
+/// How far it is looked for what a pair costs more.
+const EFFORT: Effort = Effort {
+    most_extra: MOST_EXTRA,
+    budget: 20_000,
+};
 
 /// What is known of pairs, and what each pair that has one of these conflicts costs together at least, if it isn't known.
 pub(crate) fn pair_bounds(
@@ -89,7 +92,8 @@ fn pair_bound(
     let costs = (plan.paths()[first].cost(), plan.paths()[second].cost());
     let one = agent_at(problem, first, &sets[first], costs.0);
     let other = agent_at(problem, second, &sets[second], costs.1);
-    let extra = extra_cost(alloc, problem.rule(), &one, &other, BUDGET)?;
+    let paths = (&plan.paths()[first], &plan.paths()[second]);
+    let extra = extra_cost(alloc, problem.rule(), &one, &other, paths, EFFORT)?;
     let least = u64::from(costs.0) + u64::from(costs.1) + u64::from(extra);
     Ok(Some(PairBound {
         first,

@@ -1,15 +1,15 @@
 //! Any optimum of a problem.
 
-ghost use Rattle.std.specs.Prelude.{IfOk, MatchOption, None};
+ghost use Rattle.std.specs.Prelude.{◌≡◌, IfOk, IfSome, MatchOption, None, Some};
 ghost use Rattle.mapf_tree.specs.Family.{AreRootPaths, IsRoot};
-ghost use Rattle.mapf_optimum.specs.AnyAnswer.{IsAnyAnswer};
+ghost use Rattle.mapf_optimum.specs.AnyAnswer.{IsAnyAnswer, IsAnyAnswerUpTo};
 ghost use Rattle.mapf_optimum.specs.FreeSearch.{IsUnderWay};
 
 use crate::expansion::expand;
 use crate::guesses::Occupancy;
 use crate::low_level::LowLevel;
 use crate::waiting::Waiting;
-use crate::{FreeNode, OptimumWatch};
+use crate::{FreeNode, Watch};
 use mapf_grid::NoMemory;
 use mapf_plan::{Answer, Path};
 use mapf_tree::{Problem, root_paths};
@@ -19,7 +19,7 @@ use std::alloc::Global;
 /// bound; or, at the problem's limit on nodes, a lower bound.
 ///
 /// The watch is told of each node that is expanded, and last of the end. An error is that memory ran out.
-pub fn solve_any<W: OptimumWatch>(
+pub fn solve_any<W: Watch>(
     alloc: Global,
     problem: &Problem,
     watch: &mut W,
@@ -31,7 +31,7 @@ pub fn solve_any<W: OptimumWatch>(
 }
 
 /// The same from each agent's own path under no constraints; none where some agent has none.
-pub fn solve_any_from<W: OptimumWatch>(
+pub fn solve_any_from<W: Watch>(
     alloc: Global,
     problem: &Problem,
     paths: Option<Vec<Path>>,
@@ -40,10 +40,37 @@ pub fn solve_any_from<W: OptimumWatch>(
     requires { MatchOption paths (IsRoot problem.now None) (λ paths. AreRootPaths problem.now paths.items) }
     ensures { IfOk result (IsAnyAnswer problem.now) }
 {
+    search_from(alloc, problem, paths, problem.nodes(), watch)
+}
+
+/// The same by so many expanded nodes at most, whatever limit the problem has.
+pub fn solve_any_up_to<W: Watch>(
+    alloc: Global,
+    problem: &Problem,
+    nodes: Option<u64>,
+    watch: &mut W,
+) -> Result<Answer, NoMemory>
+    ensures { IfOk result (IsAnyAnswerUpTo nodes problem.now) }
+{
+    let paths = root_paths(alloc, problem)?;
+    search_from(alloc, problem, paths, nodes, watch)
+}
+
+/// The same from each agent's own path under no constraints; none where some agent has none.
+fn search_from<W: Watch>(
+    alloc: Global,
+    problem: &Problem,
+    paths: Option<Vec<Path>>,
+    nodes: Option<u64>,
+    watch: &mut W,
+) -> Result<Answer, NoMemory>
+    requires { MatchOption paths (IsRoot problem.now None) (λ paths. AreRootPaths problem.now paths.items) }
+    ensures { IfOk result (IsAnyAnswerUpTo nodes problem.now) }
+{
     let waiting = begin(alloc, problem, paths)?;
     let low = LowLevel::new(alloc, problem)?;
     let mut occupancy = Occupancy::new(alloc, problem.instance().map())?;
-    search(alloc, &low, waiting, &mut occupancy, watch)
+    search(alloc, &low, waiting, &mut occupancy, nodes, watch)
 }
 
 /// The root alone, if there is one.
@@ -58,16 +85,17 @@ fn begin(alloc: Global, problem: &Problem, paths: Option<Vec<Path>>) -> Result<W
     Ok(waiting)
 }
 
-/// Takes nodes, the least label first, until one has a plan without conflict, or none is left, or the limit on nodes is reached.
-fn search<W: OptimumWatch>(
+/// Takes nodes, the least label first, until one has a plan without conflict, or none is left, or so many were expanded.
+fn search<W: Watch>(
     alloc: Global,
     low: &LowLevel<'_>,
     waiting: Waiting,
     occupancy: &mut Occupancy,
+    most: Option<u64>,
     watch: &mut W,
 ) -> Result<Answer, NoMemory>
     requires { IsUnderWay low.now waiting }
-    ensures { IfOk result (IsAnyAnswer low.now) }
+    ensures { IfOk result (IsAnyAnswerUpTo most low.now) }
 {
     let problem = low.problem();
     let mut waiting = waiting;
@@ -88,13 +116,24 @@ fn search<W: OptimumWatch>(
             let stated = plan.cost();
             return Ok(Answer::Plan { plan, stated });
         };
-        if let Some(most) = problem.nodes() {
-            if nodes >= most {
-                let least = node.label();
-                return Ok(Answer::GaveUp { nodes: most, least });
-            }
+        if let Some(limit) = reached_limit(most, nodes) {
+            let least = node.label();
+            return Ok(Answer::GaveUp {
+                nodes: limit,
+                least,
+            });
         }
         expand(alloc, low, &node, &conflict, &mut waiting)?;
         nodes = nodes.saturating_add(1);
+    }
+}
+
+/// The limit on nodes, if there is one and so many were expanded.
+fn reached_limit(most: Option<u64>, nodes: u64) -> Option<u64>
+    ensures { IfSome result (λ limit. most ≡ Some limit) }
+{
+    match most {
+        Some(limit) if nodes >= limit => Some(limit),
+        _ => None,
     }
 }

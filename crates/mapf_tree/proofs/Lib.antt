@@ -25,7 +25,7 @@ mod Chains
 mod LeastCosts
 mod SideNodes
 mod Queries
-mod SameSets
+pub mod SameSets
 mod PathCaches
 mod Rising
 pub mod OpenNodes

@@ -14,7 +14,7 @@ use std::marker::Model;
 
 /// An agent as it stands in a node: where it goes on a map, what it is forbidden, and what its path costs.
 #[derive(Drop)]
-pub(crate) struct Agent<'a> {
+pub struct Agent<'a> {
     map: &'a Map,
     distances: &'a Distances,
     constraints: &'a Constraints,
@@ -114,14 +114,17 @@ impl<'a> Agent<'a> {
         }
     }
 
-    /// Whether the agent may arrive on `to` from `from` at this time step, on a path of its cost.
-    fn may_enter(&self, from: Cell, to: Cell, time: u32) -> bool
+    /// Whether the agent may arrive on `to` from `from` at this time step, on a path of its cost, where it may be forbidden something at
+    /// that time step.
+    fn may_enter(&self, from: Cell, to: Cell, time: u32, is_forbidden: bool) -> bool
         requires { time ≤ self.now.cost }
         ensures { MayEnter self.now time from to → IsTrue result }
     {
-        self.can_arrive(to, time)
-            && self.constraints.allows_at(to, time)
-            && self.constraints.allows_step(from, to, time)
+        if !self.can_arrive(to, time) {
+            return false;
+        }
+        !is_forbidden
+            || self.constraints.allows_at(to, time) && self.constraints.allows_step(from, to, time)
     }
 
     /// Adds a move, if the agent may make it at this time step on a path of its cost.
@@ -130,12 +133,13 @@ impl<'a> Agent<'a> {
         from: Cell,
         to: Cell,
         time: u32,
+        is_forbidden: bool,
         moves: &mut SmallVec<Cell, 5>,
     ) -> Result<(), NoMemory>
         requires { time ≤ self.now.cost }
         ensures { OnOk result (Adds (λ v. (to ≡ v) × MayEnter self.now time from v) moves.old.items moves.new.items) }
     {
-        if self.may_enter(from, to, time) {
+        if self.may_enter(from, to, time, is_forbidden) {
             moves.push(to)?;
         }
         Ok(())
@@ -152,9 +156,10 @@ impl<'a> Agent<'a> {
         requires free { IsFree self.now.grid from }
         ensures { OnOk result (Adds (MayEnter self.now time from) moves.old.items moves.new.items) }
     {
-        self.add_move(from, from, time, moves)?;
+        let is_forbidden = has_one_at(self.constraints, time);
+        self.add_move(from, from, time, is_forbidden, moves)?;
         for to in self.map.neighbours(from).as_slice() {
-            self.add_move(from, *to, time, moves)?;
+            self.add_move(from, *to, time, is_forbidden, moves)?;
         }
         Ok(())
     }
@@ -176,4 +181,12 @@ impl<'a> Agent<'a> {
         }
         Ok(moves)
     }
+}
+
+/// Whether one of the constraints is for this time step.
+fn has_one_at(constraints: &Constraints, time: u32) -> bool {
+    constraints
+        .as_slice()
+        .iter()
+        .any(|constraint| constraint.time() == time)
 }

@@ -11,6 +11,7 @@ use super::steps::add_apart;
 use mapf_grid::NoMemory;
 use mapf_plan::Rule;
 use std::alloc::Global;
+use std::mem::replace;
 
 /// The pairs of cells on which two agents may be at time 0: their starts.
 fn first_layer(
@@ -21,24 +22,26 @@ fn first_layer(
 ) -> Result<PlacePairs, NoMemory>
     ensures { IfOk result (HasPlaces rule one.now other.now 0) }
 {
-    let mut layer = PlacePairs::new(alloc);
+    let mut layer = PlacePairs::new(alloc)?;
     layer.add((one.start(), other.start()))?;
     Ok(layer)
 }
 
-/// The pairs of cells on which they may be at this time step, from those of the time step before.
+/// The pairs of cells on which they may be at this time step, from those of the time step before, in the place of a spare list.
 fn next_layer(
     alloc: Global,
     rule: Rule,
     one: &Agent,
     other: &Agent,
     layer: &PlacePairs,
+    spare: PlacePairs,
     time: u32,
 ) -> Result<PlacePairs, NoMemory>
     ensures { IfOk result (λ next. (from to : ℕ × ℕ) → Contains layer.now from
         → MayBothGo rule one.now other.now time from to → Contains next to) }
 {
-    let mut reached = PlacePairs::new(alloc);
+    let mut reached = spare;
+    reached.clear();
     let mut ones = Vec::new(alloc);
     let mut others = Vec::new(alloc);
     for from in layer.as_slice() {
@@ -69,6 +72,7 @@ pub(super) fn are_dependent(
     ensures { IfOk result (λ dependent. IsTrue dependent → AreDependent rule one.now other.now) }
 {
     let mut layer = first_layer(alloc, rule, one, other)?;
+    let mut spare = PlacePairs::new(alloc)?;
     let end = one.cost().max(other.cost());
     for time in 0..end {
         if layer.is_empty() {
@@ -78,7 +82,8 @@ pub(super) fn are_dependent(
             return Ok(false);
         }
         *budget -= layer.as_slice().len();
-        layer = next_layer(alloc, rule, one, other, &layer, time + 1)?;
+        let next = next_layer(alloc, rule, one, other, &layer, spare, time + 1)?;
+        spare = replace(&mut layer, next);
     }
     Ok(layer.is_empty())
 }

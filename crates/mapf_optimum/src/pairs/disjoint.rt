@@ -3,10 +3,10 @@
 ghost use Rattle.std.specs.Prelude.{◌≡◌, ◌<◌, false, length, slice_index_or, IfOk, IsFalse, IsTrue};
 ghost use Rattle.mapf_optimum.specs.Pairs.{AreChosen, HaveSurplus, Takes, surplus};
 
-use super::extra_cost::MOST_EXTRA;
+use super::extra::MOST_EXTRA;
 use crate::PairBound;
 use mapf_grid::NoMemory;
-use mapf_plan::Plan;
+use mapf_plan::AgentPaths;
 use std::alloc::Global;
 
 /// Whether it is known of the agent that it is in none of the pairs that were chosen.
@@ -17,8 +17,8 @@ fn is_free(taken: &[bool], agent: usize) -> bool
     matches!(taken.get(agent), Some(false))
 }
 
-/// Marks the two agents of a pair, if they are free, and says whether it did.
-fn take(taken: &mut Vec<bool>, pair: &PairBound) -> bool
+/// Marks the two agents of a pair, if they have no mark, and says whether it did.
+pub fn take(taken: &mut Vec<bool>, pair: &PairBound) -> bool
     ensures takes { IsTrue result → Takes pair.now taken.old.items taken.new.items }
     ensures stands { IsFalse result → taken.new.items ≡ taken.old.items }
 {
@@ -33,23 +33,22 @@ fn take(taken: &mut Vec<bool>, pair: &PairBound) -> bool
 }
 
 /// How much more than in this plan the pair costs at least; 0 where an agent has no path.
-pub(crate) fn surplus_of(plan: &Plan, pair: &PairBound) -> u64
-    ensures { pair.now.first < length plan.now → pair.now.second < length plan.now
-        → result ≡ surplus plan.now pair.now }
+pub fn surplus_of<P: AgentPaths>(plan: &P, pair: &PairBound) -> u64
+    ensures { pair.now.first < length (P.paths plan.now) → pair.now.second < length (P.paths plan.now)
+        → result ≡ surplus (P.paths plan.now) pair.now }
 {
-    let paths = plan.paths();
-    match (paths.get(pair.first), paths.get(pair.second)) {
-        (Some(one), Some(other)) => {
-            let cost = u64::from(one.cost()) + u64::from(other.cost());
-            pair.least.saturating_sub(cost)
-        }
-        _ => 0,
+    let agents = plan.agents();
+    if pair.first >= agents || pair.second >= agents {
+        return 0;
     }
+    let (one, other) = (plan.path(pair.first), plan.path(pair.second));
+    let cost = u64::from(one.cost()) + u64::from(other.cost());
+    pair.least.saturating_sub(cost)
 }
 
 /// Chooses the pair at a place, if it has this surplus and its agents are free, and answers the sum with it.
-fn choose_at(
-    plan: &Plan,
+fn choose_at<P: AgentPaths>(
+    plan: &P,
     pairs: &[PairBound],
     place: usize,
     weight: u64,
@@ -57,8 +56,8 @@ fn choose_at(
     sum: u64,
 ) -> u64
     requires place { place < length pairs.now }
-    requires chosen { AreChosen plan.now pairs.now taken.old.items sum }
-    ensures { AreChosen plan.now pairs.now taken.new.items result }
+    requires chosen { AreChosen (P.paths plan.now) pairs.now taken.old.items sum }
+    ensures { AreChosen (P.paths plan.now) pairs.now taken.new.items result }
 {
     let pair = pairs[place];
     if surplus_of(plan, &pair) != weight {
@@ -74,9 +73,15 @@ fn choose_at(
 }
 
 /// Chooses those of the pairs that have this surplus and whose agents are free, and answers the sum with theirs.
-fn choose(plan: &Plan, pairs: &[PairBound], weight: u64, taken: &mut Vec<bool>, before: u64) -> u64
-    requires { AreChosen plan.now pairs.now taken.old.items before }
-    ensures { AreChosen plan.now pairs.now taken.new.items result }
+fn choose<P: AgentPaths>(
+    plan: &P,
+    pairs: &[PairBound],
+    weight: u64,
+    taken: &mut Vec<bool>,
+    before: u64,
+) -> u64
+    requires { AreChosen (P.paths plan.now) pairs.now taken.old.items before }
+    ensures { AreChosen (P.paths plan.now) pairs.now taken.new.items result }
 {
     let mut sum = before;
     for place in 0..pairs.len() {
@@ -86,14 +91,14 @@ fn choose(plan: &Plan, pairs: &[PairBound], weight: u64, taken: &mut Vec<bool>, 
 }
 
 /// How much more than in this plan disjoint ones of these pairs cost together: those with the greatest surplus are chosen first.
-pub(crate) fn disjoint_surplus(
+pub fn disjoint_surplus<P: AgentPaths>(
     alloc: Global,
-    plan: &Plan,
+    plan: &P,
     pairs: &[PairBound],
 ) -> Result<u64, NoMemory>
-    ensures { IfOk result (HaveSurplus plan.now pairs.now) }
+    ensures { IfOk result (HaveSurplus (P.paths plan.now) pairs.now) }
 {
-    let mut taken = vec![in alloc; false; plan.paths().len()]?;
+    let mut taken = vec![in alloc; false; plan.agents()]?;
     let mut sum = 0;
     for less in 0..MOST_EXTRA {
         sum = choose(plan, pairs, u64::from(MOST_EXTRA - less), &mut taken, sum);

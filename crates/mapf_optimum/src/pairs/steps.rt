@@ -9,7 +9,7 @@ use mapf_grid::{Cell, NoMemory};
 use mapf_plan::Rule;
 
 /// Whether agents that go from the cells where they were to those where they are collide.
-pub(crate) fn do_steps_collide(
+pub fn do_steps_collide(
     rule: Rule,
     one_was: Cell,
     one_is: Cell,

@@ -1,4 +1,4 @@
-use Rattle.std.proofs.Common.{Some, MatchOption, subst, sym, ap, ◌∙◌, arith}
+use Rattle.std.proofs.Common.{◌≡◌, IfSome, Some, MatchOption, subst, sym, ◌∙◌, arith}
 use Rattle.mapf_plan.specs.Plan.{HasNoConflict, IsOptimum}
 use Rattle.mapf_tree.specs.LowerBound.{IsBelowAll}
 use Rattle.mapf_tree.specs.Problem.{Problem}
@@ -43,11 +43,11 @@ returns-in_default-2 g c = (
   c.cost-stated.ensures.cost,
 )
 
-pub returns-then-nodes-most : goal.returns-then-nodes-most
-returns-then-nodes-most g c =
+pub returns-in-Some-reached_limit : goal.returns-in-Some-reached_limit
+returns-in-Some-reached_limit g c =
     let taken : IsTaken c.steps.waiting (Some c.in-Some.node) c.take_least.new.self = taken_node c.steps.waiting c.take_least.new.self c.take_least.result c.in-Some.node c.in-Some.is c.take_least.ensures in
     let is = taken_is_free c.args.low.now c.steps.waiting c.take_least.new.self c.in-Some.node c.steps.invariant taken in (
-      ap (λ (p : Problem). p.nodes) (sym c.problem-problem.ensures) ∙ sym c.nodes.ensures.nodes ∙ c.in-Some-nodes.is,
+      subst (λ o. IfSome o (λ limit. c.args.most ≡ Some limit)) c.in-Some-reached_limit.is c.reached_limit.ensures,
       omega (arith, c.label-least.ensures, is.within),
       subst (IsBelowAll c.args.low.now) (sym c.label-least.ensures) (least_label_is_below c.args.low.now c.steps.waiting c.take_least.new.self c.in-Some.node c.steps.invariant taken),
     )

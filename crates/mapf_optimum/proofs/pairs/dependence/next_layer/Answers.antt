@@ -18,7 +18,7 @@ loop-from-preserved c =
     ))
     c.in_ok-add_apart.ensures in
     record {
-      reached = some_more (MayBothGo c.args.rule c.args.one.now c.args.other.now c.args.time) c.as_slice-from-items.result.now c.new-reached.result c.loop-from.reached c.add_apart.new.reached
+      reached = some_more (MayBothGo c.args.rule c.args.one.now c.args.other.now c.args.time) c.as_slice-from-items.result.now c.clear.new.self c.loop-from.reached c.add_apart.new.reached
           c.loop-from.from-index from c.loop-from-test.true c.from-item.is c.loop-from.invariant.reached adds;
       ones = c.in_ok-first.ensures.known;
       others = c.in_ok-second.ensures.known;
@@ -26,5 +26,5 @@ loop-from-preserved c =
 
 pub returns : goal.returns
 returns c = λ from to in_layer both.
-    (some_all (MayBothGo c.args.rule c.args.one.now c.args.other.now c.args.time) c.as_slice-from-items.result.now c.new-reached.result c.loop-from.reached c.loop-from.from-index (search rules) c.loop-from.invariant.reached).adds
+    (some_all (MayBothGo c.args.rule c.args.one.now c.args.other.now c.args.time) c.as_slice-from-items.result.now c.clear.new.self c.loop-from.reached c.loop-from.from-index (search rules) c.loop-from.invariant.reached).adds
     to (from, subst (λ xs. Contains xs from) (sym c.as_slice-from-items.ensures) in_layer, both)

@@ -1,6 +1,6 @@
 use Rattle.std.proofs.Common.{arith}
 use Rattle.mapf_optimum.proofs.ExtraCosts.{split_more}
-use Rattle.mapf_optimum.proofs.pairs.extra_cost.is_too_little.Goals as goal
+use Rattle.mapf_optimum.proofs.pairs.extra.is_too_little.Goals as goal
 
 pub loop-more-preserved : goal.loop-more-preserved
 loop-more-preserved c =
