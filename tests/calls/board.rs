@@ -6,6 +6,7 @@ use workers::{all_pairs, sent};
 
 mod crew;
 mod live;
+mod refused;
 mod rows;
 mod squares;
 mod thousand;

@@ -12,4 +12,5 @@ mod orders;
 mod refusals;
 mod refusing;
 mod schedules;
+mod three;
 mod watching;

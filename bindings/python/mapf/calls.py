@@ -33,8 +33,8 @@ def solve(
     no_following: no agent may enter a cell in the step in which another leaves it.
     workers: threads of the program, 1 to 64, whose number changes no answer; the library has one.
     seconds: after so many the answer is `OutOfTime`; None sets no limit.
-    progress: is called with the nodes that were taken and what no plan costs less than, at first, each second and at
-        the end (by the library after 1, 10, 100 and so on nodes). What it raises ends the search.
+    progress: is called with the nodes that were taken and what no plan costs less than, at first, once a second at
+        most and at the end (by the library after 1, 10, 100 and so on nodes). What it raises ends the search.
     any_optimum: of several plans that cost least any will do: with many agents that mostly takes less time.
 
     Ctrl-C ends the search. Raises a `Fault` where something is refused, and `NotBuilt` where there is neither the

@@ -14,7 +14,7 @@ module _ {J A : Type 0} where
 
   -- in so many turns, none of which found the flag shut
   abbrev pub AreCounted : ℕ → Seen J A → Seen J A → Type 0
-  AreCounted n v w = (total is_look w.notes ≤ total is_look v.notes + n) × (tries w ≤ tries v + n) × (total is_shut w.notes ≤ total is_shut v.notes)
+  AreCounted n v w = (total is_look w.notes ≤ total is_look v.notes + n) × (tries w ≡ tries v + n) × (total is_shut w.notes ≡ total is_shut v.notes)
 
   -- a look adds one look
   pub looked : (v w : Seen J A) (is_open : Bool) → w ≡ looking v is_open

@@ -61,4 +61,4 @@ pub record Checks (rule : Rule) (map scen plan : List ℕ) (agents : ℕ) (old n
   pub status : ℕ
   pub bytes : List ℕ
   pub put : IsPut status bytes old new needed result
-  pub reply : IsJudged rule map scen plan agents status bytes ⊎ ((named : Fault) × IsCheckFault map scen plan agents named × IsStatusFor named status)
+  pub reply : IsJudged rule map scen plan agents status bytes ⊎ ((named : Fault) × IsCheckFault map scen plan agents named × IsStatusFor named status bytes)

@@ -1,5 +1,5 @@
 -- Why a call has no answer, and the status for it.
-use Rattle.std.specs.Prelude.{◌≡◌, ℕ, ◌≤◌, ◌⊎◌, List, length}
+use Rattle.std.specs.Prelude.{◌≡◌, ℕ, ◌≤◌, ◌⊎◌, List, length, codes}
 use Rattle.mapf_plan.specs.declared.device.files.TheConstants.{MOST_BYTES}
 use Rattle.mapf_plan.specs.declared.device.fault.DeviceFault.TheVariants as device
 use Rattle.mapf_plan.specs.declared.text.fault.TextFault.TheVariants as text_fault
@@ -22,9 +22,10 @@ status_of (fault.Text named) = refused
 status_of (fault.Device device.NoMemory) = no_memory
 status_of (fault.Device named) = refused
 
--- the status that a fault's line is left with: its own, or that of no memory, if there was none for the line
-abbrev pub IsStatusFor : Fault → ℕ → Type 0
-IsStatusFor named status = (status ≡ status_of named) ⊎ (status ≡ no_memory)
+-- the status that a fault's line is left with: its own; or that of no memory with the line of that, if there was none for the
+-- fault's line
+abbrev pub IsStatusFor : Fault → (status : ℕ) → (line : List ℕ) → Type 0
+IsStatusFor named status line = (status ≡ status_of named) ⊎ ((status ≡ no_memory) × (line ≡ codes "43 no memory\n"))
 
 -- so many bytes are read as a file
 abbrev pub IsRead : List ℕ → Type 0

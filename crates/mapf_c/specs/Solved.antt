@@ -65,7 +65,7 @@ pub record Replies (Answered : ℕ → List ℕ → Type 0) (Faulty : Fault → 
   pub status : ℕ
   pub bytes : List ℕ
   pub put : IsPut status bytes old new needed result
-  pub reply : Answered status bytes ⊎ ((named : Fault) × Faulty named × IsStatusFor named status)
+  pub reply : Answered status bytes ⊎ ((named : Fault) × Faulty named × IsStatusFor named status bytes)
 
 abbrev pub Solves : (map scen : List ℕ) → Ask → (old new : List ℕ) → (needed : ℕ) → (result : ℤ) → Type 0
 Solves map scen ask old new needed result = Replies (IsAnswered map scen ask) (IsSolveFault map scen ask) old new needed result

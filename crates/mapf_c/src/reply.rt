@@ -27,7 +27,7 @@ pub(crate) fn put(status: u8, bytes: &[u8], out: &mut [u8], needed: &mut u64) ->
 
 /// Puts a fault's line, or that there was no memory for it.
 pub(crate) fn put_fault(alloc: Global, fault: &Fault, out: &mut [u8], needed: &mut u64) -> i32
-    ensures { (status : ℕ) × (line : List ℕ) × IsStatusFor fault.now status
+    ensures { (status : ℕ) × (line : List ℕ) × IsStatusFor fault.now status line
         × IsPut status line out.old out.new needed.new result }
 {
     match format!(in alloc; "{fault}\n") {

@@ -126,7 +126,7 @@ fn solve_command<'a>(alloc: Global) -> Result<Command<'a>, AllocError> {
     .arg(flag(
         alloc,
         "progress",
-        "Say on standard error each second how many nodes were taken, and what no plan costs less than",
+        "Say on standard error how many nodes were taken and what no plan costs less than, once a second at most",
     ))
 }
 

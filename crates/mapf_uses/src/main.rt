@@ -5,6 +5,7 @@ mod board;
 mod check;
 mod grid;
 mod low;
+mod numbers;
 mod plan;
 mod solve;
 

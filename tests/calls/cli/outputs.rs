@@ -1,7 +1,7 @@
 //! Files that are not there, outputs that fail, and command lines that are refused.
 
 use super::expected::{Said, expect, place, words_of};
-use crate::worked::ALONG;
+use crate::worked::{ALONG, BAY};
 use mapf_cli::call;
 use mapf_plan::Counted;
 use std::io::{Error, ErrorKind, Write};
@@ -44,6 +44,14 @@ fn files_that_are_not_there(rt: HostRuntime) -> Result<(), Fail> {
         folder,
         rest,
         missing("mapf: 50 cannot open scenario\n"),
+    )?;
+    fs::remove_file(&rt, "lines_of_no_file/map")?;
+    expect(
+        &rt,
+        "check",
+        folder,
+        rest,
+        missing("mapf: 50 cannot open map\n"),
     )?;
     fs::remove_dir_all(&rt, folder)?;
     Ok(())
@@ -94,6 +102,67 @@ fn outputs_that_take_nothing(rt: HostRuntime) -> Result<(), Fail> {
     let status = call(&rt, alloc, words, &mut Counted::of(&mut out), &mut err);
     assert_eq!(rt; out.as_slice(), b"plan 1 2\n0,0 1,0 2,0\n".as_slice());
     assert_eq!(rt; status, 0);
+    fs::remove_dir_all(&rt, folder)?;
+    Ok(())
+}
+
+/// A writer that takes one byte a call.
+#[derive(Drop)]
+struct ByteByByte {
+    taken: Vec<u8>,
+}
+
+impl Write for ByteByByte {
+    fn write(&mut self, buf: &[u8]) -> io::Result<usize> {
+        let Some(byte) = buf.first() else {
+            return Ok(0);
+        };
+        match self.taken.push(*byte) {
+            Ok(()) => Ok(1),
+            Err(_) => Err(Error::from(ErrorKind::OutOfMemory)),
+        }
+    }
+
+    fn flush(&mut self) -> io::Result<()> {
+        Ok(())
+    }
+}
+
+/// The status is that of the text's first byte, also where the text is taken byte by byte.
+#[test]
+fn outputs_that_take_one_byte(rt: HostRuntime) -> Result<(), Fail> {
+    let alloc = rt.alloc();
+    let folder = "lines_byte_by_byte";
+    place(&rt, folder, &BAY)?;
+    for (rest, wanted, text) in [
+        (
+            "--agents 2 --bound 4 --workers 1",
+            0,
+            "plan 2 4\n1,0 1,1 1,0\n0,0 1,0 2,0\n",
+        ),
+        ("--agents 2 --bound 3 --workers 1", 1, "none 3\n"),
+        (
+            "--agents 2 --bound 4 --workers 1 --nodes 5",
+            6,
+            "gave up 5 4\n",
+        ),
+    ] {
+        let words = words_of(alloc, "solve", folder, rest)?;
+        let mut out = ByteByByte {
+            taken: Vec::new(alloc),
+        };
+        let mut err = Vec::new(alloc);
+        let status = call(
+            &rt,
+            alloc,
+            words,
+            &mut Counted::of(&mut out),
+            &mut Counted::of(&mut err),
+        );
+        assert_eq!(rt; out.taken.as_slice(), text.as_bytes(), "{rest}");
+        assert_eq!(rt; status, wanted, "{rest}");
+        assert!(rt; err.is_empty(), "{rest}");
+    }
     fs::remove_dir_all(&rt, folder)?;
     Ok(())
 }

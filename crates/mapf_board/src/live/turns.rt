@@ -1,5 +1,5 @@
 //! A worker's turns at a board.
-ghost use Rattle.std.specs.Prelude.{◌≡◌, ◌+◌, ◌≤◌};
+ghost use Rattle.std.specs.Prelude.{◌≡◌, ◌+◌, ◌≤◌, ◌⊎◌};
 
 use super::Live;
 use super::left::Left;
@@ -11,7 +11,7 @@ use crate::supply::Supply;
 use crate::work::Work;
 
 impl<W: Work> Live<W> {
-    ghost use Rattle.mapf_board.specs.Workers.{IsWorkerOf, IsIdle, HoldsJob, looks_of, tries_of, shut_looks_of, record_of};
+    ghost use Rattle.mapf_board.specs.Workers.{IsWorkerOf, IsIdle, IsSentAway, IsSpent, HoldsJob, looks_of, tries_of, record_of};
 
     /// A worker's part of the board's jobs, in so many turns at most; it ends at the first look that finds the board shut.
     ///
@@ -32,10 +32,11 @@ impl<W: Work> Live<W> {
         ensures worker { IsWorkerOf self.now seat.new }
         ensures idle { IsIdle seat.new }
 
-        // In each turn it looks once and tries one claim, and no look comes after one that found the board shut.
+        // In each turn it looks once and tries one claim. It ends at the first look that finds the board shut, or else when all
+        // turns are spent.
         ensures looks { looks_of seat.new ≤ looks_of seat.old + turns }
         ensures tries { tries_of seat.new ≤ tries_of seat.old + turns }
-        ensures shut { shut_looks_of seat.new ≤ shut_looks_of seat.old + 1 }
+        ensures shut { IsSentAway seat.old seat.new ⊎ IsSpent turns seat.old seat.new }
     {
         let mut pause = Pause::new();
         let mut slot = seat.number % self.size;

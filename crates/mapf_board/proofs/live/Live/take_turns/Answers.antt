@@ -1,5 +1,5 @@
-use Rattle.std.proofs.Common.{rules, arith, ap, ◌∙◌, ℕ, cond}
-use Rattle.mapf_board.specs.Views.{looking}
+use Rattle.std.proofs.Common.{rules, arith, ap, ◌∙◌, inl, inr}
+use Rattle.mapf_board.specs.Views.{Seen, looking}
 use Rattle.mapf_board.specs.Workers.{known_by, looks_of, tries_of, shut_looks_of, record_of}
 use Rattle.mapf_board.proofs.Turns.{looked, with_claim, with_miss}
 use Rattle.mapf_board.proofs.live.Live.take_turns.Goals.{in-Ok, in-Err, else-loop-turn-test, then-loop-turn-test+then-not-is_open}
@@ -36,12 +36,13 @@ returns-clause-tries g c = elim c.loop-turn-test.branch [
 
 pub returns-clause-shut : goal.returns-clause-shut
 returns-clause-shut g c = elim c.loop-turn-test.branch [
-  | else-loop-turn-test w ↦ omega (arith, c.loop-turn.invariant.3.2, ap shut_looks_of w.seat-is)
-  | then-loop-turn-test+then-not-is_open w ↦ omega (
-    arith,
+  | else-loop-turn-test w ↦ inr (
+    omega (arith, c.loop-turn.invariant.3.1, c.loop-turn.auto._turn-end, ap tries_of w.seat-is),
+    omega (arith, c.loop-turn.invariant.3.2, ap shut_looks_of w.seat-is),
+  )
+  | then-loop-turn-test+then-not-is_open w ↦ inl (
+    (known_by c.loop-turn.seat).notes,
+    ap record_of w.seat-is ∙ ap (λ (x : Seen _ _). x.notes) (w.is_open.ensures.looked ∙ ap (looking (known_by c.loop-turn.seat)) w.if-not-is_open.true),
     c.loop-turn.invariant.3.2,
-    (looked _ _ _ w.is_open.ensures.looked).2,
-    ap {B = ℕ} (λ b. cond b 0 1) w.if-not-is_open.true,
-    ap shut_looks_of w.seat-is,
   )
 ]
