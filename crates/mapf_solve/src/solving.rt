@@ -132,12 +132,25 @@ fn solve_in_sessions<P: OneProblem, R: Threads + Sync, G: Gate, S: Supply, W: Wa
             break;
         };
         if problem.nodes().is_none() {
-            let SessionSearch { search, lookahead } = sessions;
-            return finish_by_bounds(means.alloc, search, lookahead.into_own_paths(), watch);
+            return finish(means.alloc, sessions, watch);
         }
     }
     let SessionSearch { search, .. } = sessions;
     search.into_answer().ok_or(NoMemory)
+}
+
+/// The answer where there is no limit on nodes: what sessions leave waiting is searched by bounds, without workers.
+fn finish<P: OneProblem, W: Watch>(
+    alloc: Global,
+    sessions: SessionSearch<'_, P>,
+    watch: &mut W,
+) -> Result<Answer, NoMemory>
+    requires open_yet { sessions.search.outcome ≡ Ok None }
+    requires unlimited { P.problem.nodes ≡ None }
+    ensures { IfOk result (IsAnswerOf P.problem) }
+{
+    let SessionSearch { search, lookahead } = sessions;
+    finish_by_bounds(alloc, search, lookahead.into_own_paths(), watch)
 }
 
 /// A search of the root, whose jobs come before those of the sessions.

@@ -4,8 +4,8 @@ use crate::worked::{ALONG, BAY, CHANGE, Worked};
 use mapf_board::{AlwaysGrants, NoGate};
 use mapf_grid::instance_of;
 use mapf_plan::Answer;
-use mapf_solve::{MOST_WORKER_TURNS, Means, OneProblem, Pace, Watch, solve_watched};
-use mapf_tree::{Problem, solve_alone};
+use mapf_solve::{MOST_WORKER_TURNS, Means, Pace, Watch, solve_alone, solve_watched};
+use mapf_tree::Problem;
 use std::alloc::Global;
 use std::thread::Threads;
 
@@ -16,7 +16,7 @@ struct Notes {
 }
 
 impl Watch for Notes {
-    fn nodes_taken<P: OneProblem>(&mut self, nodes: u64, least: u64) {
+    fn nodes_expanded(&mut self, _problem: &Problem, nodes: u64, least: u64) {
         let _ = self.told.push((nodes, least));
     }
 }
@@ -29,8 +29,15 @@ struct Case {
     nodes: u64,
 }
 
-/// A bay, where the search finds a plan at its sixth node.
+/// A bay, where the search by keys finds a plan at its sixth node, within a limit that it doesn't reach.
 const SOLVED: Case = Case {
+    worked: BAY,
+    bound: 4,
+    nodes: 1_000,
+};
+
+/// The same without a limit: what the first session leaves goes by bounds.
+const SOLVED_BY_BOUNDS: Case = Case {
     worked: BAY,
     bound: 4,
     nodes: 0,
@@ -43,8 +50,15 @@ const GIVEN_UP: Case = Case {
     nodes: 5,
 };
 
-/// A square, where the tree has three nodes and no solution.
+/// A square, where the tree has three nodes and no solution, within such a limit.
 const NONE: Case = Case {
+    worked: CHANGE,
+    bound: 3,
+    nodes: 1_000,
+};
+
+/// The same without a limit.
+const NONE_BY_BOUNDS: Case = Case {
     worked: CHANGE,
     bound: 3,
     nodes: 0,
@@ -114,6 +128,29 @@ fn tells<R: Threads + Sync>(
         }
     }
     true
+}
+
+/// Whether it is told of the root and of the first session of one node as by keys, then of no fewer nodes and no lower costs, and last
+/// of this cost.
+fn ends_at<R: Threads + Sync>(rt: &R, alloc: Global, case: Case, cost: u64) -> bool {
+    let Some((told, _answer)) = watched(rt, alloc, case, 2, 1) else {
+        return false;
+    };
+    let mut before = (0, 0);
+    for note in &told {
+        if note.0 < before.0 || note.1 < before.1 {
+            return false;
+        }
+        before = *note;
+    }
+    told.first() == Some(&(0, 2)) && told.get(1) == Some(&(1, 3)) && before.1 == cost
+}
+
+#[test]
+fn by_bounds_up_to_the_cost(rt: HostRuntime) {
+    let alloc = rt.alloc();
+    assert!(rt; ends_at(&rt, alloc, SOLVED_BY_BOUNDS, 4));
+    assert!(rt; ends_at(&rt, alloc, NONE_BY_BOUNDS, 4));
 }
 
 /// Whether a search that is limited to so many nodes gives up with this cost.

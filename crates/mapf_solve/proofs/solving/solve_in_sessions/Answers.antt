@@ -3,12 +3,12 @@ use Rattle.mapf_tree.proofs.GoingOn.{right_out}
 use Rattle.mapf_solve.proofs.GoingOn.{falls, still_open}
 use Rattle.mapf_solve.proofs.solving.solve_in_sessions.Goals as goal
 
-pub loop-preserved : goal.loop-preserved
-loop-preserved g c =
+pub loop-sessions-preserved : goal.loop-sessions-preserved
+loop-sessions-preserved g c =
     still_open g.P.OneProblem.problem _ _ c.session-further.result.0.search _ c.session-further.ensures (c.in-Ok-Working.is ∙ ap (λ x. Ok x) (rw c.in-Ok-Working.is at c.in-Ok-Working.field-0-is))
 
-pub loop-smaller : goal.loop-smaller
-loop-smaller g c =
+pub loop-sessions-smaller : goal.loop-sessions-smaller
+loop-sessions-smaller g c =
     falls g.P.OneProblem.problem _ _ c.session-further.result.0.search _ c.args.means.now.paced c.session-further.ensures (c.in-Ok-Working.is ∙ ap (λ x. Ok x) (rw c.in-Ok-Working.is at c.in-Ok-Working.field-0-is))
 
 pub returns : goal.returns

@@ -2,8 +2,8 @@ use Rattle.std.proofs.Common.{◌≡◌, Ok, None}
 use Rattle.mapf_tree.proofs.Remaining.{remaining}
 use Rattle.mapf_solve.proofs.solving.solve_in_sessions.Given as goal
 
-abbrev pub invariant-loop : goal.invariant-loop
-invariant-loop g l = l.sessions.search.outcome ≡ Ok None
+abbrev pub invariant-loop-sessions : goal.invariant-loop-sessions
+invariant-loop-sessions g l = l.sessions.search.outcome ≡ Ok None
 
-abbrev pub decreases-loop : goal.decreases-loop
-decreases-loop g l = remaining g.P.OneProblem.problem l.sessions.search.last
+abbrev pub decreases-loop-sessions : goal.decreases-loop-sessions
+decreases-loop-sessions g l = remaining g.P.OneProblem.problem l.sessions.search.last
