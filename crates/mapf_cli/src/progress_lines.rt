@@ -1,7 +1,7 @@
 //! The lines that say how far a search has come.
 
 use mapf_plan::{Sink, write_whole};
-use mapf_solve::{Watch};
+use mapf_solve::Watch;
 use mapf_tree::Problem;
 use std::alloc::Global;
 use std::time::{Clock, Duration, Instant};

@@ -111,6 +111,9 @@ fn a_job_that_a_closed_board_gives_back_is_posted_again(rt: HostRuntime) {
     assert_eq!(rt; gate.others.load(Ordering::SeqCst), 0);
 }
 
+/// A limit on nodes that is not reached: with one all sessions go by keys.
+const UNREACHED: u64 = 1_000;
+
 /// The answer to the change of places at a cost of at most 3, of sessions of one node with a worker that takes no turn.
 fn paced_one_by_one<R: Threads + Sync>(rt: &R, alloc: Global, gate: &Counts) -> Option<Answer> {
     let pace = Pace {
@@ -118,6 +121,6 @@ fn paced_one_by_one<R: Threads + Sync>(rt: &R, alloc: Global, gate: &Counts) -> 
         session_nodes: 1,
     };
     let instance = instance_of(alloc, CHANGE.map, CHANGE.scen, CHANGE.agents).ok()?;
-    let problem = Problem::new(alloc, instance, 3).ok()?;
+    let problem = Problem::new(alloc, instance, 3).ok()?.with_nodes(UNREACHED);
     solve_paced(rt, alloc, &problem, 1, pace, gate, &AlwaysGrants).ok()
 }

@@ -63,6 +63,9 @@ impl Supply for Held {
     }
 }
 
+/// A limit on nodes that is not reached: with one all sessions go by keys.
+const UNREACHED: u64 = 1_000;
+
 /// The answer to the change of places at a cost of at most 3, of sessions of one node with a worker that goes along three slots.
 fn changed<R: Threads + Sync>(rt: &R, alloc: Global, held: &Held) -> Option<Answer> {
     let pace = Pace {
@@ -70,7 +73,7 @@ fn changed<R: Threads + Sync>(rt: &R, alloc: Global, held: &Held) -> Option<Answ
         session_nodes: 1,
     };
     let instance = instance_of(alloc, CHANGE.map, CHANGE.scen, CHANGE.agents).ok()?;
-    let problem = Problem::new(alloc, instance, 3).ok()?;
+    let problem = Problem::new(alloc, instance, 3).ok()?.with_nodes(UNREACHED);
     solve_paced(rt, alloc, &problem, 1, pace, held, held).ok()
 }
 

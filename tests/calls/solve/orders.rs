@@ -81,6 +81,9 @@ fn solved_alone<R: Threads + Sync>(
     solve_paced(rt, alloc, problem, workers, pace, gate, &AlwaysGrants).ok()
 }
 
+/// A limit on nodes that is not reached: with one all sessions go by keys.
+const UNREACHED: u64 = 1_000;
+
 /// Whether the sides' jobs of the change of places have these numbers at their nodes' turns, in sessions of so many nodes.
 fn changes_in_order<R: Threads + Sync>(
     rt: &R,
@@ -88,9 +91,10 @@ fn changes_in_order<R: Threads + Sync>(
     session_nodes: u64,
     numbers: &[u64],
 ) -> bool {
-    let Some(problem) = problem_of(alloc, &CHANGE, 4) else {
+    let Some(whole) = problem_of(alloc, &CHANGE, 4) else {
         return false;
     };
+    let problem = whole.with_nodes(UNREACHED);
     let gate = InOrder::new(numbers);
     let answer = solved_alone(rt, alloc, &problem, 1, session_nodes, &gate);
     matches!(answer, Some(Answer::Plan { stated: 4, .. }))
