@@ -240,7 +240,7 @@ class Options(WithStandIn):
 class Memory(Folder):
     def test_a_limit_on_memory(self):
         scen = os.path.join(EXAMPLES, "grid-32-32.scen")
-        words = ("series", "--maps", EXAMPLES, "--scens", scen, "--from", 40, "--to", 40, "--seconds", 600)
+        words = ("series", "--maps", EXAMPLES, "--scens", scen, "--from", 40, "--to", 40, "--seconds", 600, "--nodes", 1000000)
         self.assertEqual(command(*words, "--memory", 32, "--csv", self.csv), (0, "", ""))
         (row,) = rows_of(self.csv)
         self.assertEqual(row[:5], ["grid-32-32.map", "grid-32-32.scen", "40", "out_of_memory", ""])
