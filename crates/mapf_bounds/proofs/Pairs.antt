@@ -1,26 +1,24 @@
 -- What is known of pairs of agents at a node of the tree.
-use Rattle.std.proofs.Common.{◌≡◌, ℕ, ◌+◌, ◌<◌, ◌≤◌, List, [], ◌∷◌, length, get_or, subst, sym, ap, ◌∙◌, arith}
-use Rattle.mapf_plan.specs.Path.{cost}
+use Rattle.std.proofs.Common.{ℕ, ◌+◌, ◌<◌, ◌≤◌, List, [], ◌∷◌, length, get_or, subst, sym, ap, ◌∙◌, arith}
 use Rattle.mapf_plan.specs.Plan.{IsValid, path_of, plan_cost}
 use Rattle.mapf_low.specs.declared.constraint.Constraint.{Constraint}
 use Rattle.mapf_low.specs.Constraints.{Obeys}
 use Rattle.mapf_low.proofs.Sets.{obeys_set}
 use Rattle.mapf_tree.specs.Problem.{Problem}
-use Rattle.mapf_tree.specs.Tree.{PlannedNode, agent_on, constraint_on, constraints_of}
+use Rattle.mapf_tree.specs.Tree.{IsAllowedFor, PlannedNode, agent_on, constraint_on, constraints_of}
 use Rattle.mapf_tree.specs.Laws.{ObeysNode}
 use Rattle.mapf_tree.specs.Nodes.{Node, StandsFor, IsSameSet}
 use Rattle.mapf_tree.specs.Search.{IsChild}
 use Rattle.mapf_tree.proofs.SearchLaws.{obeys_fewer}
 use Rattle.mapf_optimum.specs.declared.pair_bound.PairBound.{PairBound}
-use Rattle.mapf_optimum.specs.Dependence.{Agent, CostMore, IsPathOf, dearer}
 use Rattle.mapf_optimum.specs.FreeTree.{IsCandidate, IsLeastPathOf, IsPairBound, HaveLeastPaths}
 use Rattle.mapf_optimum.specs.Pairs.{HaveSurplus}
 use Rattle.mapf_optimum.proofs.LeastPaths.{own_is_least}
-use Rattle.mapf_optimum.proofs.PairBounds.{agent_in, pair_costs_more}
+use Rattle.mapf_optimum.proofs.TwoAgents.{together_bounds}
 use Rattle.mapf_optimum.proofs.Choosing.{all_map, surplus_raises}
 use Rattle.mapf_bounds.specs.declared.pair_costs.AgentPair.{AgentPair}
 use Rattle.mapf_bounds.specs.Below.{IsCostBound}
-use Rattle.mapf_bounds.specs.Pairs.{AreKnownAt, IsExtraOf, one_of, other_of}
+use Rattle.mapf_bounds.specs.Pairs.{AreKnownAt, DoCost}
 use Rattle.mapf_bounds.proofs.Subtrees.{plans_bound_cost}
 
 -- a set that holds the same holds the same the other way round
@@ -71,27 +69,20 @@ module _ (problem : Problem) (n k : Node) (x y : PlannedNode) (above : StandsFor
       all_map (IsPairBound problem n.constraints) (IsPairBound problem k.constraints)
       (λ p b. record { two = b.two; inside = b.inside; least = λ plan candidate. b.least plan (still_candidate plan candidate) }) pairs known
 
--- a pair costs more, whatever the order of its constraints
-more_by_sets : (problem : Problem) (one other first second : Agent) (extra : ℕ) →
-    ((e : ℕ) (p : List ℕ) → IsPathOf (dearer one e) p → IsPathOf (dearer first e) p) → ((e : ℕ) (p : List ℕ) → IsPathOf (dearer other e) p → IsPathOf (dearer second e) p) →
-    CostMore problem.rule first second extra → CostMore problem.rule one other extra
-more_by_sets problem one other first second extra f g more a b l p q hp hq = more a b l p q (f a p hp) (g b q hq)
-
--- what two agents cost more at a node is a bound for the pair
-pub pair_is_known : (problem : Problem) (n : Node) (m : PlannedNode) (p : AgentPair) (extra : ℕ) (pair : PairBound) → StandsFor problem n m →
-    p.first < p.second → p.second < length problem.inst.starts → IsSameSet p.first_set (get_or n.constraints p.first []) → IsSameSet p.second_set (get_or n.constraints p.second []) →
-    p.first_cost ≡ cost (path_of n.plan p.first) → p.second_cost ≡ cost (path_of n.plan p.second) → IsExtraOf problem p extra →
-    pair ≡ record { first = p.first; second = p.second; least = p.first_cost + p.second_cost + extra } → AreKnownAt problem n (pair ∷ [])
-pair_is_known problem n m p extra pair stands l inside first second c d more is = (subst (IsPairBound problem n.constraints) (sym is) bound, tt)
+-- what two agents cost together at a node is a bound for the pair, whatever the order of their constraints
+pub pair_is_known : (problem : Problem) (n : Node) (p : AgentPair) (least : ℕ) → p.first < p.second → p.second < length problem.inst.starts → IsSameSet p.first_set (get_or n.constraints p.first []) →
+    IsSameSet p.second_set (get_or n.constraints p.second []) → DoCost problem p least → AreKnownAt problem n (record { first = p.first; second = p.second; least = least } ∷ [])
+pair_is_known problem n p least l inside first second costs =
+    (together_bounds problem n.constraints p.first p.second least l inside (λ one other may. costs one other (record { first_allowed = in_order p.first p.first_set first one may.first_allowed; second_allowed = in_order p.second p.second_set second other may.second_allowed; no_conflict = may.no_conflict })), tt)
   where
-    one : (e : ℕ) (q : List ℕ) → IsPathOf (dearer (agent_in problem n.constraints n.plan p.first) e) q → IsPathOf (dearer (one_of problem p) e) q
-    one e q h = record { path = h.path; costs = omega (arith, h.costs, c); obeys = obeys_set (get_or n.constraints p.first []) p.first_set q (turned p.first_set (get_or n.constraints p.first []) first) h.obeys }
+    in_order : (i : ℕ) (set : List Constraint) → IsSameSet set (get_or n.constraints i []) → (path : List ℕ) → IsAllowedFor problem i (get_or n.constraints i []) path → IsAllowedFor problem i set path
+    in_order i set same path may = record { path = may.path; within = may.within; obeys = obeys_set (get_or n.constraints i []) set path (turned set (get_or n.constraints i []) same) may.obeys }
 
-    other : (e : ℕ) (q : List ℕ) → IsPathOf (dearer (agent_in problem n.constraints n.plan p.second) e) q → IsPathOf (dearer (other_of problem p) e) q
-    other e q h = record { path = h.path; costs = omega (arith, h.costs, d); obeys = obeys_set (get_or n.constraints p.second []) p.second_set q (turned p.second_set (get_or n.constraints p.second []) second) h.obeys }
-
-    bound : IsPairBound problem n.constraints (record { first = p.first; second = p.second; least = p.first_cost + p.second_cost + extra })
-    bound =
-        subst (λ k. IsPairBound problem n.constraints (record { first = p.first; second = p.second; least = k + extra })) (omega (arith, c, d))
-        (pair_costs_more problem n.constraints n.plan p.first p.second extra (stands_least problem n m stands) l inside
-        (more_by_sets problem (agent_in problem n.constraints n.plan p.first) (agent_in problem n.constraints n.plan p.second) (one_of problem p) (other_of problem p) extra one other more))
+-- an agent's path in a node's plan is a least one under its set, in whatever order
+pub least_in_order : (problem : Problem) (n : Node) (m : PlannedNode) (i : ℕ) (set : List Constraint) → StandsFor problem n m → i < length problem.inst.starts → IsSameSet set (get_or n.constraints i []) →
+    IsLeastPathOf problem i set (path_of n.plan i)
+least_in_order problem n m i set stands h same =
+    let is = (stands_least problem n m stands).each i h in record {
+      allowed = record { path = is.allowed.path; within = is.allowed.within; obeys = obeys_set (get_or n.constraints i []) set (path_of n.plan i) (turned set (get_or n.constraints i []) same) is.allowed.obeys };
+      least = λ other may. is.least other (record { path = may.path; within = may.within; obeys = obeys_set set (get_or n.constraints i []) other same may.obeys });
+    }

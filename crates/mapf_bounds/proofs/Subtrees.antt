@@ -123,7 +123,7 @@ module _ (problem : Problem) (n : Node) (least : ℕ) (below_all : IsBelowAll pr
 -- and by a bound that is known of its parent, where that is above its own
 pub child_key_of : (problem : Problem) (n : Node) (x : PlannedNode) (known b : Bound) → IsBounded problem x known →
     ((m : PlannedNode) → StandsFor problem n m → IsChild problem x m) → IsRaised (node_bound n) known b → IsKeyOf problem (bound_key b n.name) n
-child_key_of problem n x known b bounded is (inl e) = subst (λ c. IsKeyOf problem (bound_key c n.name) n) (sym e) (own_key_of problem n)
+child_key_of problem n x known b bounded is (inl (e, _)) = subst (λ c. IsKeyOf problem (bound_key c n.name) n) (sym e) (own_key_of problem n)
 child_key_of problem n x known b bounded is (inr (e, above)) = subst (λ c. IsKeyOf problem (bound_key c n.name) n) (sym e) key_of
   where
     below : (m : PlannedNode) → StandsFor problem n m → IsBelow problem x m

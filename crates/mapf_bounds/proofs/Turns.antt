@@ -244,7 +244,7 @@ module _ (problem : Problem) (most : ℕ) where
 
   -- a raised bound is one
   pub raised_bound : (n : Node) (known found b : Bound) → IsBoundOf problem n known → IsBoundOf problem n found → IsRaised known found b → IsBoundOf problem n b
-  raised_bound n known found b is other (inl e) = subst (IsBoundOf problem n) (sym e) is
+  raised_bound n known found b is other (inl e) = subst (IsBoundOf problem n) (sym e.0) is
   raised_bound n known found b is other (inr e) = subst (IsBoundOf problem n) (sym e.0) other
 
 -- an answer as it is stated is the answer where there is no limit on nodes

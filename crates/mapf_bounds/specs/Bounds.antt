@@ -27,7 +27,7 @@ IsAbove a b = (b.cost < a.cost) ⊎ ((b.cost ≡ a.cost) × (b.depth < a.depth))
 
 -- the other one where that is above it, else itself
 abbrev pub IsRaised : Bound → Bound → Bound → Type 0
-IsRaised own other result = (result ≡ own) ⊎ ((result ≡ other) × IsAbove other own)
+IsRaised own other result = ((result ≡ own) × (¬ IsAbove other own)) ⊎ ((result ≡ other) × IsAbove other own)
 
 -- a problem, and what solutions cost at most that are looked for
 pub record Bounding : Type 0 where

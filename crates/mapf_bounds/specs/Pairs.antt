@@ -1,5 +1,5 @@
 -- What pairs of agents say of all that lies below a node of the constraint tree (Li et al. 2019: weighted dependency graphs).
-use Rattle.std.specs.Prelude.{◌≡◌, ℕ, ◌<◌, ◌≤◌, List, length, slice_index}
+use Rattle.std.specs.Prelude.{◌≡◌, ℕ, ◌<◌, List, length}
 use Rattle.std.specs.List.{AllByRecursion}
 use Rattle.mapf_plan.specs.Collisions.{DoCollide}
 use Rattle.mapf_plan.specs.Plan.{path_of}
@@ -7,12 +7,11 @@ use Rattle.mapf_plan.specs.declared.rule.Rule.{Rule}
 use Rattle.mapf_tree.specs.Problem.{Problem}
 use Rattle.mapf_tree.specs.Nodes.{Node}
 use Rattle.mapf_optimum.specs.declared.pair_bound.PairBound.{PairBound}
-use Rattle.mapf_plan.specs.declared.answer.TheConstants.{MOST_BOUND}
 use Rattle.mapf_bounds.specs.declared.pair_costs.AgentPair.{AgentPair}
 use Rattle.mapf_bounds.specs.declared.pair_costs.KnownPair.{KnownPair}
-use Rattle.mapf_optimum.specs.Dependence.{Agent, agent_of, CostMore}
-use Rattle.mapf_optimum.specs.FreeTree.{IsPairBound}
+use Rattle.mapf_optimum.specs.FreeTree.{IsLeastPathOf, IsPairBound}
 use Rattle.mapf_optimum.specs.Pairs.{AreDisjoint}
+use Rattle.mapf_optimum.specs.TwoAgents.{CostTogether}
 
 -- the two agents of the pair collide at some time
 pub record IsCollidingPair (rule : Rule) (plan : List (List ℕ)) (pair : PairBound) : Type 0 where
@@ -30,24 +29,17 @@ HaveCollisions rule plan count =
 abbrev pub AreKnownAt : Problem → Node → List PairBound → Type 0
 AreKnownAt problem node = AllByRecursion (IsPairBound problem node.constraints)
 
--- two agents, what they are forbidden, and what their own paths cost
-abbrev pub one_of : Problem → AgentPair → Agent
-one_of problem p = agent_of problem.inst.grid p.first_set (slice_index problem.inst.starts p.first) (slice_index problem.inst.goals p.first) p.first_cost
+-- these are least paths of the two agents under what they are forbidden
+pub record HaveLeast (problem : Problem) (pair : AgentPair) (p q : List ℕ) : Type 0 where
+  pub first_inside : pair.first < length problem.inst.starts
+  pub second_inside : pair.second < length problem.inst.starts
+  pub first_least : IsLeastPathOf problem pair.first pair.first_set p
+  pub second_least : IsLeastPathOf problem pair.second pair.second_set q
 
-abbrev pub other_of : Problem → AgentPair → Agent
-other_of problem p = agent_of problem.inst.grid p.second_set (slice_index problem.inst.starts p.second) (slice_index problem.inst.goals p.second) p.second_cost
-
--- they are agents of the problem, at costs that a path may have
-pub record IsPairIn (problem : Problem) (p : AgentPair) : Type 0 where
-  pub first : p.first < length problem.inst.starts
-  pub second : p.second < length problem.inst.starts
-  pub first_cost : p.first_cost ≤ MOST_BOUND
-  pub second_cost : p.second_cost ≤ MOST_BOUND
-
--- if they don't collide, they cost together at least so much more
-abbrev pub IsExtraOf : Problem → AgentPair → ℕ → Type 0
-IsExtraOf problem p = CostMore problem.rule (one_of problem p) (other_of problem p)
+-- they cost together at least so much
+abbrev pub DoCost : Problem → AgentPair → ℕ → Type 0
+DoCost problem p = CostTogether problem p.first p.second p.first_set p.second_set
 
 -- what is known of a pair is so
 abbrev pub IsKnownPair : Problem → KnownPair → Type 0
-IsKnownPair problem k = IsExtraOf problem k.pair k.extra
+IsKnownPair problem k = DoCost problem k.pair k.least

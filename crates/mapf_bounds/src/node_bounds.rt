@@ -58,15 +58,19 @@ pub(crate) struct NodeBound {
 
 impl<'p> NodeBounds<'p> {
     /// Nothing is known yet.
-    pub(crate) fn new(alloc: Global, problem: &'p Problem, most: u64) -> NodeBounds<'p>
-        ensures { result ≡ record { problem = problem.now; most = most } }
+    pub(crate) fn new(
+        alloc: Global,
+        problem: &'p Problem,
+        most: u64,
+    ) -> Result<NodeBounds<'p>, NoMemory>
+        ensures { IfOk result (λ bounds. bounds ≡ record { problem = problem.now; most = most }) }
     {
-        NodeBounds {
+        Ok(NodeBounds {
             alloc,
             problem,
-            costs: PairCosts::new(alloc, problem),
+            costs: PairCosts::new(alloc, problem)?,
             most,
-        }
+        })
     }
 
     /// Where memory is from.
@@ -174,20 +178,17 @@ impl<'p> NodeBounds<'p> {
             return Ok(None);
         }
         let (one, other) = (current.path(first), current.path(second));
-        let (first_cost, second_cost) = (one.cost(), other.cost());
         let pair = AgentPair {
             first,
             second,
             first_set: node.constraints(self.alloc, first)?,
             second_set: node.constraints(self.alloc, second)?,
-            first_cost,
-            second_cost,
         };
-        let extra = self.costs.extra(pair, (one, other), most)?;
-        if extra == 0 {
+        let alone = u64::from(one.cost()) + u64::from(other.cost());
+        let least = self.costs.least(pair, one, other, alone + u64::from(most))?;
+        if least <= alone {
             return Ok(None);
         }
-        let least = u64::from(first_cost) + u64::from(second_cost) + u64::from(extra);
         Ok(Some(PairBound {
             first,
             second,

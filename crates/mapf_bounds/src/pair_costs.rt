@@ -1,49 +1,43 @@
-//! How much more pairs of agents cost than their own paths, by what they are forbidden: each is found once.
+//! What pairs of agents cost together, by what they are forbidden: each is found once.
 
-ghost use Rattle.std.specs.Prelude.{◌≡◌, ◌<◌, ◌≤◌, IfOk, IfSome, IsTrue};
-ghost use Rattle.mapf_plan.specs.declared.answer.TheConstants.{MOST_BOUND};
-ghost use Rattle.mapf_bounds.specs.Pairs.{IsExtraOf, IsPairIn};
+ghost use Rattle.std.specs.Prelude.{◌≡◌, IfOk, IfSome, IsTrue};
+ghost use Rattle.mapf_bounds.specs.Pairs.{DoCost, HaveLeast};
 
 use mapf_grid::NoMemory;
 use mapf_low::{Constraint, Constraints};
-use mapf_optimum::{Effort, agent_at, extra_cost};
+use mapf_optimum::{AgentInNode, LowLevel, cost_together};
 use mapf_plan::Path;
 use mapf_tree::Problem;
 use std::alloc::Global;
 use std::collections::HashMap;
 use std::marker::Model;
 
-/// How many pairs of cells are looked at for a pair of agents, at most.
-const BUDGET: usize = 20_000;
-
 /// 2^64 by the golden ratio.
 const MIXER: u64 = 11_400_714_819_323_198_485;
 
-/// Two agents, what they are forbidden, and what their own paths cost.
+/// Two agents, and what they are forbidden.
 #[derive(Drop)]
 pub(crate) struct AgentPair {
     pub(crate) first: usize,
     pub(crate) second: usize,
     pub(crate) first_set: Constraints,
     pub(crate) second_set: Constraints,
-    pub(crate) first_cost: u32,
-    pub(crate) second_cost: u32,
 }
 
 /// What is known of a pair.
 #[derive(Drop)]
 pub(crate) struct KnownPair {
     pub(crate) pair: AgentPair,
-    /// How much more it costs at least.
-    pub(crate) extra: u32,
+    /// What it costs at least.
+    pub(crate) least: u64,
     /// Up to where that was looked for.
-    most: u32,
+    up_to: u64,
 }
 
 /// What is known of pairs of a problem's agents.
 pub(crate) struct PairCosts<'p> {
     alloc: Global,
-    problem: &'p Problem,
+    low: LowLevel<'p>,
     known: Vec<KnownPair>,
     /// Where a pair is looked for: what is found there is compared.
     places: HashMap<u64, usize>,
@@ -54,7 +48,7 @@ impl<'p> Drop for PairCosts<'p> {
     fn drop(self) {
         let PairCosts {
             alloc: _,
-            problem: _,
+            low: _,
             known: _,
             places: _,
         } = self;
@@ -68,84 +62,94 @@ impl<'p> Model for PairCosts<'p> {
 
     ghost Value = { Problem };
 
-    ghost view = { λ c. c.problem.now };
+    ghost view = { λ c. c.low };
 
-    ghost invariant = { λ c. AllByRecursion (IsKnownPair c.problem.now) c.known.items };
+    ghost invariant = { λ c. AllByRecursion (IsKnownPair c.low) c.known.items };
 }
 
 impl<'p> PairCosts<'p> {
     /// Nothing is known.
-    pub(crate) fn new(alloc: Global, problem: &'p Problem) -> PairCosts<'p>
-        ensures { result ≡ problem.now }
+    pub(crate) fn new(alloc: Global, problem: &'p Problem) -> Result<PairCosts<'p>, NoMemory>
+        ensures { IfOk result (λ costs. costs ≡ problem.now) }
     {
-        PairCosts {
+        Ok(PairCosts {
             alloc,
-            problem,
+            low: LowLevel::new(alloc, problem)?,
             known: Vec::new(alloc),
             places: HashMap::new(alloc),
-        }
+        })
     }
 
-    /// How much more than their own paths two agents cost together at least, looked for up to `most`. Their own paths save time.
-    pub(crate) fn extra(
+    /// What two agents cost together at least, looked for up to so much, from least paths of them.
+    pub(crate) fn least(
         &mut self,
         pair: AgentPair,
-        paths: (&Path, &Path),
-        most: u32,
-    ) -> Result<u32, NoMemory>
-        requires { IsPairIn self.old pair }
+        one: &Path,
+        other: &Path,
+        up_to: u64,
+    ) -> Result<u64, NoMemory>
+        requires { HaveLeast self.old pair one.now other.now }
         ensures same { self.new ≡ self.old }
-        ensures extra { IfOk result (IsExtraOf self.old pair) }
+        ensures least { IfOk result (DoCost self.old pair) }
     {
-        if let Some(extra) = self.find(&pair, most) {
-            return Ok(extra);
+        if let Some(least) = self.find(&pair, up_to) {
+            return Ok(least);
         }
-        let extra = self.look_for(&pair, paths, most)?;
-        self.learn(pair, extra, most)?;
-        Ok(extra)
+        let least = self.look_for(&pair, one, other, up_to)?;
+        self.learn(pair, least, up_to)?;
+        Ok(least)
     }
 
-    /// What is known of a pair, looked for as far as `most`.
-    fn find(&self, pair: &AgentPair, most: u32) -> Option<u32>
-        ensures { IfSome result (IsExtraOf self.now pair.now) }
+    /// What is known of a pair, looked for up to so much.
+    fn find(&self, pair: &AgentPair, up_to: u64) -> Option<u64>
+        ensures { IfSome result (DoCost self.now pair.now) }
     {
         let place = *self.places.get(&key_of(pair))?;
         if place >= self.known.len() {
             return None;
         }
         let known = &self.known[place];
-        if known.extra == known.most && known.most < most {
+        if known.least >= known.up_to && known.up_to < up_to {
             return None;
         }
         if !is_same(&known.pair, pair) {
             return None;
         }
-        Some(known.extra)
+        Some(known.least)
     }
 
-    /// How much more than their own paths two agents cost together at least.
-    fn look_for(&self, pair: &AgentPair, paths: (&Path, &Path), most: u32) -> Result<u32, NoMemory>
-        requires { IsPairIn self.now pair.now }
-        ensures { IfOk result (IsExtraOf self.now pair.now) }
+    /// What two agents cost together at least.
+    fn look_for(
+        &self,
+        pair: &AgentPair,
+        one: &Path,
+        other: &Path,
+        up_to: u64,
+    ) -> Result<u64, NoMemory>
+        requires { HaveLeast self.now pair.now one.now other.now }
+        ensures { IfOk result (DoCost self.now pair.now) }
     {
-        let problem = self.problem;
-        let effort = Effort {
-            most_extra: most,
-            budget: BUDGET,
+        let one = AgentInNode {
+            agent: pair.first,
+            constraints: &pair.first_set,
+            path: one,
         };
-        let one = agent_at(problem, pair.first, &pair.first_set, pair.first_cost);
-        let other = agent_at(problem, pair.second, &pair.second_set, pair.second_cost);
-        extra_cost(self.alloc, problem.rule(), &one, &other, paths, effort)
+        let other = AgentInNode {
+            agent: pair.second,
+            constraints: &pair.second_set,
+            path: other,
+        };
+        cost_together(self.alloc, &self.low, &one, &other, up_to)
     }
 
-    /// Remembers how much more a pair costs at least, which was looked for up to `most`.
-    fn learn(&mut self, pair: AgentPair, extra: u32, most: u32) -> Result<(), NoMemory>
-        requires { IsExtraOf self.old pair extra }
+    /// Remembers what a pair costs at least, which was looked for up to so much.
+    fn learn(&mut self, pair: AgentPair, least: u64, up_to: u64) -> Result<(), NoMemory>
+        requires { DoCost self.old pair least }
         ensures { self.new ≡ self.old }
     {
         let key = key_of(&pair);
         let number = self.known.len();
-        self.known.push(KnownPair { pair, extra, most })?;
+        self.known.push(KnownPair { pair, least, up_to })?;
         self.places.insert(key, number)?;
         Ok(())
     }
@@ -157,8 +161,6 @@ fn is_same(one: &AgentPair, other: &AgentPair) -> bool
 {
     one.first == other.first
         && one.second == other.second
-        && one.first_cost == other.first_cost
-        && one.second_cost == other.second_cost
         && is_same_set(&one.first_set, &other.first_set)
         && is_same_set(&one.second_set, &other.second_set)
 }

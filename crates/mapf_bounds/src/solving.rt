@@ -69,7 +69,7 @@ pub fn finish_by_bounds<W: Watch>(
         return Ok(Answer::None { bound });
     };
     let waiting = take_over(alloc, range, open_list)?;
-    let bounds = NodeBounds::new(alloc, problem, range.most);
+    let bounds = NodeBounds::new(alloc, problem, range.most)?;
     search_by_bounds(waiting, paths, bounds, nodes, watch)
 }
 

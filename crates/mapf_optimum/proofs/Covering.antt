@@ -11,8 +11,9 @@ use Rattle.mapf_low.specs.declared.constraint.Constraint.{Constraint}
 use Rattle.mapf_tree.specs.declared.tree.side.Side.{Side}
 use Rattle.mapf_tree.specs.declared.tree.side.Side.TheVariants.{Left, Right}
 use Rattle.mapf_tree.specs.Problem.{Problem}
-use Rattle.mapf_optimum.specs.FreeTree.{FreeNode, IsFreeNode, IsCandidate}
+use Rattle.mapf_optimum.specs.FreeTree.{FreeNode, IsFreeNode, IsCandidate, IsLowerBoundOf}
 use Rattle.mapf_optimum.specs.FreeSearch.{AreSideSets, IsSideOf, IsBounded, IsTaken, Expands}
+use Rattle.mapf_optimum.specs.TwoAgents.{IsUnderWayFrom}
 use Rattle.mapf_optimum.specs.Laws.{ExpansionCovers, BoundingCovers, LeastIsOptimum, LeastLabelIsBelow, NothingWaits}
 use Rattle.mapf_optimum.proofs.SideSets.{side_sets}
 use Rattle.mapf_optimum.proofs.Sides.{has_a_side}
@@ -62,20 +63,25 @@ module _ (problem : Problem) (old new : List FreeNode) (e : Expands problem old 
       (λ h. let w = r.at_side h in (w.0, into w.0 (Contains-append_left (option_to_list e.sides.right) _ w.0 w.1), w.2))
       (has_a_side problem e.node e.conflict l.sets r.sets plan is e.choice l.are r.are k)
 
--- a candidate of the taken node is one of its sides, and one of another node is still there
-pub expansion_covers : ExpansionCovers
-expansion_covers problem old new way e =
-    record { free = after problem old new e (IsFreeNode problem) way.free (λ s found is child same. let k = subst (IsSideOf problem e.node e.conflict s) same is in k.0); covers = covers }
-  where
-    node : IsFreeNode problem e.node
-    node = All-contains (IsFreeNode problem) old e.node way.free (taken_was_there old e.rest e.node e.taken)
+-- all that wait then are nodes, if all that waited were
+module _ (problem : Problem) (old new : List FreeNode) (free : All (IsFreeNode problem) old) (e : Expands problem old new) where
+  free_then : All (IsFreeNode problem) new
+  free_then = after problem old new e (IsFreeNode problem) free (λ s found is child same. let k = subst (IsSideOf problem e.node e.conflict s) same is in k.0)
 
-    covers : (plan : List (List ℕ)) → IsValid problem.rule problem.inst plan → plan_cost plan ≤ problem.bound → (n : FreeNode) × Contains new n × IsCandidate problem n.sets plan
-    covers plan valid within =
-        let w = way.covers plan valid within in
-        ⊎_elim (λ same. of_taken problem old new e node plan (subst (λ n. IsCandidate problem n.sets plan) (sym same) w.2))
-        (λ i. (w.0, into problem old new e w.0 (Contains-append_right (option_to_list e.sides.right) _ w.0 (Contains-append_right (option_to_list e.sides.left) e.rest w.0 i)), w.2))
-        (here_or_there e.rest (Contains-permutation old (e.node ∷ e.rest) w.0 e.taken.0 w.1))
+  -- a candidate of the taken node is one of its sides, and one of another node is still there
+  still_there : (plan : List (List ℕ)) → (n : FreeNode) × Contains old n × IsCandidate problem n.sets plan → (n : FreeNode) × Contains new n × IsCandidate problem n.sets plan
+  still_there plan w =
+      ⊎_elim
+      (λ same. of_taken problem old new e (All-contains (IsFreeNode problem) old e.node free (taken_was_there old e.rest e.node e.taken)) plan (subst (λ n. IsCandidate problem n.sets plan) (sym same) w.2))
+      (λ i. (w.0, into problem old new e w.0 (Contains-append_right (option_to_list e.sides.right) _ w.0 (Contains-append_right (option_to_list e.sides.left) e.rest w.0 i)), w.2))
+      (here_or_there e.rest (Contains-permutation old (e.node ∷ e.rest) w.0 e.taken.0 w.1))
+
+pub expansion_covers : ExpansionCovers
+expansion_covers problem old new way e = record { free = free_then problem old new way.free e; covers = λ plan valid within. still_there problem old new way.free e plan (way.covers plan valid within) }
+
+-- the same among the candidates under some sets
+pub expansion_covers_from : (problem : Problem) (sets : List (List Constraint)) (old new : List FreeNode) → IsUnderWayFrom problem sets old → Expands problem old new → IsUnderWayFrom problem sets new
+expansion_covers_from problem sets old new way e = record { free = free_then problem old new way.free e; covers = λ plan candidate. still_there problem old new way.free e plan (way.covers plan candidate) }
 
 -- a candidate of the taken node is one of the bounded node
 pub bounding_covers : BoundingCovers
@@ -94,6 +100,20 @@ bounding_covers problem old new way e = record {
         ⊎_elim (λ same. let f = at_found e.found e.bounded plan (subst (λ n. IsCandidate problem n.sets plan) (sym same) w.2) in (f.0, Contains-permutation _ new f.0 e.put (Contains-append_left (option_to_list e.found) e.rest f.0 f.1), f.2))
         (λ i. (w.0, Contains-permutation _ new w.0 e.put (Contains-append_right (option_to_list e.found) e.rest w.0 i), w.2))
         (here_or_there e.rest (Contains-permutation old (e.node ∷ e.rest) w.0 e.taken.0 w.1))
+
+-- no candidate costs less than the least label
+pub least_label_from : (problem : Problem) (sets : List (List Constraint)) (waiting rest : List FreeNode) (x : FreeNode) → IsUnderWayFrom problem sets waiting → IsTaken waiting (Some x) rest → IsLowerBoundOf problem sets x.label
+least_label_from problem sets waiting rest x way taken plan candidate =
+    let w = way.covers plan candidate in
+    omega (arith, All-contains (λ y. x.label ≤ y.label) waiting w.0 taken.1 w.1, (All-contains (IsFreeNode problem) waiting w.0 way.free w.1).below plan w.2)
+
+-- where nothing waits there is no candidate, and each number is a lower bound
+pub none_waits_from : (problem : Problem) (sets : List (List Constraint)) (k : ℕ) → IsUnderWayFrom problem sets [] → IsLowerBoundOf problem sets k
+none_waits_from problem sets k way plan candidate = absurd (nowhere (way.covers plan candidate).1)
+
+-- a node that waits is a node
+pub free_from : (problem : Problem) (sets : List (List Constraint)) (waiting rest : List FreeNode) (x : FreeNode) → IsUnderWayFrom problem sets waiting → IsTaken waiting (Some x) rest → IsFreeNode problem x
+free_from problem sets waiting rest x way taken = All-contains (IsFreeNode problem) waiting x way.free (taken_was_there waiting rest x taken)
 
 -- no valid plan costs less than the least label
 pub least_label_is_below : LeastLabelIsBelow

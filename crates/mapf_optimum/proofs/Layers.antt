@@ -15,7 +15,6 @@ use Rattle.mapf_low.specs.Constraints.{Breaks}
 use Rattle.mapf_low.specs.Walk.{IsWalk}
 use Rattle.mapf_optimum.specs.Dependence.{Agent, IsPathOf, AreDependent}
 use Rattle.mapf_optimum.specs.Steps.{MayGo, MayBothGo, HasPlaces}
-use Rattle.mapf_optimum.proofs.Meetings.{meet_or_never}
 
 -- from each place the rest of the path is a walk to the goal
 rest_walks : (g : Grid) (start goal : ℕ) (p : List ℕ) → IsPath g start goal p → (n t : ℕ) → t + n ≡ cost p → IsWalk g (at p t) goal n
@@ -57,4 +56,4 @@ next_places rule one other time layer next step h p q hp hq never =
 
 -- where a layer has no pair, there are no two such paths on which they never collide
 pub none_left : (rule : Rule) (one other : Agent) (time : ℕ) (layer : List (ℕ × ℕ)) → layer ≡ [] → HasPlaces rule one other time layer → AreDependent rule one other
-none_left rule one other time layer none h p q hp hq = ⊎_elim (λ met. met) (λ never. absurd (nowhere (subst (λ xs. Contains xs (at p time, at q time)) none (h p q hp hq never)))) (meet_or_never rule p q)
+none_left rule one other time layer none h p q hp hq never = nowhere (subst (λ xs. Contains xs (at p time, at q time)) none (h p q hp hq never))

@@ -8,12 +8,10 @@ mod Work
 pub mod Collisions
 mod Adding
 mod Moves
-mod Meetings
 mod KnownMoves
 mod Layers
-pub mod PairBounds
 pub mod Choosing
+pub mod TwoAgents
 mod StartTables
-mod ExtraCosts
 mod Bounding
 pub mod Steps

@@ -1,5 +1,5 @@
 -- Agents that depend on one another: by paths of their costs they collide, whichever such paths they take (Li et al. 2019).
-use Rattle.std.specs.Prelude.{◌≡◌, ℕ, ◌+◌, ◌<◌, List}
+use Rattle.std.specs.Prelude.{◌≡◌, ℕ, List}
 use Rattle.mapf_grid.specs.Grid.{Grid}
 use Rattle.mapf_plan.specs.Path.{cost, IsPath}
 use Rattle.mapf_plan.specs.Collisions.{DoCollide}
@@ -24,18 +24,10 @@ pub record IsPathOf (agent : Agent) (p : List ℕ) : Type 0 where
   pub costs : cost p ≡ agent.cost
   pub obeys : Obeys agent.constraints p
 
--- on any two such paths they collide
-abbrev pub AreDependent : Rule → Agent → Agent → Type 0
-AreDependent rule one other = (p q : List ℕ) → IsPathOf one p → IsPathOf other q → (t : ℕ) × DoCollide rule p q t
-
 -- two agents on these paths never collide
 abbrev pub NeverCollide : Rule → List ℕ → List ℕ → Type 0
 NeverCollide rule p q = (t : ℕ) → ¬ DoCollide rule p q t
 
--- the same agent, whose path costs so much more
-abbrev pub dearer : Agent → ℕ → Agent
-dearer agent more = record agent { cost = agent.cost + more }
-
--- if they don't collide, they cost together at least so much more than now
-abbrev pub CostMore : Rule → Agent → Agent → ℕ → Type 0
-CostMore rule one other extra = (a b : ℕ) → a + b < extra → AreDependent rule (dearer one a) (dearer other b)
+-- on any two such paths they collide
+abbrev pub AreDependent : Rule → Agent → Agent → Type 0
+AreDependent rule one other = (p q : List ℕ) → IsPathOf one p → IsPathOf other q → ¬ NeverCollide rule p q

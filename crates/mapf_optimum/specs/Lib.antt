@@ -5,3 +5,4 @@ pub mod Pairs
 pub mod Laws
 pub mod Dependence
 pub mod Steps
+pub mod TwoAgents

@@ -45,12 +45,12 @@ pub(crate) fn empty_sets(alloc: Global, agents: usize) -> Result<Vec<Constraints
 }
 
 /// The agent as it stands under these constraints, at this cost.
-pub fn agent_at<'a>(
-    problem: &'a Problem,
+pub(crate) fn agent_at<'m, 's>(
+    problem: &'m Problem,
     agent: usize,
-    constraints: &'a Constraints,
+    constraints: &'s Constraints,
     cost: u32,
-) -> Agent<'a>
+) -> Agent<'m, 's>
     requires agent { agent < length problem.now.inst.starts }
     requires cost { cost ≤ MOST_BOUND }
     ensures { result ≡ agent_of problem.now.inst.grid constraints.now (slice_index problem.now.inst.starts agent)

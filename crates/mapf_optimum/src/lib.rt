@@ -6,6 +6,7 @@ mod allowed;
 mod expansion;
 mod guesses;
 pub mod laws;
+mod least_paths;
 mod low_level;
 mod node;
 mod pair_bound;
@@ -16,11 +17,11 @@ mod solving;
 mod waiting;
 mod watch;
 
-pub use agents::agent_at;
+pub use low_level::LowLevel;
 pub use node::FreeNode;
 pub use pair_bound::PairBound;
 pub use pairs::{
-    Agent, Effort, MOST_EXTRA, disjoint_surplus, do_steps_collide, extra_cost, surplus_of, take,
+    AgentInNode, MOST_EXTRA, cost_together, disjoint_surplus, do_steps_collide, surplus_of, take,
 };
 pub use solving::{solve_any, solve_any_from, solve_any_up_to};
 pub use watch::{NoWatch, Watch};

@@ -6,9 +6,10 @@ ghost use Rattle.mapf_plan.specs.declared.answer.TheConstants.{MOST_BOUND};
 ghost use Rattle.mapf_tree.specs.Tree.{IsAllowedFor};
 ghost use Rattle.mapf_optimum.specs.FreeSearch.{IsLeastWithin, HasStartTables};
 
+use crate::least_paths::LeastPaths;
 use mapf_grid::{Instance, NoMemory};
 use mapf_low::{Backwards, Constraints, Distances, Lookup, cheapest_backwards};
-use mapf_plan::Path;
+use mapf_plan::{Path, Rule};
 use mapf_tree::{Problem, own_path};
 use std::alloc::Global;
 use std::marker::Model;
@@ -17,7 +18,7 @@ use std::marker::Model;
 const DEAD_ENDS: usize = 256;
 
 /// A problem with the distances from each agent's start, by which paths are searched backwards.
-pub(crate) struct LowLevel<'p> {
+pub struct LowLevel<'p> {
     problem: &'p Problem,
     from_starts: Vec<Distances>,
 }
@@ -45,7 +46,7 @@ impl<'p> Model for LowLevel<'p> {
 
 impl<'p> LowLevel<'p> {
     /// The tables are made.
-    pub(crate) fn new(alloc: Global, problem: &'p Problem) -> Result<LowLevel<'p>, NoMemory>
+    pub fn new(alloc: Global, problem: &'p Problem) -> Result<LowLevel<'p>, NoMemory>
         ensures { IfOk result (λ low. low ≡ problem.now) }
     {
         let from_starts = distances_from_starts(alloc, problem.instance())?;
@@ -62,35 +63,6 @@ impl<'p> LowLevel<'p> {
         self.problem
     }
 
-    /// A least path of the agent under these constraints, at a cost within the bound, where none that it may take costs less than
-    /// `least`.
-    pub(crate) fn least_path(
-        &self,
-        alloc: Global,
-        agent: usize,
-        constraints: &Constraints,
-        bound: u32,
-        least: u32,
-    ) -> Result<Option<Path>, NoMemory>
-        requires agent { agent < length self.now.inst.starts }
-        requires small { bound ≤ MOST_BOUND }
-        requires least { (path : List ℕ)
-            → IsAllowedFor (record self.now { bound = bound }) agent constraints.now path → least ≤ cost path }
-        ensures { IfOk result (IsLeastWithin self.now bound agent constraints.now) }
-    {
-        let instance = self.problem.instance();
-        let by = Backwards {
-            from_start: &self.from_starts[agent],
-            least,
-            budget: DEAD_ENDS,
-        };
-        let (start, goal) = (instance.start(agent), instance.goal(agent));
-        match cheapest_backwards(alloc, instance.map(), start, goal, constraints, bound, &by)? {
-            Lookup::Known(found) => Ok(found),
-            Lookup::Unknown => own_path(alloc, self.problem, agent, constraints, bound),
-        }
-    }
-
     /// What a least path of the agent costs under these constraints, at a cost within the problem's bound.
     pub(crate) fn cost_under(
         &self,
@@ -103,6 +75,39 @@ impl<'p> LowLevel<'p> {
         }
         let found = self.least_path(alloc, agent, constraints, self.problem.bound(), 0)?;
         Ok(found.map(|path| path.cost()))
+    }
+}
+
+impl<'p> LeastPaths for LowLevel<'p> {
+    ghost problem = { λ p. p };
+
+    fn rule(&self) -> Rule {
+        self.problem.rule()
+    }
+
+    fn bound(&self) -> u32 {
+        self.problem.bound()
+    }
+
+    fn least_path(
+        &self,
+        alloc: Global,
+        agent: usize,
+        constraints: &Constraints,
+        bound: u32,
+        least: u32,
+    ) -> Result<Option<Path>, NoMemory> {
+        let instance = self.problem.instance();
+        let by = Backwards {
+            from_start: &self.from_starts[agent],
+            least,
+            budget: DEAD_ENDS,
+        };
+        let (start, goal) = (instance.start(agent), instance.goal(agent));
+        match cheapest_backwards(alloc, instance.map(), start, goal, constraints, bound, &by)? {
+            Lookup::Known(found) => Ok(found),
+            Lookup::Unknown => own_path(alloc, self.problem, agent, constraints, bound),
+        }
     }
 }
 

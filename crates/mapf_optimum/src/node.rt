@@ -7,12 +7,14 @@ ghost use Rattle.mapf_plan.specs.declared.answer.TheConstants.{MOST_BOUND};
 ghost use Rattle.mapf_tree.specs.Family.{Leaves, AreRootPaths};
 ghost use Rattle.mapf_optimum.specs.FreeTree.{IsFreeNode, IsChoice};
 ghost use Rattle.mapf_optimum.specs.FreeSearch.{IsRootOf, IsSideOf, IsBounded};
+ghost use Rattle.mapf_optimum.specs.TwoAgents.{IsFreshNode};
 
 mod order;
 
 use crate::PairBound;
 use crate::agents::{copy_paths, copy_sets, empty_sets};
 use crate::guesses::{Occupancy, branching_conflict, colliding_pairs};
+use crate::least_paths::LeastPaths;
 use crate::low_level::LowLevel;
 use crate::pair_bounds::{pair_bounds, pairs_without};
 use crate::pairs::disjoint_surplus;
@@ -83,19 +85,27 @@ impl FreeNode {
         // An instance has one agent at least, and at most 1,000.
         let agents = problem.instance().agents();
         let plan = Plan::of(paths);
-        let label = plan.cost();
-        if label > u64::from(problem.bound()) {
+        if plan.cost() > u64::from(problem.bound()) {
             return Ok(None);
         }
-        Ok(Some(FreeNode {
-            sets: empty_sets(alloc, agents)?,
+        let sets = empty_sets(alloc, agents)?;
+        Ok(Some(FreeNode::new(alloc, sets, plan)))
+    }
+
+    /// A node of these sets, with least paths under them: nothing else is known.
+    pub(crate) fn new(alloc: Global, sets: Vec<Constraints>, plan: Plan) -> FreeNode
+        ensures { IsFreshNode sets.items plan result }
+    {
+        let label = plan.cost();
+        FreeNode {
+            sets,
             plan,
             pairs: Vec::new(alloc),
             label,
             collisions: 0,
             is_bounded: false,
             conflicts: Vec::new(alloc),
-        }))
+        }
     }
 
     /// A conflict of the plan, any one up to the bound; none where the plan has no conflict.
@@ -108,21 +118,20 @@ impl FreeNode {
         ensures { IfOk result (λ found.
             MatchOption found (HasNoConflict low.now.rule self.now.plan) (IsChoice low.now self.now.plan)) }
     {
-        let problem = low.problem();
         let guess = branching_conflict(alloc, low, &self.sets, &self.plan, &self.conflicts)?;
         match guess {
             Some(conflict) => Ok(Some(conflict)),
-            None => Ok(self.first_conflict(problem)),
+            None => Ok(self.first_conflict(low)),
         }
     }
 
     /// The first conflict of the plan.
-    fn first_conflict(&self, problem: &Problem) -> Option<Conflict>
-        requires { IsFreeNode problem.now self.now }
-        ensures { MatchOption result (HasNoConflict problem.now.rule self.now.plan)
-            (IsChoice problem.now self.now.plan) }
+    pub(crate) fn first_conflict<L: LeastPaths>(&self, low: &L) -> Option<Conflict>
+        requires { IsFreeNode (L.problem low.now) self.now }
+        ensures { MatchOption result (HasNoConflict (L.problem low.now).rule self.now.plan)
+            (IsChoice (L.problem low.now) self.now.plan) }
     {
-        self.plan.first_conflict_by(problem.rule())
+        self.plan.first_conflict_by(low.rule())
     }
 
     /// What each valid plan costs at least that obeys the sets.
@@ -177,7 +186,7 @@ impl FreeNode {
             conflicts: _,
         } = self;
         let (plan, conflicts) = settled(alloc, low, &sets, &plan, occupancy)?;
-        let pairs = pair_bounds(alloc, problem, &sets, &plan, known, &conflicts)?;
+        let pairs = pair_bounds(alloc, low, &sets, &plan, known, &conflicts)?;
         let surplus = disjoint_surplus(alloc, &plan, &pairs)?;
         let label = label.max(plan.cost().saturating_add(surplus));
         if label > u64::from(problem.bound()) {
@@ -196,16 +205,16 @@ impl FreeNode {
     }
 
     /// The node on this side of a conflict of its plan; none where that has no candidate.
-    pub(crate) fn side(
+    pub(crate) fn side<L: LeastPaths>(
         &self,
         alloc: Global,
-        low: &LowLevel<'_>,
+        low: &L,
         conflict: &Conflict,
         side: Side,
     ) -> Result<Option<FreeNode>, NoMemory>
-        requires node { IsFreeNode low.now self.now }
-        requires choice { IsChoice low.now self.now.plan conflict.now }
-        ensures { IfOk result (IsSideOf low.now self.now conflict.now side) }
+        requires node { IsFreeNode (L.problem low.now) self.now }
+        requires choice { IsChoice (L.problem low.now) self.now.plan conflict.now }
+        ensures { IfOk result (IsSideOf (L.problem low.now) self.now conflict.now side) }
     {
         let agent = agent_of(conflict, side);
         let set = self.sets[agent].with(constraint_of(conflict, side))?;
@@ -230,16 +239,15 @@ impl FreeNode {
     }
 
     /// What the other agents' paths leave of the bound.
-    fn left_for(&self, low: &LowLevel<'_>, agent: usize) -> u32
+    fn left_for<L: LeastPaths>(&self, low: &L, agent: usize) -> u32
         requires agent { agent < length self.now.plan }
-        requires within { plan_cost self.now.plan ≤ low.now.bound }
-        ensures leaves { Leaves low.now self.now.plan agent result }
+        requires within { plan_cost self.now.plan ≤ (L.problem low.now).bound }
+        ensures leaves { Leaves (L.problem low.now) self.now.plan agent result }
         ensures small { result ≤ MOST_BOUND }
     {
-        let problem = low.problem();
         let own = self.plan.paths()[agent].cost();
         let others = self.plan.cost() - u64::from(own);
-        (u64::from(problem.bound()) - others) as u32
+        (u64::from(low.bound()) - others) as u32
     }
 
     /// The plan, where this agent has another path.

@@ -5,34 +5,27 @@ ghost use Rattle.std.specs.List.{AllByRecursion};
 ghost use Rattle.mapf_optimum.specs.FreeTree.{HaveLeastPaths, IsPairBound};
 
 use crate::PairBound;
-use crate::agents::agent_at;
 use crate::low_level::LowLevel;
-use crate::pairs::{Effort, MOST_EXTRA, extra_cost};
+use crate::pairs::{AgentInNode, MOST_EXTRA, cost_together};
 use mapf_grid::NoMemory;
 use mapf_low::Constraints;
 use mapf_plan::{Conflict, Plan};
-use mapf_tree::{Problem, Side, agent_of};
+use mapf_tree::{Side, agent_of};
 use std::alloc::Global;
-
-/// How far it is looked for what a pair costs more.
-const EFFORT: Effort = Effort {
-    most_extra: MOST_EXTRA,
-    budget: 20_000,
-};
 
 /// What is known of pairs, and what each pair that has one of these conflicts costs together at least, if it isn't known.
 pub(crate) fn pair_bounds(
     alloc: Global,
-    problem: &Problem,
+    low: &LowLevel<'_>,
     sets: &[Constraints],
     plan: &Plan,
     known: Vec<PairBound>,
     conflicts: &[Conflict],
 ) -> Result<Vec<PairBound>, NoMemory>
-    requires sets { length sets.now ≡ length problem.now.inst.starts }
-    requires paths { HaveLeastPaths problem.now sets.now plan.now }
-    requires known { AllByRecursion (IsPairBound problem.now sets.now) known.items }
-    ensures { IfOk result (λ pairs. AllByRecursion (IsPairBound problem.now sets.now) pairs.items) }
+    requires sets { length sets.now ≡ length low.now.inst.starts }
+    requires paths { HaveLeastPaths low.now sets.now plan.now }
+    requires known { AllByRecursion (IsPairBound low.now sets.now) known.items }
+    ensures { IfOk result (λ pairs. AllByRecursion (IsPairBound low.now sets.now) pairs.items) }
 {
     let mut pairs = known;
     for conflict in conflicts {
@@ -41,7 +34,7 @@ pub(crate) fn pair_bounds(
             agent_of(conflict, Side::Right),
         );
         if !is_known(&pairs, first, second) {
-            if let Some(pair) = pair_bound(alloc, problem, sets, plan, first, second)? {
+            if let Some(pair) = pair_bound(alloc, low, sets, plan, first, second)? {
                 pairs.push(pair)?;
             }
         }
@@ -76,25 +69,31 @@ fn is_known(pairs: &[PairBound], first: usize, second: usize) -> bool {
 /// What two agents cost together at least; none unless they are two, in their order.
 fn pair_bound(
     alloc: Global,
-    problem: &Problem,
+    low: &LowLevel<'_>,
     sets: &[Constraints],
     plan: &Plan,
     first: usize,
     second: usize,
 ) -> Result<Option<PairBound>, NoMemory>
-    requires sets { length sets.now ≡ length problem.now.inst.starts }
-    requires paths { HaveLeastPaths problem.now sets.now plan.now }
-    ensures { IfOk result (λ found. MatchOption found ⊤ (IsPairBound problem.now sets.now)) }
+    requires sets { length sets.now ≡ length low.now.inst.starts }
+    requires paths { HaveLeastPaths low.now sets.now plan.now }
+    ensures { IfOk result (λ found. MatchOption found ⊤ (IsPairBound low.now sets.now)) }
 {
     if first >= second || second >= plan.paths().len() {
         return Ok(None);
     }
-    let costs = (plan.paths()[first].cost(), plan.paths()[second].cost());
-    let one = agent_at(problem, first, &sets[first], costs.0);
-    let other = agent_at(problem, second, &sets[second], costs.1);
-    let paths = (&plan.paths()[first], &plan.paths()[second]);
-    let extra = extra_cost(alloc, problem.rule(), &one, &other, paths, EFFORT)?;
-    let least = u64::from(costs.0) + u64::from(costs.1) + u64::from(extra);
+    let one = AgentInNode {
+        agent: first,
+        constraints: &sets[first],
+        path: &plan.paths()[first],
+    };
+    let other = AgentInNode {
+        agent: second,
+        constraints: &sets[second],
+        path: &plan.paths()[second],
+    };
+    let up_to = u64::from(one.path.cost()) + u64::from(other.path.cost()) + u64::from(MOST_EXTRA);
+    let least = cost_together(alloc, low, &one, &other, up_to)?;
     Ok(Some(PairBound {
         first,
         second,

@@ -4,12 +4,13 @@ mod agent;
 mod avoiding;
 mod dependence;
 mod disjoint;
-mod extra;
 mod known_moves;
+mod pair_tree;
 mod place_pairs;
 mod steps;
+mod two_agents;
 
-pub use agent::Agent;
-pub use disjoint::{disjoint_surplus, surplus_of, take};
-pub use extra::{Effort, MOST_EXTRA, extra_cost};
+pub(crate) use agent::Agent;
+pub use disjoint::{MOST_EXTRA, disjoint_surplus, surplus_of, take};
+pub use pair_tree::{AgentInNode, cost_together};
 pub use steps::do_steps_collide;

@@ -22,7 +22,7 @@ struct State {
 pub(crate) fn few_conflicts(
     alloc: Global,
     rule: Rule,
-    agent: &Agent<'_>,
+    agent: &Agent<'_, '_>,
     number: usize,
     paths: &[Path],
     occupancy: &mut Occupancy,
@@ -54,7 +54,7 @@ pub(crate) fn few_conflicts(
 fn next_layer(
     alloc: Global,
     rule: Rule,
-    agent: &Agent<'_>,
+    agent: &Agent<'_, '_>,
     layer: &[State],
     time: u32,
     occupancy: &Occupancy,

@@ -1,6 +1,6 @@
 //! An agent as the search over pairs of cells sees it.
 
-ghost use Rattle.std.specs.Prelude.{◌≡◌, ℕ, ◌-◌, ◌≤◌, IfOk, OnOk, IsTrue, Contains, MatchOption, ⊤};
+ghost use Rattle.std.specs.Prelude.{◌≡◌, ℕ, ◌-◌, ◌≤◌, IfOk, OnOk, IsTrue, Contains};
 ghost use Rattle.mapf_grid.specs.Grid.{IsFree};
 ghost use Rattle.mapf_low.specs.Walk.{IsWalk, AreDistances};
 ghost use Rattle.mapf_plan.specs.declared.answer.TheConstants.{MOST_BOUND};
@@ -14,16 +14,16 @@ use std::marker::Model;
 
 /// An agent as it stands in a node: where it goes on a map, what it is forbidden, and what its path costs.
 #[derive(Drop)]
-pub struct Agent<'a> {
-    map: &'a Map,
-    distances: &'a Distances,
-    constraints: &'a Constraints,
+pub struct Agent<'m, 's> {
+    map: &'m Map,
+    distances: &'m Distances,
+    constraints: &'s Constraints,
     start: Cell,
     goal: Cell,
     cost: u32,
 }
 
-impl<'a> Model for Agent<'a> {
+impl<'m, 's> Model for Agent<'m, 's> {
     ghost use Rattle.mapf_optimum.specs.Dependence.{Agent, agent_of};
     ghost use Rattle.mapf_optimum.specs.Steps.{IsPosed};
 
@@ -34,19 +34,19 @@ impl<'a> Model for Agent<'a> {
     ghost invariant = { λ a. IsPosed (agent_of a.map.now a.constraints.now a.start a.goal a.cost) a.distances.now };
 }
 
-impl<'a> Agent<'a> {
-    ghost use Rattle.mapf_optimum.specs.Dependence.{agent_of, dearer};
+impl<'m, 's> Agent<'m, 's> {
+    ghost use Rattle.mapf_optimum.specs.Dependence.{agent_of};
     ghost use Rattle.mapf_optimum.specs.Steps.{Adds, MayEnter, MayGo};
 
     /// The agent that goes from one cell to another by steps of the map, under constraints, and whose path costs so much.
     pub(crate) fn new(
-        map: &'a Map,
-        distances: &'a Distances,
-        constraints: &'a Constraints,
+        map: &'m Map,
+        distances: &'m Distances,
+        constraints: &'s Constraints,
         start: Cell,
         goal: Cell,
         cost: u32,
-    ) -> Agent<'a>
+    ) -> Agent<'m, 's>
         requires goal { IsFree map.now goal }
         requires distances { AreDistances map.now goal distances.now }
         requires cost { cost ≤ MOST_BOUND }
@@ -62,23 +62,6 @@ impl<'a> Agent<'a> {
             goal,
             cost,
         }
-    }
-
-    /// The same agent, whose path costs so much more; none where that is more than a path may cost.
-    pub(super) fn dearer(&self, more: u32) -> Option<Agent<'a>>
-        ensures { MatchOption result ⊤ (λ agent. agent ≡ dearer self.now more) }
-    {
-        if more > MOST_BOUND as u32 - self.cost {
-            return None;
-        }
-        Some(Agent {
-            map: self.map,
-            distances: self.distances,
-            constraints: self.constraints,
-            start: self.start,
-            goal: self.goal,
-            cost: self.cost + more,
-        })
     }
 
     /// Where it begins.

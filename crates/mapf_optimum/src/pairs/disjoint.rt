@@ -3,11 +3,13 @@
 ghost use Rattle.std.specs.Prelude.{◌≡◌, ◌<◌, false, length, slice_index_or, IfOk, IsFalse, IsTrue};
 ghost use Rattle.mapf_optimum.specs.Pairs.{AreChosen, HaveSurplus, Takes, surplus};
 
-use super::extra::MOST_EXTRA;
 use crate::PairBound;
 use mapf_grid::NoMemory;
 use mapf_plan::AgentPaths;
 use std::alloc::Global;
+
+/// The most that a pair is looked to cost more than its paths.
+pub const MOST_EXTRA: u32 = 16;
 
 /// Whether it is known of the agent that it is in none of the pairs that were chosen.
 fn is_free(taken: &[bool], agent: usize) -> bool

@@ -25,11 +25,11 @@ returns-in_default-clause-best g c = (
 
 pub search_by_bounds-requires-clause-enough : goal.search_by_bounds-requires-clause-enough
 search_by_bounds-requires-clause-enough g c =
-    subst (λ (b : Bounding). IsEnough b.problem b.most) (sym c.new-bounds.ensures) (subst (IsRange c.into_waiting-open_list.result.0.now) c.in-Some.is c.in_ok-range.ensures).1
+    subst (λ (b : Bounding). IsEnough b.problem b.most) (sym c.in_ok-bounds.ensures) (subst (IsRange c.into_waiting-open_list.result.0.now) c.in-Some.is c.in_ok-range.ensures).1
 
 pub search_by_bounds-requires-clause-covering : goal.search_by_bounds-requires-clause-covering
 search_by_bounds-requires-clause-covering g c =
-    subst (λ (b : Bounding). IsCovering b.problem b.most c.in_ok-waiting.waiting.entries) (sym c.new-bounds.ensures)
+    subst (λ (b : Bounding). IsCovering b.problem b.most c.in_ok-waiting.waiting.entries) (sym c.in_ok-bounds.ensures)
     (c.in_ok-waiting.ensures c.into_waiting-open_list.result.0.now (subst (IsRange c.into_waiting-open_list.result.0.now) c.in-Some.is c.in_ok-range.ensures).0
     (subst (λ (p : Problem). IsMoving p c.in-Some.range.most c.into_waiting-open_list.result.1 []) (sym c.into_waiting-open_list.ensures.problem)
     (moves_first c.in-Some.range.most c.args.search c.into_waiting-open_list.result.1 c.into_waiting-open_list.ensures.search c.requires.open_yet c.into_waiting-open_list.ensures.waiting)))
@@ -37,4 +37,4 @@ search_by_bounds-requires-clause-covering g c =
 pub returns-clause-best : goal.returns-clause-best
 returns-clause-best g c =
     best_out c.args.search.problem c.search_by_bounds.result
-    (stated_answer c.new-bounds.result.problem c.args.search.problem c.search_by_bounds.result (ap (λ (b : Bounding). b.problem) c.new-bounds.ensures ∙ c.into_waiting-open_list.ensures.problem) c.requires.unlimited c.search_by_bounds.ensures)
+    (stated_answer c.in_ok-bounds.bounds.problem c.args.search.problem c.search_by_bounds.result (ap (λ (b : Bounding). b.problem) c.in_ok-bounds.ensures ∙ c.into_waiting-open_list.ensures.problem) c.requires.unlimited c.search_by_bounds.ensures)

@@ -3,4 +3,4 @@ use Rattle.mapf_optimum.specs.FreeTree.{IsPairBound}
 use Rattle.mapf_optimum.proofs.pair_bounds.pair_bounds.Given as goal
 
 abbrev pub invariant-loop-conflict : goal.invariant-loop-conflict
-invariant-loop-conflict l = AllByRecursion (IsPairBound l.problem l.sets) l.pairs.items
+invariant-loop-conflict l = AllByRecursion (IsPairBound l.low l.sets) l.pairs.items

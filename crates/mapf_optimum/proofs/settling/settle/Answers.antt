@@ -2,8 +2,7 @@ use Rattle.std.proofs.Common.{subst, get_or, arith, List, [], refl}
 use Rattle.mapf_low.specs.declared.constraint.Constraint.{Constraint}
 use Rattle.mapf_tree.specs.Problem.{Problem}
 use Rattle.mapf_tree.specs.Tree.{IsAllowedFor}
-use Rattle.mapf_optimum.proofs.Bounding.{takes_another, set_at}
-use Rattle.mapf_optimum.proofs.PairBounds.{path_cost_at}
+use Rattle.mapf_optimum.proofs.Bounding.{takes_another, set_at, path_cost_at}
 use Rattle.mapf_optimum.proofs.settling.settle.Goals as goal
 
 pub returns-then-is_allowed : goal.returns-then-is_allowed

@@ -1,28 +1,35 @@
-use Rattle.std.proofs.Common.{length, subst, ap, ◌+◌, ◌∙◌, arith}
-use Rattle.mapf_plan.specs.Path.{cost}
+use Rattle.std.proofs.Common.{◌≡◌, ◌<◌, length, subst, sym, ap, ◌∙◌, arith}
 use Rattle.mapf_plan.specs.Plan.{path_of}
 use Rattle.mapf_tree.specs.Problem.{Problem}
+use Rattle.mapf_optimum.specs.FreeTree.{IsLeastPathOf}
 use Rattle.mapf_bounds.specs.declared.pair_costs.AgentPair.{AgentPair}
 use Rattle.mapf_bounds.specs.Bounds.{Bounding}
-use Rattle.mapf_bounds.specs.Pairs.{IsExtraOf}
-use Rattle.mapf_bounds.proofs.Pairs.{pair_is_known}
+use Rattle.mapf_bounds.specs.Pairs.{DoCost, HaveLeast}
+use Rattle.mapf_bounds.proofs.Pairs.{least_in_order, pair_is_known}
 use Rattle.mapf_bounds.proofs.node_bounds.NodeBounds.pair_bound.Goals as goal
+
+pub least-requires : goal.least-requires
+least-requires c =
+    let problem : c.self.inside.costs ≡ c.args.self.now.problem = c.self.invariant ∙ ap (λ (b : Bounding). b.problem) c.self.view_is in
+    let stands = c.requires.node.stands in
+    let second : c.args.second < length c.args.self.now.problem.inst.starts = omega (arith, c.if-second-agents.false, c.agents.ensures.agents, ap length c.requires.current, ap length stands.plan, stands.member.plan.agents) in
+    let first : c.args.first < length c.args.self.now.problem.inst.starts = omega (arith, second, c.if-first-second.false) in
+    let pair : AgentPair = record { first = c.args.first; second = c.args.second; first_set = c.in_ok-constraints.field-0; second_set = c.in_ok-constraints-2.field-0 } in
+    subst (λ (p : Problem). HaveLeast p pair c.path-one.result.now c.path-other.result.now) (sym problem)
+    (record {
+      first_inside = first;
+      second_inside = second;
+      first_least = subst (IsLeastPathOf c.args.self.now.problem c.args.first c.in_ok-constraints.field-0) (sym (c.path-one.ensures ∙ ap (λ q. path_of q c.args.first) c.requires.current))
+          (least_in_order c.args.self.now.problem c.args.node.now c.requires.node.of c.args.first c.in_ok-constraints.field-0 stands first c.in_ok-constraints.ensures);
+      second_least = subst (IsLeastPathOf c.args.self.now.problem c.args.second c.in_ok-constraints-2.field-0) (sym (c.path-other.ensures ∙ ap (λ q. path_of q c.args.second) c.requires.current))
+          (least_in_order c.args.self.now.problem c.args.node.now c.requires.node.of c.args.second c.in_ok-constraints-2.field-0 stands second c.in_ok-constraints-2.ensures);
+    })
 
 pub returns-clause-pair : goal.returns-clause-pair
 returns-clause-pair c =
+    let problem : c.self.inside.costs ≡ c.args.self.now.problem = c.self.invariant ∙ ap (λ (b : Bounding). b.problem) c.self.view_is in
     let stands = c.requires.node.stands in
-    let p : AgentPair = record {
-      first = c.args.first;
-      second = c.args.second;
-      first_set = c.in_ok-constraints.field-0;
-      second_set = c.in_ok-constraints-2.field-0;
-      first_cost = c.cost-first_cost.result;
-      second_cost = c.cost-second_cost.result;
-    } in
-    let least = c.from.result + c.from-2.result + c.from-3.result in
-    pair_is_known c.args.self.now.problem c.args.node.now c.requires.node.of p c.in_ok-extra.extra (record { first = c.args.first; second = c.args.second; least = least }) stands (omega (arith, c.if-first-second.false))
+    let pair : AgentPair = record { first = c.args.first; second = c.args.second; first_set = c.in_ok-constraints.field-0; second_set = c.in_ok-constraints-2.field-0 } in
+    pair_is_known c.args.self.now.problem c.args.node.now pair c.in_ok-least.least (omega (arith, c.if-first-second.false))
     (omega (arith, c.if-second-agents.false, c.agents.ensures.agents, ap length c.requires.current, ap length stands.plan, stands.member.plan.agents)) c.in_ok-constraints.ensures c.in_ok-constraints-2.ensures
-    (c.cost-first_cost.ensures.cost ∙ ap cost (c.path-one.ensures ∙ ap (λ q. path_of q c.args.first) c.requires.current))
-    (c.cost-second_cost.ensures.cost ∙ ap cost (c.path-other.ensures ∙ ap (λ q. path_of q c.args.second) c.requires.current))
-    (subst (λ (q : Problem). IsExtraOf q p c.in_ok-extra.extra) (c.self.invariant ∙ ap (λ (b : Bounding). b.problem) c.self.view_is) c.in_ok-extra.ensures.extra)
-    (ap (λ k. record { first = c.args.first; second = c.args.second; least = k }) (omega (arith, c.from.ensures, c.from-2.ensures, c.from-3.ensures)))
+    (subst (λ (p : Problem). DoCost p pair c.in_ok-least.least) problem c.in_ok-least.ensures.least)

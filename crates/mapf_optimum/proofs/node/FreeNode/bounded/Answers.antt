@@ -16,7 +16,7 @@ returns-then-label-from c =
     let over : c.from.result < c.max-label.result = c.if-label-from.true in
     bounded_over c.args.low.now c.args.self c.in_ok-plan.plan c.requires
     (subst₂ (λ (l : List (List Constraint)) p. AreSettled c.args.low.now l p c.in_ok-plan.plan) (c.deref.ensures.value ∙ sets) (ap (λ (n : FreeNode). n.plan) c.self.view_is) c.in_ok-plan.ensures) c.in_ok-pairs.pairs.items c.in_ok-surplus.surplus c.saturating_add.result
-    (subst₂ (λ (p : Problem) (l : List (List Constraint)). AllByRecursion (IsPairBound p l) c.in_ok-pairs.pairs.items) c.problem-problem.ensures (c.deref-2.ensures.value ∙ sets) c.in_ok-pairs.ensures)
+    (subst (λ (l : List (List Constraint)). AllByRecursion (IsPairBound c.args.low.now l) c.in_ok-pairs.pairs.items) (c.deref-2.ensures.value ∙ sets) c.in_ok-pairs.ensures)
     (subst (λ (l : List PairBound). HaveSurplus c.in_ok-plan.plan l c.in_ok-surplus.surplus) c.deref-4.ensures.value c.in_ok-surplus.ensures) (omega arith)
     (omega (arith, over, c.from.ensures, c.bound.ensures.bound, label, ap (λ (p : Problem). p.bound) c.problem-problem.ensures))
 
@@ -28,6 +28,6 @@ returns c =
     bounded_is c.args.low.now c.args.self c.in_ok-plan.plan c.requires
     (subst₂ (λ (l : List (List Constraint)) p. AreSettled c.args.low.now l p c.in_ok-plan.plan) (c.deref.ensures.value ∙ sets) (ap (λ (n : FreeNode). n.plan) c.self.view_is) c.in_ok-plan.ensures)
     (record { sets = c.self.inside.sets.items; plan = c.in_ok-plan.plan; pairs = c.in_ok-pairs.pairs.items; label = c.max-label.result; collisions = c.colliding_pairs-collisions.result; is_bounded = true }) c.in_ok-surplus.surplus c.saturating_add.result sets refl
-    (subst₂ (λ (p : Problem) (l : List (List Constraint)). AllByRecursion (IsPairBound p l) c.in_ok-pairs.pairs.items) c.problem-problem.ensures (c.deref-2.ensures.value ∙ sets) c.in_ok-pairs.ensures)
+    (subst (λ (l : List (List Constraint)). AllByRecursion (IsPairBound c.args.low.now l) c.in_ok-pairs.pairs.items) (c.deref-2.ensures.value ∙ sets) c.in_ok-pairs.ensures)
     (subst (λ (l : List PairBound). HaveSurplus c.in_ok-plan.plan l c.in_ok-surplus.surplus) c.deref-4.ensures.value c.in_ok-surplus.ensures) (omega arith)
     label (omega (arith, within, c.from.ensures, c.bound.ensures.bound, label, ap (λ (p : Problem). p.bound) c.problem-problem.ensures)) refl

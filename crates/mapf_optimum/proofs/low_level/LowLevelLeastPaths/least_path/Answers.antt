@@ -3,7 +3,7 @@ use Rattle.mapf_grid.specs.Instance.{Instance}
 use Rattle.mapf_tree.specs.Problem.{Problem}
 use Rattle.mapf_optimum.specs.FreeSearch.{HasStartTables}
 use Rattle.mapf_optimum.proofs.StartTables.{from_start}
-use Rattle.mapf_optimum.proofs.low_level.LowLevel.least_path.Goals as goal
+use Rattle.mapf_optimum.proofs.low_level.LowLevelLeastPaths.least_path.Goals as goal
 
 pub cheapest_backwards-requires-clause-from_start : goal.cheapest_backwards-requires-clause-from_start
 cheapest_backwards-requires-clause-from_start c =
