@@ -4,7 +4,6 @@ use Rattle.std.proofs.lemmas.List.Elements.{All-contains, All-from_recursion}
 use Rattle.mapf_grid.specs.Least.{Precedes, IsLeast}
 use Rattle.mapf_grid.proofs.Members.{here, there, here_or_there}
 use Rattle.mapf_grid.proofs.Ranks.{irreflexive, asymmetric}
-use Rattle.mapf_tree.proofs.Rising.{same_or_other}
 use Rattle.mapf_plan.specs.declared.conflict.Conflict.{Conflict}
 use Rattle.mapf_plan.specs.Plan.{plan_cost, HasNoConflict, IsFirstConflict}
 use Rattle.mapf_plan.proofs.Conflicts.{same_first}
@@ -56,17 +55,21 @@ module _ (p : Problem) (first : Node) (rest : List Node) (x : PlannedNode) (risi
 module _ (p : Problem) (old new : List Node) (node : Node) (y : PlannedNode) (all : AllStand p old) (put : IsPut old node new) (is : StandsFor p node y) where
   -- and all nodes stand for nodes
   added_all : AllStand p new
-  added_all n c = ⊎_elim (λ e. (y, subst (λ k. StandsFor p k y) (sym e) is)) (λ i. all n i.0) ((put n).0 c)
+  added_all n c = ⊎_elim (λ o. all n (subst (λ ns. Contains ns n) o.1 c)) (λ o. ⊎_elim (λ e. (y, subst (λ k. StandsFor p k y) (sym e) is)) (all n) ((o.1 n).0 c)) put
 
   -- a node that is put in adds its node
   added_shows : (m : PlannedNode) → HasNodeFor p new m ↔ (HasNodeFor p old m ⊎ (m ≡ y))
-  added_shows m = (
-    (λ s. ⊎_elim (λ e. inr (same_stands p s.0 node m y s.2 is (ap node_key e))) (λ i. inl (s.0, i.0, s.2)) ((put s.0).0 s.1)),
-    ⊎_elim (λ s. ⊎_elim (λ e. itself (same_stands p s.0 node m y s.2 is e)) (λ o. (s.0, (put s.0).1 (inr (s.1, o)), s.2)) (same_or_other (node_key s.0) (node_key node))) itself,
-  )
+  added_shows m = shows put
     where
-      itself : m ≡ y → HasNodeFor p new m
-      itself e = (node, (put node).1 (inl refl), subst (λ z. StandsFor p node z) (sym e) is)
+      shows : IsPut old node new → HasNodeFor p new m ↔ (HasNodeFor p old m ⊎ (m ≡ y))
+      shows (inl (other, same)) = (
+        (λ s. inl (subst (λ ns. HasNodeFor p ns m) same s)),
+        (λ h. subst (λ ns. HasNodeFor p ns m) (sym same) (⊎_elim (λ s. s) (λ e. (other.0, other.1, let q = all other.0 other.1 in subst (StandsFor p other.0) (same_stands p other.0 node q.0 y q.1 is other.2 ∙ sym e) q.1)) h)),
+      )
+      shows (inr (none, puts)) = (
+        (λ s. ⊎_elim (λ e. inr (same_stands p s.0 node m y s.2 is (ap node_key e))) (λ i. inl (s.0, i, s.2)) ((puts s.0).0 s.1)),
+        ⊎_elim (λ s. (s.0, (puts s.0).1 (inr s.1), s.2)) (λ e. (node, (puts node).1 (inl refl), subst (λ z. StandsFor p node z) (sym e) is)),
+      )
 
 -- what a list shows once the node of a node is put in, if that has one
 pub record AddsSide (p : Problem) (old new : List Node) (side : TreeNode) : Type 0 where

@@ -44,7 +44,7 @@ impl OpenList {
         self.nodes.is_empty()
     }
 
-    /// Puts a node in at its place; a node that waits there with the same key goes.
+    /// Puts a node in at its place, unless one with the same key waits there.
     pub fn put(&mut self, node: Node) -> Result<(), Node>
         ensures ok { OnOk result (IsPut self.old node self.new) }
 
@@ -53,8 +53,8 @@ impl OpenList {
         ensures err { IfErr result (λ _. self.new ≡ self.old) }
         ensures rising { IsRising self.new }
     {
-        match self.nodes.replace(node) {
-            Ok(_replaced) => Ok(()),
+        match self.nodes.insert(node) {
+            Ok(_added) => Ok(()),
             Err(refused) => Err(refused.value),
         }
     }
