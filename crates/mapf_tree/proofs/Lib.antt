@@ -17,7 +17,6 @@ pub mod Limits
 mod Keyed
 mod NameTurns
 mod NameOrder
-mod Examples
 mod Tables
 mod StartTables
 pub mod RootNodes

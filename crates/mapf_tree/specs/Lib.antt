@@ -14,4 +14,3 @@ pub mod OpenList
 pub mod Search
 pub mod LowerBound
 pub mod Steps
-pub mod Worked

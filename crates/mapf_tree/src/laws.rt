@@ -3,7 +3,6 @@
 
 ghost use Rattle.mapf_tree.specs.Laws.{OneAgentsAnswer, ObeysOneSide, ConstraintIsNew, ConstraintIsEarly, LeaderAtStart, ObeyedIsInCost, NoneIsDearer, DepthIsBounded, TreeIsFinite, AnswerExists, AnswerIsUnique, StatedIsUnique, AnswerIsOptimum, NoneIsNone};
 ghost use Rattle.mapf_tree.specs.Steps.{SearchStarts, TakesNext, EndsAtAnswer, TakenAreBounded};
-ghost use Rattle.mapf_tree.specs.Worked.{WorkedRoot};
 
 /// For one agent the answer is its own path, and none where it may take no path.
 #[tactic(auto, using(crate::proofs::OneAgent::one_agents_answer))]
@@ -105,10 +104,4 @@ pub fn ends_at_answer()
 #[tactic(auto, using(crate::proofs::TakenNodes::taken_are_bounded))]
 pub fn taken_are_bounded()
     ensures { TakenAreBounded }
-{}
-
-/// The roots of two worked trees, the conflicts that they branch on, and what their sides forbid.
-#[tactic(auto, using(crate::proofs::Examples::worked_root))]
-pub fn worked_root()
-    ensures { WorkedRoot }
 {}

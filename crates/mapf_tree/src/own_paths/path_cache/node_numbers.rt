@@ -29,8 +29,8 @@ pub(crate) struct NodeNumbers {
 }
 
 impl<'p> PathCache<'p> {
-    /// The numbers at a node, from those at the one that was looked at last. None where a set or a path isn't known, of more than
-    /// 64 agents for the first 12 nodes for each of them, and of more than 256 agents.
+    /// The numbers at a node, from those at the one that was looked at last. None where a set or a path isn't known, and of more
+    /// than 256 agents.
     pub(crate) fn numbers_at(&mut self, node: &Node) -> Result<Option<NodeNumbers>, NoMemory>
         requires { IsBranching self.old.problem node.now }
         ensures problem { self.new.problem ≡ self.old.problem }
