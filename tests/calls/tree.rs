@@ -1,5 +1,6 @@
 mod calls;
 mod nodes;
+mod own_paths;
 mod searches;
 mod texts;
 mod waiting;

@@ -92,6 +92,10 @@ IsOwnIn cache set bound found =
 abbrev pub IsQueryIn : Problem → Node → SideQuery → Type 0
 IsQueryIn problem node q = IsBranching problem node × (q.problem ≡ problem) × IsQueryOf node q
 
+-- a set has what the query's agent is forbidden, so what is remembered of that agent's own path under it is known
+abbrev pub KnowsSetOf : PathCache → SideQuery → Type 0
+KnowsSetOf cache q = (number : ℕ) × HasSet cache.sets number q.agent q.constraints
+
 -- the number of the own path that the query of a node's side asks for; or that there is none
 abbrev pub IsFoundAt : PathCache → Node → Side → Option ℕ → Type 0
 IsFoundAt cache node side found =

@@ -39,7 +39,7 @@ struct Body {
     root: Arc<Plan>,
     changes: Chain,
     conflict: Option<Conflict>,
-    /// Where the paths of both its children were known when it was made; nothing rests on it.
+    /// Where the paths of both its children were known when it was made.
     extensions: Option<SideExtensions>,
     rule: Rule,
 }

@@ -118,8 +118,8 @@ impl<'p> OwnPaths<'p> {
         query.child(self.alloc, node, path, extension)
     }
 
-    /// Searches the own path that a side of a node asks for, and remembers it unless memory runs out for that. Beside it the number
-    /// that the extension of its agent's set may have.
+    /// Searches the own path that a side of a node asks for, and remembers it unless memory runs out for that. Beside it stands a
+    /// guess of the extension's number, for [`children_from`](Self::children_from) alone.
     pub fn search(
         &mut self,
         node: &Node,
@@ -132,7 +132,7 @@ impl<'p> OwnPaths<'p> {
         ensures path { IfOk result (λ found. IsFoundBy query.now (option_map arc_value found.0)) }
     {
         let path = query.own_path(self.alloc)?;
-        let extension = self.cache.learn(node, query, path.as_ref());
+        let extension = self.cache.learn(node, query, path.as_ref()).unwrap_or(0);
         Ok((path, extension))
     }
 
@@ -209,7 +209,7 @@ impl<'p> OwnPaths<'p> {
         ensures { self.new ≡ self.old }
     {
         if let Lookup::Known(path) = query.answer_in(node, child) {
-            let _extension = self.cache.learn(node, query, path);
+            let _remembered = self.cache.learn(node, query, path);
         }
     }
 }

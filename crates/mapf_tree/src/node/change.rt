@@ -9,7 +9,7 @@ pub(crate) struct Change {
     pub(crate) agent: usize,
     pub(crate) constraint: Constraint,
     pub(crate) path: Arc<Path>,
-    /// The number that the extension of the agent's set may have among those that are known; nothing rests on it.
+    /// A guess of the number of the agent's extension.
     pub(crate) extension: usize,
 }
 

@@ -2,8 +2,7 @@ ghost use Rattle.std.specs.Prelude.{◌≡◌};
 
 use crate::{Node, Side};
 
-/// The numbers that the extensions for the two sides of a node's conflict may have among those that are known; nothing rests on
-/// them.
+/// Guesses of the numbers of the extensions for the two sides of a node's conflict.
 ///
 /// They are kept short, since each node that waits has them.
 #[derive(Clone, Copy)]
@@ -31,7 +30,7 @@ impl SideExtensions {
 }
 
 impl Node {
-    /// The same node, of whose two sides this is known; nothing rests on it.
+    /// The same node with these guesses.
     pub(crate) fn with_side_extensions(self, extensions: Option<SideExtensions>) -> Node
         ensures { result ≡ self }
     {
@@ -40,12 +39,13 @@ impl Node {
         Node { body }
     }
 
-    /// Whether the paths of both its children were known when it was made. No answer depends on it.
+    /// Whether there are guesses for both its sides: then the paths of both its children were known when it was made, and work
+    /// ahead on them is seldom of use.
     pub fn has_known_sides(&self) -> bool {
         self.body.extensions.is_some()
     }
 
-    /// The number that the extension for a side of its conflict may have among those that are known; nothing rests on it.
+    /// The guess for a side of its conflict.
     pub(crate) fn extension_on(&self, side: Side) -> Option<usize> {
         Some(self.body.extensions?.extension(side))
     }

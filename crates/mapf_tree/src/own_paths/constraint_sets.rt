@@ -30,6 +30,9 @@ pub(crate) struct ConstraintSet {
 }
 
 /// Two sets of one agent by number: the second is the first with one constraint more.
+///
+/// Nodes and their changes keep guesses of an extension's number, by which it is found without a search. A guess may be any
+/// number, since `follow` compares what it finds there.
 #[derive(Drop)]
 pub(crate) struct Extension {
     pub(crate) before: usize,
@@ -43,9 +46,9 @@ pub(crate) struct Extension {
 pub(crate) struct ConstraintSets {
     sets: Vec<ConstraintSet>,
     extensions: Vec<Extension>,
-    /// Where an agent's set is looked for by its constraints; nothing rests on it.
+    /// By a number for an agent's set, where it is looked for.
     set_places: HashMap<u64, usize>,
-    /// Where a set with a constraint more is looked for; nothing rests on it.
+    /// By a number for a set with one constraint more, where its extension is looked for.
     extension_places: HashMap<u64, usize>,
 }
 
@@ -128,13 +131,13 @@ impl ConstraintSets {
         (after == extension.after).then_some(number)
     }
 
-    /// The number that the extension of a set by this constraint may have, if there is one; nothing rests on it.
+    /// A guess of the number of a set's extension by this constraint.
     pub(crate) fn guess_extension(&self, before: usize, constraint: &Constraint) -> Option<usize> {
         let key = extension_key(before, constraint);
         Some(*self.extension_places.get(&key)?)
     }
 
-    /// The number of the extension of a set by this constraint, if its own path is known, too; nothing rests on it.
+    /// The number of a set's extension by this constraint, if its own path is known, too.
     pub(crate) fn extension_with_path(
         &self,
         before: usize,
@@ -166,7 +169,7 @@ impl ConstraintSets {
         None
     }
 
-    /// The set with this constraint more, where it is known. The guess is the number that the extension may have.
+    /// The set with this constraint more, where it is known.
     pub(crate) fn find_set_after(
         &self,
         guess: usize,
@@ -213,7 +216,7 @@ pub(crate) fn is_same(one: &Constraint, other: &Constraint) -> bool
     }
 }
 
-/// A number for an agent's set of constraints. Others seldom have the same, and nothing rests on it.
+/// A number for an agent's set of constraints. Others seldom have the same.
 fn set_key(agent: usize, constraints: &[Constraint]) -> u64 {
     let mut key = agent as u64;
     for constraint in constraints {
@@ -222,7 +225,7 @@ fn set_key(agent: usize, constraints: &[Constraint]) -> u64 {
     key
 }
 
-/// A number for a set with one constraint more. Others seldom have the same, and nothing rests on it.
+/// A number for a set with one constraint more. Others seldom have the same.
 fn extension_key(set: usize, constraint: &Constraint) -> u64 {
     mix((set as u64).wrapping_mul(MIXER), constraint)
 }

@@ -169,7 +169,7 @@ impl<'p> SideQuery<'p> {
 
     /// The child of the node whose side it is, from the own path that it asks for; none exactly where that isn't in the tree.
     ///
-    /// The number is the one that the extension of the agent's set may have among those that are known; nothing rests on it.
+    /// The number is a guess of that of the agent's extension.
     pub(crate) fn child(
         &self,
         alloc: Global,

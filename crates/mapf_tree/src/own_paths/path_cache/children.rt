@@ -125,7 +125,7 @@ impl<'p> PathCache<'p> {
     }
 
     /// The numbers of the extensions for both sides of the conflict that a node has after a change, if the own paths there are
-    /// known; nothing rests on them.
+    /// known.
     fn child_extensions(
         &self,
         at: &Option<NodeNumbers>,

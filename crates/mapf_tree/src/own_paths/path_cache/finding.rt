@@ -17,7 +17,7 @@ use mapf_low::Lookup;
 /// What is known of the own path that a side of a node asks for.
 #[derive(Clone, Copy)]
 pub(crate) struct SidePath {
-    /// The number that the extension of its agent's set may have; nothing rests on it.
+    /// A guess of the extension's number.
     pub(crate) extension: usize,
     /// The path's number; none where there is no path.
     pub(crate) path: Option<usize>,

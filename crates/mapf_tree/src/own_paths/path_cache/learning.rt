@@ -1,11 +1,11 @@
 //! What is remembered of own paths: sets of constraints that agents met, and what was found under them.
 
-ghost use Rattle.std.specs.Prelude.{◌≡◌, ◌<◌, ◌≤◌, ℕ, List, [], length, replicate, option_map, IfOk};
+ghost use Rattle.std.specs.Prelude.{◌≡◌, ◌<◌, ◌≤◌, ℕ, List, [], length, replicate, option_map, IfOk, OnOk};
 ghost use Rattle.std.specs.Arc.{arc_value};
 ghost use Rattle.mapf_low.specs.declared.constraint.Constraint.{Constraint};
 ghost use Rattle.mapf_tree.specs.Family.{IsBranching, IsOwnWithin};
 ghost use Rattle.mapf_tree.specs.SideQuery.{IsFoundBy};
-ghost use Rattle.mapf_tree.specs.PathCache.{HasSet, AreSetsOf, IsCachedPath, IsQueryIn};
+ghost use Rattle.mapf_tree.specs.PathCache.{HasSet, AreSetsOf, IsCachedPath, IsQueryIn, KnowsSetOf};
 
 use crate::own_paths::constraint_sets::{CachedPath, ConstraintSet, Extension};
 use crate::own_paths::path_cache::PathCache;
@@ -47,24 +47,22 @@ impl<'p> PathCache<'p> {
         self.add(agent, Constraints::new(self.alloc), bound, Some(&path))
     }
 
-    /// Remembers what the query of a side of a node was answered, unless memory runs out. Answers the number that the extension
-    /// of its agent's set has, if it has one.
+    /// Remembers what the query of a side of a node was answered. Answers a guess of the extension's number.
     pub(crate) fn learn(
         &mut self,
         node: &Node,
         query: &SideQuery<'p>,
         path: Option<&Arc<Path>>,
-    ) -> usize
+    ) -> Result<usize, NoMemory>
         requires query { IsQueryIn self.old.problem node.now query.now }
         requires path { IsFoundBy query.now (option_map (λ p. arc_value p.now) path) }
-        ensures { self.new.problem ≡ self.old.problem }
+        ensures problem { self.new.problem ≡ self.old.problem }
+        ensures set { OnOk result (KnowsSetOf self.new query.now) }
     {
-        let Ok(set) = self.keep_set(node, query, path) else {
-            return 0;
-        };
-        match self.sets_at(node, Vec::new(self.alloc)) {
-            Ok(Some(sets)) => self.extend(node, &sets, query, set),
-            _ => 0,
+        let set = self.keep_set(node, query, path)?;
+        match self.sets_at(node, Vec::new(self.alloc))? {
+            Some(sets) => Ok(self.extend(node, &sets, query, set)),
+            None => Ok(0),
         }
     }
 
@@ -133,8 +131,8 @@ impl<'p> PathCache<'p> {
         Ok(set)
     }
 
-    /// Remembers that the agent's set at a node and one constraint more are the set of this number. Answers the extension's
-    /// number.
+    /// Remembers that the agent's set at a node and one constraint more are the set of this number. Answers a guess of the
+    /// extension's number.
     pub(crate) fn extend(
         &mut self,
         node: &Node,
