@@ -1,5 +1,5 @@
 -- What a path cache remembers: the sets of constraints that agents have met, by number, and paths, by number.
-use Rattle.std.specs.Prelude.{◌≡◌, ◌⊎◌, ◌↔◌, ℕ, ◌<◌, List, [], length, replicate, slice_get, slice_index, slice_index_or, Option, Some, None, option_map, IfSome, Contains}
+use Rattle.std.specs.Prelude.{◌≡◌, ◌⊎◌, ◌↔◌, ℕ, ◌<◌, ◌≤◌, List, [], length, replicate, slice_get, slice_index, slice_index_or, Option, Some, None, option_map, IfSome, Contains}
 use Rattle.mapf_plan.specs.Plan.{path_of}
 use Rattle.mapf_plan.specs.declared.cache.known_plan.KnownPlan.{KnownPlan}
 use Rattle.mapf_plan.specs.KnownPaths.{KnownPaths, IsKnownPlan, plan_of}
@@ -92,9 +92,17 @@ IsOwnIn cache set bound found =
 abbrev pub IsQueryIn : Problem → Node → SideQuery → Type 0
 IsQueryIn problem node q = IsBranching problem node × (q.problem ≡ problem) × IsQueryOf node q
 
--- a set has what the query's agent is forbidden, so what is remembered of that agent's own path under it is known
-abbrev pub KnowsSetOf : PathCache → SideQuery → Type 0
-KnowsSetOf cache q = (number : ℕ) × HasSet cache.sets number q.agent q.constraints
+-- what is remembered of the set of this number tells whether its own path costs at most the bound
+abbrev pub IsTold : ℕ → CachedPath → Type 0
+IsTold bound (Path number) = Unit {0}
+IsTold bound (NoneWithin least) = bound ≤ least
+
+abbrev pub TellsUpTo : List ConstraintSet → ℕ → ℕ → Type 0
+TellsUpTo sets number bound = (s : ConstraintSet) → slice_get sets number ≡ Some s → IsTold bound s.own
+
+-- a set has what the query's agent is forbidden, and the own path that it asks for is told
+abbrev pub KnowsAnswerTo : PathCache → SideQuery → Type 0
+KnowsAnswerTo cache q = (number : ℕ) × HasSet cache.sets number q.agent q.constraints × TellsUpTo cache.sets number q.bound
 
 -- the number of the own path that the query of a node's side asks for; or that there is none
 abbrev pub IsFoundAt : PathCache → Node → Side → Option ℕ → Type 0

@@ -3,7 +3,7 @@
 ghost use Rattle.std.specs.Prelude.{◌≡◌, ◌≤◌, IfSome, IfOk};
 ghost use Rattle.mapf_tree.specs.Family.{IsBranching};
 ghost use Rattle.mapf_low.specs.Lookup.{IfKnown};
-ghost use Rattle.mapf_tree.specs.PathCache.{AreSetsOf, IsAt, IsOwnIn, IsFoundAt};
+ghost use Rattle.mapf_tree.specs.PathCache.{AreSetsOf, IsAt, IsOwnIn, IsFoundAt, TellsUpTo};
 
 use crate::own_paths::constraint_sets::CachedPath;
 use crate::own_paths::path_cache::PathCache;
@@ -115,7 +115,8 @@ impl<'p> PathCache<'p> {
     /// The number of the own path under a set, at a cost of at most the bound; none where there is no such path.
     pub(crate) fn find_own_path(&self, set: usize, bound: u32) -> Lookup<Option<usize>>
         requires { bound ≤ self.now.problem.bound }
-        ensures { IfKnown result (IsOwnIn self.now set bound) }
+        ensures own { IfKnown result (IsOwnIn self.now set bound) }
+        ensures told { IfKnown result (λ _. TellsUpTo self.now.sets set bound) }
     {
         let Some(known) = self.sets.get(set) else {
             return Lookup::Unknown;

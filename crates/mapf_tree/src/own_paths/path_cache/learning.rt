@@ -5,7 +5,7 @@ ghost use Rattle.std.specs.Arc.{arc_value};
 ghost use Rattle.mapf_low.specs.declared.constraint.Constraint.{Constraint};
 ghost use Rattle.mapf_tree.specs.Family.{IsBranching, IsOwnWithin};
 ghost use Rattle.mapf_tree.specs.SideQuery.{IsFoundBy};
-ghost use Rattle.mapf_tree.specs.PathCache.{HasSet, AreSetsOf, IsCachedPath, IsQueryIn, KnowsSetOf};
+ghost use Rattle.mapf_tree.specs.PathCache.{HasSet, AreSetsOf, IsCachedPath, IsQueryIn, KnowsAnswerTo, IsTold, TellsUpTo};
 
 use crate::own_paths::constraint_sets::{CachedPath, ConstraintSet, Extension};
 use crate::own_paths::path_cache::PathCache;
@@ -57,7 +57,7 @@ impl<'p> PathCache<'p> {
         requires query { IsQueryIn self.old.problem node.now query.now }
         requires path { IsFoundBy query.now (option_map (λ p. arc_value p.now) path) }
         ensures problem { self.new.problem ≡ self.old.problem }
-        ensures set { OnOk result (KnowsSetOf self.new query.now) }
+        ensures answer { OnOk result (KnowsAnswerTo self.new query.now) }
     {
         let set = self.keep_set(node, query, path)?;
         match self.sets_at(node, Vec::new(self.alloc))? {
@@ -78,6 +78,7 @@ impl<'p> PathCache<'p> {
         requires path { IsFoundBy query.now (option_map (λ p. arc_value p.now) path) }
         ensures problem { self.new.problem ≡ self.old.problem }
         ensures set { IfOk result (λ set. HasSet self.new.sets set query.now.agent query.now.constraints) }
+        ensures told { IfOk result (λ set. TellsUpTo self.new.sets set query.now.bound) }
     {
         if let Some(set) = self.sets.find(query.agent(), query.constraints()) {
             if matches!(self.find_own_path(set, query.bound()), Lookup::Known(_)) {
@@ -101,6 +102,7 @@ impl<'p> PathCache<'p> {
         ensures problem { self.new.problem ≡ self.old.problem }
         ensures kept { (n a : ℕ) (cs : List Constraint) → HasSet self.old.sets n a cs → HasSet self.new.sets n a cs }
         ensures set { IfOk result (λ set. HasSet self.new.sets set agent constraints) }
+        ensures told { IfOk result (λ set. TellsUpTo self.new.sets set bound) }
     {
         match path {
             Some(path) => {
@@ -122,6 +124,7 @@ impl<'p> PathCache<'p> {
         ensures problem { self.new.problem ≡ self.old.problem }
         ensures kept { (n a : ℕ) (cs : List Constraint) → HasSet self.old.sets n a cs → HasSet self.new.sets n a cs }
         ensures set { IfOk result (λ set. HasSet self.new.sets set agent constraints) }
+        ensures told { IfOk result (λ set. (bound : ℕ) → IsTold bound own → TellsUpTo self.new.sets set bound) }
     {
         let set = self.sets.push(ConstraintSet {
             agent,

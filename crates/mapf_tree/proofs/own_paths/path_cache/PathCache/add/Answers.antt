@@ -2,6 +2,7 @@ use Rattle.std.proofs.Common.{◌≡◌, ℕ, List, Option, Some, ◌∙◌}
 use Rattle.std.specs.Prelude.{IfSome, slice_get}
 use Rattle.std.proofs.lemmas.List.Elements.{All-weaker}
 use Rattle.std.proofs.lemmas.Option.{IfSome_then}
+use Rattle.std.proofs.lemmas.Result.{IfOk-weaker}
 use Rattle.mapf_plan.specs.KnownPaths.{KnownPaths}
 use Rattle.mapf_plan.proofs.PlanNumbers.{known_stays}
 use Rattle.mapf_tree.specs.Problem.{Problem}
@@ -9,7 +10,8 @@ use Rattle.mapf_tree.specs.declared.own_paths.path_cache.node_numbers.NodeNumber
 use Rattle.mapf_tree.specs.declared.own_paths.constraint_sets.ConstraintSet.{ConstraintSet}
 use Rattle.mapf_tree.specs.declared.own_paths.shared_changes.SharedChange.{SharedChange}
 use Rattle.mapf_tree.specs.SharedChanges.{IsShared}
-use Rattle.mapf_tree.specs.PathCache.{IsRemembered}
+use Rattle.mapf_tree.specs.declared.own_paths.constraint_sets.CachedPath.TheVariants.{Path}
+use Rattle.mapf_tree.specs.PathCache.{IsRemembered, IsTold, TellsUpTo}
 use Rattle.mapf_tree.proofs.PathCaches.{known_kept}
 use Rattle.mapf_tree.proofs.own_paths.path_cache.PathCache.add.Goals as goal
 
@@ -32,3 +34,8 @@ invariant_of-self-in_err-number-in-Some c =
 pub invariant_of-self-in-Some : goal.invariant_of-self-in-Some
 invariant_of-self-in-Some c =
     all_kept c.self.inside.problem.now c.self.inside.paths c.number.new.self c.self.inside.sets c.self.inside.firsts.items c.self.inside.latest c.self.inside.changes.items c.number.ensures.rule c.number.ensures.keeps c.self.invariant
+
+pub returns-in_ok-number-in-Some-clause-told : goal.returns-in_ok-number-in-Some-clause-told
+returns-in_ok-number-in-Some-clause-told c =
+    let sets = c.push.new.self.sets in
+    IfOk-weaker c.push.result (λ set. (bound : ℕ) → IsTold bound (Path c.in_ok-number-in-Some.number) → TellsUpTo sets set bound) (λ set. TellsUpTo sets set c.args.bound) (λ set told. told c.args.bound tt) c.push.ensures.told

@@ -18,4 +18,4 @@ returns c =
     found_at c.args.self.now c.args.node.now c.args.side c.args.sets.now c.unwrap-conflict.result c.agent_of-agent.result c.bound_for-bound.result c.in_ok-extended.extended c.constraint_of-constraint.result c.in-Known.path
     c.requires.node c.requires.sets is c.agent_of-agent.ensures c.constraint_of-constraint.ensures (omega (arith, inside, c.requires.node.stands.agents))
     (subst (λ (b : PathCache). IsExtended b.sets (slice_index c.args.sets.now c.agent_of-agent.result) c.constraint_of-constraint.result c.in_ok-extended.extended) c.self.view_is c.in_ok-extended.ensures)
-    (subst (λ (b : PathCache). Leaves b.problem c.args.node.now.plan c.agent_of-agent.result c.bound_for-bound.result) c.self.view_is c.bound_for-bound.ensures.leaves) c.in-Known.ensures
+    (subst (λ (b : PathCache). Leaves b.problem c.args.node.now.plan c.agent_of-agent.result c.bound_for-bound.result) c.self.view_is c.bound_for-bound.ensures.leaves) c.in-Known.ensures.own

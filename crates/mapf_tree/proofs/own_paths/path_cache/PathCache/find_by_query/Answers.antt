@@ -11,7 +11,7 @@ returns-clause-found c =
     let has : HasSet cache.sets set q.agent q.constraints =
     subst (λ (b : PathCache). HasSet b.sets set q.agent q.constraints) c.self.view_is
     (subst₂ (λ a cs. HasSet c.self.inside.sets set a cs) c.agent.ensures.agent c.constraints.ensures c.in-Some.ensures) in
-    let own = subst (λ l. IsOwnIn cache set l path) c.bound.ensures c.in-Known.ensures q.agent q.constraints has in (
+    let own = subst (λ l. IsOwnIn cache set l path) c.bound.ensures c.in-Known.ensures.own q.agent q.constraints has in (
       q,
       problem,
       c.in_ok-query.ensures.side,

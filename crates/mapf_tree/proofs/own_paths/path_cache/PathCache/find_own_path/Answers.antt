@@ -5,8 +5,8 @@ use Rattle.mapf_tree.specs.PathCache.{PathCache, IsOwnIn}
 use Rattle.mapf_tree.proofs.PathCaches.{own_in_path}
 use Rattle.mapf_tree.proofs.own_paths.path_cache.PathCache.find_own_path.Goals as goal
 
-pub returns-in-Some-path : goal.returns-in-Some-path
-returns-in-Some-path c =
+pub returns-in-Some-path-clause-own : goal.returns-in-Some-path-clause-own
+returns-in-Some-path-clause-own c =
     let s = c.in-Some.known.now in let path = arc_value c.in-Some-path.path.now in
     let cache : PathCache = record { problem = c.self.inside.problem.now; sets = c.self.inside.sets; paths = c.self.inside.paths.paths } in
     subst (λ (b : PathCache). c.args.bound ≤ b.problem.bound → IsOwnIn b c.args.set c.args.bound (Some c.in-Path.number)) c.self.view_is
