@@ -84,10 +84,12 @@ fn solved_alone<R: Threads + Sync>(
 /// A limit on nodes that is not reached: with one all sessions go by keys.
 const UNREACHED: u64 = 1_000;
 
-/// Whether the sides' jobs of the change of places have these numbers at their nodes' turns, in sessions of so many nodes.
+/// Whether the sides' jobs of the change of places have these numbers at their nodes' turns, with so many workers in sessions of
+/// so many nodes.
 fn changes_in_order<R: Threads + Sync>(
     rt: &R,
     alloc: Global,
+    workers: usize,
     session_nodes: u64,
     numbers: &[u64],
 ) -> bool {
@@ -96,7 +98,7 @@ fn changes_in_order<R: Threads + Sync>(
     };
     let problem = whole.with_nodes(UNREACHED);
     let gate = InOrder::new(numbers);
-    let answer = solved_alone(rt, alloc, &problem, 1, session_nodes, &gate);
+    let answer = solved_alone(rt, alloc, &problem, workers, session_nodes, &gate);
     matches!(answer, Some(Answer::Plan { stated: 4, .. }))
         && gate.are_first()
         && gate.entered() == numbers.len() as u64
@@ -111,10 +113,18 @@ fn a_session_ends_after_its_nodes(rt: HostRuntime) {
     let of_two = [2, 3, 4, 5, 8, 9, 10, 11, 18, 19, 20, 21, 24, 25];
     let of_three = [2, 3, 4, 5, 6, 7, 12, 13, 14, 15, 16, 17, 20, 21];
     let of_more = [2, 3, 4, 5, 6, 7, 8, 9, 10, 11, 12, 13, 14, 15];
-    assert!(rt; changes_in_order(&rt, alloc, 1, &of_one));
-    assert!(rt; changes_in_order(&rt, alloc, 2, &of_two));
-    assert!(rt; changes_in_order(&rt, alloc, 3, &of_three));
-    assert!(rt; changes_in_order(&rt, alloc, 4096, &of_more));
+    assert!(rt; changes_in_order(&rt, alloc, 1, 1, &of_one));
+    assert!(rt; changes_in_order(&rt, alloc, 1, 2, &of_two));
+    assert!(rt; changes_in_order(&rt, alloc, 1, 3, &of_three));
+    assert!(rt; changes_in_order(&rt, alloc, 1, 4096, &of_more));
+}
+
+/// Two workers: the nodes that wait are looked at before each second one. So nothing is posted for the second; its children have
+/// their sides posted together with those of the third, before that is taken, and the third's children before the fifth.
+#[test]
+fn two_workers_have_a_look_for_each_second_node(rt: HostRuntime) {
+    let numbers = [2, 3, 4, 5, 6, 7, 8, 9, 10, 11, 12, 13];
+    assert!(rt; changes_in_order(&rt, rt.alloc(), 2, 4096, &numbers));
 }
 
 /// How many nodes are taken where two agents face each other.
