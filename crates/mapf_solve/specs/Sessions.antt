@@ -2,6 +2,7 @@
 use Rattle.std.specs.Prelude.{◌≡◌, ℕ, ◌≤◌, List, [], Option, Some, None, Result, Ok, Err, slice_index_or}
 use Rattle.mapf_grid.specs.declared.fault.NoMemory.{NoMemory}
 use Rattle.mapf_board.specs.Views.{Held, job_in}
+use Rattle.mapf_board.specs.declared.live.left.Left.TheVariants.{Answer, Job}
 use Rattle.mapf_plan.specs.declared.rule.Rule.TheVariants.{Classical}
 use Rattle.mapf_tree.specs.declared.search.progress.Progress.{Progress}
 use Rattle.mapf_tree.specs.declared.search.progress.Progress.TheVariants.{Working, Finished}
@@ -17,6 +18,11 @@ no_problem = record { inst = record { grid = record { width = 0; height = 0; fre
 -- what a board gives back is of a job for a child of a node of this problem's tree
 abbrev pub IsGivenOf : Problem → Held WantedChild (Option Node) → Type 0
 IsGivenOf p given = (job_in given).query.problem ≡ p
+
+-- how many children it is: one, or only a job
+abbrev pub children_in : {J A : Type 0} → Held J A → ℕ
+children_in (Answer p) = 1
+children_in (Job j) = 0
 
 -- the current job of each slot, if any, is for a child of a node of this problem's tree
 abbrev pub AreSidesOf : Problem → List (Option WantedChild) → Type 0

@@ -2,6 +2,7 @@
 
 ghost use Rattle.std.specs.Prelude.{◌<◌, ◌≤◌};
 ghost use Rattle.mapf_board.specs.declared.limits.TheConstants.{MOST_WORKERS};
+ghost use Rattle.mapf_solve.specs.declared.pace.TheConstants.{MOST_SESSION_NODES, MOST_WORKER_TURNS};
 
 use crate::Pace;
 use mapf_board::AlwaysGrants;
@@ -23,7 +24,8 @@ pub struct Means<'a, R, G, S> {
     /// Grants memory for a worker's jobs.
     pub supply: &'a S,
     pub ghost few: { (0 < workers) × (workers ≤ MOST_WORKERS) },
-    pub ghost paced: { 1 ≤ pace.session_nodes },
+    pub ghost turns: { pace.worker_turns ≤ MOST_WORKER_TURNS },
+    pub ghost nodes: { (1 ≤ pace.session_nodes) × (pace.session_nodes ≤ MOST_SESSION_NODES) },
 }
 
 impl<'a, R, G> Means<'a, R, G, AlwaysGrants> {
@@ -34,7 +36,8 @@ impl<'a, R, G> Means<'a, R, G, AlwaysGrants> {
         pace: Pace,
         gate: &'a G,
     ) -> Means<'a, R, G, AlwaysGrants>
-        requires { 1 ≤ pace.session_nodes }
+        requires turns { pace.worker_turns ≤ MOST_WORKER_TURNS }
+        requires nodes { (1 ≤ pace.session_nodes) × (pace.session_nodes ≤ MOST_SESSION_NODES) }
     {
         Means {
             rt,

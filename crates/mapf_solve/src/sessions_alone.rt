@@ -1,5 +1,8 @@
 //! Sessions without workers.
 
+ghost use Rattle.std.specs.Prelude.{◌≡◌, ◌+◌, ◌/◌, ◌<◌, ◌≤◌, ◌↔◌, IsTrue};
+ghost use Rattle.mapf_solve.specs.declared.sessions_alone.TheConstants.{LONGEST, NODES_A_CHILD};
+
 /// Workers found too little to do where they worked out fewer children than one for so many nodes.
 const NODES_A_CHILD: u64 = 4;
 
@@ -21,6 +24,7 @@ pub(crate) struct SessionsAlone {
     next: u64,
     /// How many children workers worked out in this session.
     children: u64,
+    ghost few: { (sessions ≤ LONGEST) × (next ≤ LONGEST) },
 }
 
 impl SessionsAlone {
@@ -34,17 +38,25 @@ impl SessionsAlone {
     }
 
     /// A worker worked a child out.
-    pub(crate) fn count(&mut self) {
+    pub(crate) fn count(&mut self)
+        ensures { self.old.children < u64.MAX → self.new.children ≡ self.old.children + 1 }
+    {
         self.children = self.children.saturating_add(1);
     }
 
     /// Whether the session that begins goes on without workers.
-    pub(crate) fn is_due(&self) -> bool {
+    pub(crate) fn is_due(&self) -> bool
+        ensures { IsTrue result ↔ 0 < self.now.sessions }
+    {
         self.sessions > 0
     }
 
     /// A session of so many nodes ended.
-    pub(crate) fn judge(&mut self, nodes: u64) {
+    pub(crate) fn judge(&mut self, nodes: u64)
+        ensures back { 0 < self.old.sessions → self.new.sessions + 1 ≡ self.old.sessions }
+        ensures with_workers { self.old.sessions ≡ 0 → nodes / NODES_A_CHILD ≤ self.old.children
+            → self.new.sessions ≡ 0 }
+    {
         if self.sessions > 0 {
             self.sessions -= 1;
         } else if self.children < nodes / NODES_A_CHILD {

@@ -1,6 +1,6 @@
 //! What the owner of a session's board works with.
 
-ghost use Rattle.std.specs.Prelude.{◌≡◌, ◌<◌, IfOk};
+ghost use Rattle.std.specs.Prelude.{◌≡◌, ◌<◌, None, IfOk, is_some, map, replicate};
 ghost use Rattle.mapf_board.specs.Owners.{IsOwnerOf, IsOwnerAt, board_of, currents};
 ghost use Rattle.mapf_board.specs.Workers.{size_of};
 ghost use Rattle.mapf_board.specs.declared.limits.TheConstants.{MOST_SLOTS};
@@ -43,6 +43,7 @@ pub(crate) struct Desk<'p, 's, P: OneProblem, B: OneBoard> {
     ghost slots: { size_of live.now ≡ MOST_SLOTS },
     ghost owns: { IsOwnerOf live.now owner },
     ghost sides: { AreSidesOf P.problem (currents owner) },
+    ghost marked: { used ≡ map is_some (currents owner) },
 }
 
 impl<'p, 's, P: OneProblem, B: OneBoard> Desk<'p, 's, P, B> {
@@ -54,7 +55,7 @@ impl<'p, 's, P: OneProblem, B: OneBoard> Desk<'p, 's, P, B> {
         requires board { board_of live.now ≡ B.board }
         requires slots { size_of live.now ≡ MOST_SLOTS }
         requires owns { IsOwnerOf live.now owner }
-        requires sides { AreSidesOf P.problem (currents owner) }
+        requires no_job { currents owner ≡ replicate MOST_SLOTS None }
     {
         Desk {
             live,

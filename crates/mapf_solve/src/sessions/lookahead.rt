@@ -1,11 +1,11 @@
 //! What sessions of a search hand on: own paths, and what is known of children of nodes that wait.
 
-ghost use Rattle.std.specs.Prelude.{◌≡◌, ◌<◌, ◌≤◌, All, IfErr, IfOk, IfSome, vec_len};
+ghost use Rattle.std.specs.Prelude.{◌≡◌, ◌+◌, ◌<◌, ◌≤◌, All, IfErr, IfOk, IfSome, vec_len};
 ghost use Rattle.mapf_board.specs.declared.limits.TheConstants.{MOST_WORKERS};
 ghost use Rattle.mapf_tree.specs.Family.{IsBranching, IsChildOf};
 ghost use Rattle.mapf_low.specs.Lookup.{IfKnown};
 ghost use Rattle.mapf_tree.specs.SideQuery.{IsQueryOf};
-ghost use Rattle.mapf_solve.specs.Sessions.{IsGivenOf};
+ghost use Rattle.mapf_solve.specs.Sessions.{IsGivenOf, children_in};
 
 use crate::sessions::brands::OneProblem;
 use crate::sessions::child_stage::{ChildOfJob, ChildStage, Entry};
@@ -167,6 +167,8 @@ impl<'p, P: OneProblem> Lookahead<'p, P> {
     /// Keeps what a worker left, where the job's node still waits: the child, or that there was no memory for it.
     pub(crate) fn keep(&mut self, given: Given<'p>)
         requires { IsGivenOf P.problem given }
+        ensures { self.old.alone.children < u64.MAX
+            → self.new.alone.children ≡ self.old.alone.children + children_in given.entry }
     {
         match given {
             Left::Answer(pair) => {
@@ -185,7 +187,19 @@ impl<'p, P: OneProblem> Lookahead<'p, P> {
         for (_slot, given) in left {
             match given {
                 Left::Answer(pair) => self.learn(pair),
-                Left::Job(job) => self.forget(&job),
+                Left::Job(_dropped) => {}
+            }
+        }
+        self.forget_jobs();
+    }
+
+    /// Nothing is known any more of the children whose jobs are in slots.
+    fn forget_jobs(&mut self) {
+        let mut place = self.entries.len();
+        while place > 0 {
+            place -= 1;
+            if let ChildStage::Posted(_) = &self.entries[place].stage {
+                self.entries.remove(place);
             }
         }
     }
@@ -193,6 +207,7 @@ impl<'p, P: OneProblem> Lookahead<'p, P> {
     /// Remembers the path of a child that was worked out, and keeps the child where its node still waits.
     fn learn(&mut self, pair: Pair<SideWork<'p>>)
         requires { pair.0.query.problem ≡ P.problem }
+        ensures { self.new.alone ≡ self.old.alone }
     {
         let (job, child) = pair.parts();
         self.own_paths.learn(job.node(), job.query(), &child);
@@ -202,16 +217,11 @@ impl<'p, P: OneProblem> Lookahead<'p, P> {
     }
 
     /// There was no memory for this job.
-    fn give_up(&mut self, job: &SideJob<'p>) {
+    fn give_up(&mut self, job: &SideJob<'p>)
+        ensures { self.new.alone ≡ self.old.alone }
+    {
         if let Ok(place) = self.place_of(job.node(), job.side()) {
             self.entries[place].stage = ChildStage::Unposted;
-        }
-    }
-
-    /// Nothing is known any more of the child that a job is for.
-    fn forget(&mut self, job: &SideJob<'p>) {
-        if let Ok(place) = self.place_of(job.node(), job.side()) {
-            self.entries.remove(place);
         }
     }
 

@@ -1,10 +1,10 @@
 //! A session: a search goes on with a source whose owner works ahead, and workers beside it.
 
-ghost use Rattle.std.specs.Prelude.{◌≡◌, None, Ok};
+ghost use Rattle.std.specs.Prelude.{◌≡◌, None, Ok, replicate};
 ghost use Rattle.mapf_board.specs.Owners.{IsOwnerOf, board_of, currents};
 ghost use Rattle.mapf_board.specs.Workers.{IsCrewOf, size_of};
 ghost use Rattle.mapf_board.specs.declared.limits.TheConstants.{MOST_SLOTS};
-ghost use Rattle.mapf_solve.specs.Sessions.{AreSidesOf, HasTaken};
+ghost use Rattle.mapf_solve.specs.Sessions.{HasTaken};
 
 use crate::means::Means;
 use crate::sessions::brands::{OneBoard, OneProblem};
@@ -70,7 +70,7 @@ fn session_at<'p, P: OneProblem, B: OneBoard, R: Threads + Sync, G: Gate, S: Sup
     requires board { board_of live ≡ B.board }
     requires slots { size_of live ≡ MOST_SLOTS }
     requires owns { IsOwnerOf live owner }
-    requires sides { AreSidesOf P.problem (currents owner) }
+    requires no_job { currents owner ≡ replicate MOST_SLOTS None }
     requires crew { IsCrewOf live seats.items }
     requires open_yet { sessions.search.outcome ≡ Ok None }
     ensures { HasTaken P.problem means.now.pace.session_nodes sessions.entry.search.last

@@ -9,7 +9,7 @@ loop-sessions-preserved g c =
 
 pub loop-sessions-smaller : goal.loop-sessions-smaller
 loop-sessions-smaller g c =
-    falls g.P.OneProblem.problem _ _ c.session-further.result.0.search _ c.args.means.now.paced c.session-further.ensures (c.in-Ok-Working.is ∙ ap (λ x. Ok x) (rw c.in-Ok-Working.is at c.in-Ok-Working.field-0-is))
+    falls g.P.OneProblem.problem _ _ c.session-further.result.0.search _ c.args.means.now.nodes.0 c.session-further.ensures (c.in-Ok-Working.is ∙ ap (λ x. Ok x) (rw c.in-Ok-Working.is at c.in-Ok-Working.field-0-is))
 
 pub returns : goal.returns
 returns g c =

@@ -1,0 +1,8 @@
+use Rattle.std.proofs.Common.{◌≤◌, vec_len}
+use Rattle.mapf_solve.proofs.sessions.lookahead.Lookahead.forget_jobs.Given as goal
+
+abbrev pub invariant-loop-place : goal.invariant-loop-place
+invariant-loop-place g l = l.place ≤ vec_len l.self.entries
+
+abbrev pub decreases-loop-place : goal.decreases-loop-place
+decreases-loop-place g l = l.place
