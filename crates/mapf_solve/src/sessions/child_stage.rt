@@ -31,6 +31,17 @@ pub(crate) struct Entry<'p, P: OneProblem> {
     pub(crate) stage: ChildStage<'p, P>,
 }
 
+/// Nothing is known any more of the children whose jobs are in slots.
+pub(crate) fn forget_posted<P: OneProblem>(entries: &mut Vec<Entry<'_, P>>) {
+    let mut place = entries.len();
+    while place > 0 {
+        place -= 1;
+        if let ChildStage::Posted(_) = &entries[place].stage {
+            entries.remove(place);
+        }
+    }
+}
+
 /// A child, and the job that it fits: one for a side of a node of the problem's tree.
 pub(crate) struct ChildOfJob<'p, P: OneProblem> {
     job: SideJob<'p>,

@@ -8,7 +8,7 @@ ghost use Rattle.mapf_tree.specs.SideQuery.{IsQueryOf};
 ghost use Rattle.mapf_solve.specs.Sessions.{IsGivenOf, children_in};
 
 use crate::sessions::brands::OneProblem;
-use crate::sessions::child_stage::{ChildOfJob, ChildStage, Entry};
+use crate::sessions::child_stage::{ChildOfJob, ChildStage, Entry, forget_posted};
 use crate::sessions::desk::{Given, Slot};
 use crate::sessions::side_job::{SideJob, SideWork};
 use crate::sessions_alone::SessionsAlone;
@@ -190,18 +190,7 @@ impl<'p, P: OneProblem> Lookahead<'p, P> {
                 Left::Job(_dropped) => {}
             }
         }
-        self.forget_jobs();
-    }
-
-    /// Nothing is known any more of the children whose jobs are in slots.
-    fn forget_jobs(&mut self) {
-        let mut place = self.entries.len();
-        while place > 0 {
-            place -= 1;
-            if let ChildStage::Posted(_) = &self.entries[place].stage {
-                self.entries.remove(place);
-            }
-        }
+        forget_posted(&mut self.entries);
     }
 
     /// Remembers the path of a child that was worked out, and keeps the child where its node still waits.
