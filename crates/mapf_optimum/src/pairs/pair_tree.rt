@@ -21,7 +21,7 @@ use mapf_plan::{Path, Plan};
 use std::alloc::Global;
 
 /// How many nodes of the tree are expanded, at most.
-const MOST_NODES: usize = 8;
+const PAIR_NODES: usize = 8;
 
 /// How many pairs of cells are looked at then, at most.
 const BUDGET: usize = 20_000;
@@ -39,7 +39,7 @@ pub struct AgentInNode<'a> {
 
 /// What a search among the plans of two agents tells.
 #[derive(Drop)]
-struct Found {
+struct LeastTogether {
     /// Each costs at least so much.
     least: u64,
     /// Whether they may cost more than that.
@@ -101,7 +101,7 @@ fn search(
     one: &AgentInNode<'_>,
     other: &AgentInNode<'_>,
     waiting: Waiting,
-) -> Result<Found, NoMemory>
+) -> Result<LeastTogether, NoMemory>
     requires one { StandsIn low.now one.now.agent one.now.constraints.now one.now.path.now }
     requires other { StandsIn low.now other.now.agent other.now.constraints.now other.now.path.now }
     requires way { IsUnderWayFrom two.now (one.now.constraints.now ∷ other.now.constraints.now ∷ []) waiting }
@@ -110,19 +110,19 @@ fn search(
     ensures few { IfOk result (λ found. found.least ≤ two.now.bound + 1) }
 {
     let mut waiting = waiting;
-    for nodes in 0..MOST_NODES {
+    for nodes in 0..PAIR_NODES {
         let Some(node) = waiting.take_least() else {
             return Ok(none_within(two));
         };
         let least = node.label();
         let Some(conflict) = node.first_conflict(two) else {
-            return Ok(Found {
+            return Ok(LeastTogether {
                 least,
                 is_open: false,
             });
         };
         if nodes == 1 && can_one_avoid(alloc, low, one, other, least)? {
-            return Ok(Found {
+            return Ok(LeastTogether {
                 least,
                 is_open: false,
             });
@@ -130,7 +130,7 @@ fn search(
         expand(alloc, two, &node, &conflict, &mut waiting)?;
     }
     match waiting.take_least() {
-        Some(node) => Ok(Found {
+        Some(node) => Ok(LeastTogether {
             least: node.label(),
             is_open: true,
         }),
@@ -139,10 +139,10 @@ fn search(
 }
 
 /// There is no plan of both within the bound.
-fn none_within(two: &TwoAgents<'_, '_>) -> Found
+fn none_within(two: &TwoAgents<'_, '_>) -> LeastTogether
     ensures { result.least ≡ two.now.bound + 1 }
 {
-    Found {
+    LeastTogether {
         least: u64::from(two.bound()) + 1,
         is_open: false,
     }
