@@ -15,7 +15,7 @@ use std::alloc::Global;
 use std::marker::Model;
 
 /// How many dead ends a search backwards may meet before it begins again, by the search forwards.
-const DEAD_ENDS: usize = 256;
+const DEAD_ENDS: usize = 1_000;
 
 /// A problem with the distances from each agent's start, by which paths are searched backwards.
 pub struct LowLevel<'p> {
