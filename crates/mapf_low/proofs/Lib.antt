@@ -10,3 +10,4 @@ mod Reading
 mod Rising
 mod Ending
 pub mod Sets
+pub mod SameSets

@@ -1,3 +1,5 @@
+ghost use Rattle.std.specs.Prelude.{◌≡◌, IsTrue};
+
 pub(crate) mod times;
 
 use crate::Constraint;
@@ -75,6 +77,22 @@ impl Constraints {
         self.sorted.as_slice()
     }
 
+    /// Whether it is equal to another set.
+    pub fn is_same(&self, other: &Constraints) -> bool
+        ensures { IsTrue result → self.now ≡ other.now }
+    {
+        is_same_list(self.as_slice(), other.as_slice())
+    }
+
+    /// A number that another one and this set give, by which both are looked for. Others seldom give the same.
+    pub fn mixed_into(&self, number: u64) -> u64 {
+        let mut mixed = number;
+        for constraint in &self.sorted {
+            mixed = constraint.mixed_into(mixed);
+        }
+        mixed
+    }
+
     /// Whether the agent may be on the cell at this time step.
     pub fn allows_at(&self, cell: Cell, time: u32) -> bool
         ensures { IsTrue result ↔ (¬ Contains self.now (Constraint.Vertex cell time)) }
@@ -107,4 +125,11 @@ impl Constraints {
     {
         self.sorted.binary_search(&constraint).is_ok()
     }
+}
+
+/// Whether two lists of constraints are one.
+fn is_same_list(one: &[Constraint], other: &[Constraint]) -> bool
+    ensures { IsTrue result → one.now ≡ other.now }
+{
+    one == other
 }
