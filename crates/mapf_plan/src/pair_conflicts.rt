@@ -47,9 +47,10 @@ pub(crate) fn pair_conflicts_without(
 {
     let mut left = spare;
     left.clear();
+    left.reserve(conflicts.len())?;
     for conflict in conflicts {
         if usize::from(conflict.first) != agent && usize::from(conflict.second) != agent {
-            left.push(*conflict)?;
+            left.push_reserved(*conflict);
         }
     }
     Ok(left)
