@@ -4,16 +4,13 @@ ghost use Rattle.std.specs.Prelude.{◌≡◌, IfOk, IfSome, IsTrue};
 ghost use Rattle.mapf_bounds.specs.Pairs.{DoCost, HaveLeast};
 
 use mapf_grid::NoMemory;
-use mapf_low::{Constraint, Constraints};
+use mapf_low::Constraints;
 use mapf_optimum::{AgentInNode, LowLevel, cost_together};
 use mapf_plan::Path;
 use mapf_tree::Problem;
 use std::alloc::Global;
 use std::collections::HashMap;
 use std::marker::Model;
-
-/// 2^64 by the golden ratio.
-const MIXER: u64 = 11_400_714_819_323_198_485;
 
 /// Two agents, and what they are forbidden.
 #[derive(Drop)]
@@ -161,48 +158,13 @@ fn is_same(one: &AgentPair, other: &AgentPair) -> bool
 {
     one.first == other.first
         && one.second == other.second
-        && is_same_set(&one.first_set, &other.first_set)
-        && is_same_set(&one.second_set, &other.second_set)
-}
-
-/// Whether two lists of constraints are one.
-fn is_same_list(one: &[Constraint], other: &[Constraint]) -> bool
-    ensures { IsTrue result → one.now ≡ other.now }
-{
-    one == other
-}
-
-/// Whether two sets are one.
-fn is_same_set(one: &Constraints, other: &Constraints) -> bool
-    ensures { IsTrue result → one.now ≡ other.now }
-{
-    is_same_list(one.as_slice(), other.as_slice())
+        && one.first_set.is_same(&other.first_set)
+        && one.second_set.is_same(&other.second_set)
 }
 
 /// A number for a pair. Others seldom have the same.
 fn key_of(pair: &AgentPair) -> u64 {
-    let mut key = mix(pair.first as u64, pair.second as u64);
-    for constraint in pair.first_set.as_slice() {
-        key = mix_constraint(key, constraint);
-    }
-    key = mix(key, 1);
-    for constraint in pair.second_set.as_slice() {
-        key = mix_constraint(key, constraint);
-    }
-    key
-}
-
-/// A number that a constraint goes into.
-fn mix_constraint(number: u64, constraint: &Constraint) -> u64 {
-    let (from, to, time) = match *constraint {
-        Constraint::Vertex { cell, time } => (cell, cell, time),
-        Constraint::Edge { from, to, time } => (from, to, time),
-    };
-    let cells = u64::from(from.number()) * 4_294_967_296 + u64::from(to.number());
-    mix(number, cells ^ u64::from(time).rotate_left(24))
-}
-
-/// A number that another one goes into.
-fn mix(number: u64, other: u64) -> u64 {
-    (number.rotate_left(5) ^ other).wrapping_mul(MIXER)
+    let agents = (pair.first as u64).rotate_left(32) ^ pair.second as u64;
+    let first = pair.first_set.mixed_into(agents);
+    pair.second_set.mixed_into(first.rotate_left(1))
 }
