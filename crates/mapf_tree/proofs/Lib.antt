@@ -24,7 +24,6 @@ mod Chains
 mod LeastCosts
 mod SideNodes
 mod Queries
-pub mod SameSets
 mod PathCaches
 mod Rising
 pub mod OpenNodes

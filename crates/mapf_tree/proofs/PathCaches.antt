@@ -1,9 +1,9 @@
 -- What a path cache remembers.
 use Rattle.std.proofs.Common.{◌≡◌, ◌⊎◌, ℕ, zero, suc, ◌+◌, ◌<◌, ◌≤◌, List, [], ◌∷◌, ◌++◌, length, get_or, set, replicate, Option, Some, None, IsSome, subst, subst₂, sym, refl, ap, ◌∙◌, inl, inr, ⊎_elim, arith, get_or-set_same, get_or-set_other}
-use Rattle.std.specs.Prelude.{slice_get, slice_index}
+use Rattle.std.specs.Prelude.{slice_get, slice_index, option_map}
 use Rattle.std.proofs.lemmas.List.{length-set, length_push, length-append, length-replicate, get_or-replicate, get_or_append_left, get_or_push}
 use Rattle.std.proofs.lemmas.List.Sums.{get_or-le-sum_by}
-use Rattle.std.proofs.lemmas.Option.{get_or_from_slice_get, slice_get_within, slice_get-get_or}
+use Rattle.std.proofs.lemmas.Option.{get_or_from_slice_get, slice_get_within, slice_get-get_or, IfSome_then}
 use borrow.Author.Count.{below_more}
 use Rattle.mapf_grid.proofs.Lists.{set_cases}
 use Rattle.mapf_plan.specs.Path.{cost}
@@ -22,7 +22,7 @@ use Rattle.mapf_tree.specs.Nodes.{Changed, Node, IsSameSet, IsConflictOf}
 use Rattle.mapf_tree.specs.Family.{IsBranching, IsChildOf, IsOwnWithin, Leaves}
 use Rattle.mapf_tree.specs.SideQuery.{SideQuery, IsQueryOf, IsFoundBy}
 use Rattle.mapf_tree.specs.Tree.{IsAllowedFor, IsOwnPathOf, agent_on, constraint_on, constraints_of}
-use Rattle.mapf_tree.specs.PathCache.{PathCache, HasSet, IsExtension, AreExtensions, IsExtended, AreKnown, IsCachedPath, IsOwnIn, IsFoundAt, AreFirst, AreFirstPaths, AreSetsOf}
+use Rattle.mapf_tree.specs.PathCache.{PathCache, HasSet, IsExtension, AreExtensions, IsExtended, AreKnown, IsCachedPath, IsOwnIn, IsNumberOf, IsAskedAt, IsTurnAt, HasNoTurnAt, GivesOwn, HasPath, AreFirst, AreFirstPaths, AreSetsOf}
 use Rattle.mapf_tree.proofs.ConstraintSets.{with_same, IsWith, IsWith-cons}
 use Rattle.mapf_tree.proofs.SideNodes.{own_within_lower, within_bound, agent_inside}
 use Rattle.mapf_tree.proofs.Queries.{is_child, no_child}
@@ -66,10 +66,10 @@ same_number sets number agent other cs ds one has =
     (sym one.2 ∙ same.0, sym one.3 ∙ same.1)
 
 -- an extension tells the set with its constraint more, whichever agent has the first one
-pub extension_tells : (sets : List ConstraintSet) (e : Extension) (before : ℕ) (constraint : Constraint) → IsExtension sets e → e.before ≡ before → e.constraint ≡ constraint → IsExtended sets before constraint e.after
-extension_tells sets e before constraint is same forbids agent cs has =
-    let one = same_number sets before is.0 agent is.1 cs (subst (λ n. HasSet sets n is.0 is.1) same is.3) has in
-    (is.2, subst (λ a. HasSet sets e.after a is.2) one.0 is.4, subst₂ (λ k ds. IsWith k ds is.2) forbids one.1 is.5)
+pub extension_tells : (sets : List ConstraintSet) (before : ℕ) (constraint : Constraint) (after : ℕ) → IsExtension sets before constraint after → IsExtended sets before constraint after
+extension_tells sets before constraint after is agent cs has =
+    let one = same_number sets before is.0 agent is.1 cs is.3 has in
+    (is.2, subst (λ a. HasSet sets after a is.2) one.0 is.4, subst (λ ds. IsWith constraint ds is.2) one.1 is.5)
 
 -- a set keeps its number where one more is added
 pub set_kept : (sets more : List ConstraintSet) (added : ConstraintSet) (number agent : ℕ) (cs : List Constraint) → more ≡ sets ++ added ∷ [] → HasSet sets number agent cs → HasSet more number agent cs
@@ -79,16 +79,26 @@ set_kept sets more added number agent cs is has = (has.0, subst (λ l. slice_get
 pub set_added : (sets more : List ConstraintSet) (added : ConstraintSet) (number : ℕ) → more ≡ sets ++ added ∷ [] → number ≡ length sets → HasSet more number added.agent added.constraints
 set_added sets more added number is at = (added, subst₂ (λ l n. slice_get l n ≡ Some added) (sym is) (sym at) (slice_get_push sets added), refl, refl)
 
+-- what an extension tells
+abbrev Tells : List ConstraintSet → Extension → Type 0
+Tells sets e = IsExtension sets e.before e.constraint e.after × GivesOwn sets e.after e.constraint (option_map (λ c. c.value) e.change)
+
 -- what is remembered of extensions stays so with one more
-pub extensions_more : (sets : List ConstraintSet) (old new : List Extension) (e : Extension) → new ≡ old ++ e ∷ [] → AreExtensions sets old → IsExtension sets e → AreExtensions sets new
-extensions_more sets old new e is are one number x at =
-    ⊎_elim (λ h. are number x h) (λ h. subst (IsExtension sets) (sym h) one) (of_push old e number x (subst (λ xs. slice_get xs number ≡ Some x) is at))
+pub extensions_more : (sets : List ConstraintSet) (old new : List Extension) (e : Extension) → new ≡ old ++ e ∷ [] → AreExtensions sets old → IsExtension sets e.before e.constraint e.after →
+    GivesOwn sets e.after e.constraint (option_map (λ c. c.value) e.change) → AreExtensions sets new
+extensions_more sets old new e is are one gives number x at =
+    ⊎_elim (λ h. are number x h) (λ h. subst (Tells sets) (sym h) (one, gives)) (of_push old e number x (subst (λ xs. slice_get xs number ≡ Some x) is at))
 
 -- and where a set is added
 pub extensions_kept : (sets more : List ConstraintSet) (added : ConstraintSet) (all : List Extension) → more ≡ sets ++ added ∷ [] → AreExtensions sets all → AreExtensions more all
+unfolding set_kept
 extensions_kept sets more added all is are number e at =
-    let old = are number e at in
-    (old.0, old.1, old.2, set_kept sets more added e.before old.0 old.1 is old.3, set_kept sets more added e.after old.0 old.2 is old.4, old.5)
+    let old = (are number e at).0 in
+    let last = set_kept sets more added e.after old.0 old.2 is old.4 in (
+      (old.0, old.1, old.2, set_kept sets more added e.before old.0 old.1 is old.3, last, old.5),
+      IfSome_then (option_map (λ c. c.value) e.change) (are number e at).1
+          (λ x gives. (gives.0, λ s there. gives.1 s (old.4.1 ∙ ap Some (same_known more e.after old.4.0 s (set_kept sets more added e.after old.0 old.2 is old.4).1 there)))),
+    )
 
 -- each agent's set after one of them has one constraint more
 pub sets_turned_on : (sets : List ConstraintSet) (numbers : List ℕ) (cs : List (List Constraint)) (agent more : ℕ) (constraint : Constraint) → agent < length numbers → AreSetsOf sets numbers cs →
@@ -152,7 +162,7 @@ pub known_kept : (problem : Problem) (old new : List (List ℕ)) (sets : List Co
 known_kept problem old new sets keeps are number s at = kept s.own (are number s at)
   where
     kept : (own : CachedPath) → IsCachedPath problem old s.agent s.constraints own → IsCachedPath problem new s.agent s.constraints own
-    kept (Path n) known = (known.0, keeps n known.0 known.1, known.2)
+    kept (Path n path) known = (keeps n path.value known.0, known.1)
     kept (NoneWithin bound) none = none
 
 -- and with one set more
@@ -161,29 +171,40 @@ pub known_more : (problem : Problem) (paths : List (List ℕ)) (old new : List C
 known_more problem paths old new s is are one number x at =
     ⊎_elim (λ h. are number x h) (λ h. subst (λ (t : ConstraintSet). IsCachedPath problem paths t.agent t.constraints t.own) (sym h) one) (of_push old s number x (subst (λ xs. slice_get xs number ≡ Some x) is at))
 
--- the path of a set's number is the own one of whichever agent has the set
-own_path_told : (cache : PathCache) (set number agent : ℕ) (cs : List Constraint) (s : ConstraintSet) → AreKnown cache.problem cache.paths cache.sets → slice_get cache.sets set ≡ Some s → s.own ≡ Path number →
-    HasSet cache.sets set agent cs → (path : List ℕ) × (slice_get cache.paths number ≡ Some path) × IsOwnPathOf cache.problem agent cs path
-own_path_told cache set number agent cs s is at own has =
-    let known = subst (IsCachedPath cache.problem cache.paths s.agent s.constraints) own (is set s at) in
+-- the path of a set is the own one of whichever agent has the set
+own_path_told : (cache : PathCache) (set number agent : ℕ) (cs : List Constraint) (s : ConstraintSet) (path : List ℕ) → AreKnown cache.problem cache.paths cache.sets → slice_get cache.sets set ≡ Some s → HasPath s.own number path →
+    HasSet cache.sets set agent cs → (slice_get cache.paths number ≡ Some path) × IsOwnPathOf cache.problem agent cs path
+own_path_told cache set number agent cs s path is at own has =
+    let known = told s.own (is set s at) own in
     let same = same_set cache.sets set agent cs s at has in
-    (known.0, known.1, subst₂ (λ i xs. IsOwnPathOf cache.problem i xs known.0) same.0 same.1 known.2)
+    (known.0, subst₂ (λ i xs. IsOwnPathOf cache.problem i xs path) same.0 same.1 known.1)
+  where
+    told : (own : CachedPath) → IsCachedPath cache.problem cache.paths s.agent s.constraints own → HasPath own number path → (slice_get cache.paths number ≡ Some path) × IsOwnPathOf cache.problem s.agent s.constraints path
+    told (Path n p) known has =
+        subst₂ (λ m q. (slice_get cache.paths m ≡ Some q) × IsOwnPathOf cache.problem s.agent s.constraints q) has.0 has.1 known
+    told (NoneWithin bound) known none = absurd none
+
+-- a set has one path
+pub one_path : (own : CachedPath) (n m : ℕ) (p q : List ℕ) → HasPath own n p → HasPath own m q → p ≡ q
+one_path (Path k r) n m p q one other = sym one.1 ∙ other.1
+one_path (NoneWithin bound) n m p q none other = absurd none
 
 -- how many agents a node of the tree has
 pub agents_at_node : (problem : Problem) (node : Node) → IsBranching problem node → length node.plan ≡ length problem.inst.starts
 agents_at_node problem node branching = ap length branching.stands.plan ∙ branching.stands.member.plan.agents
 
 -- the own path under an agent's set is its path at the node, as an agent has one own path under a set
-pub path_at_node : (cache : PathCache) (node : Node) (sets : List ℕ) (agent number : ℕ) (s : ConstraintSet) → IsBranching cache.problem node → AreSetsOf cache.sets sets node.constraints → agent < length node.plan →
-    AreKnown cache.problem cache.paths cache.sets → slice_get cache.sets (slice_index sets agent) ≡ Some s → s.own ≡ Path number → slice_get cache.paths number ≡ Some (path_of node.plan agent)
-path_at_node cache node sets agent number s branching are l is at own =
+pub path_at_node : (cache : PathCache) (node : Node) (sets : List ℕ) (agent number : ℕ) (s : ConstraintSet) (path : List ℕ) → IsBranching cache.problem node → AreSetsOf cache.sets sets node.constraints →
+    agent < length node.plan → AreKnown cache.problem cache.paths cache.sets → slice_get cache.sets (slice_index sets agent) ≡ Some s → HasPath s.own number path → slice_get cache.paths number ≡ Some (path_of node.plan agent)
+path_at_node cache node sets agent number s path branching are l is at own =
     let inside : agent < length cache.problem.inst.starts = omega (arith, l, agents_at_node cache.problem node branching) in
     let set = are.same agent (omega (arith, inside, branching.stands.agents)) in
-    let known = own_path_told cache (slice_index sets agent) number agent set.0 s is at own set.1 in
+    let known = own_path_told cache (slice_index sets agent) number agent set.0 s path is at own set.1 in
     let all : IsSameSet set.0 (constraints_of branching.of.0 agent) =
     λ x. let one = set.2 x in let two = branching.stands.sets agent inside x in ((λ h. two.0 (one.0 h)), (λ h. one.1 (two.1 h))) in
-    let one : known.0 ≡ path_of branching.of.1 agent = same_own _ _ _ _ _ _ _ (own_set _ _ _ _ set.0 (constraints_of branching.of.0 agent) known.0 all known.2) (branching.stands.member.plan.own agent inside) in
-    known.1 ∙ ap Some (one ∙ ap (λ plan. path_of plan agent) (sym branching.stands.plan))
+    let one : path ≡ path_of branching.of.1 agent =
+    same_own _ _ _ _ _ _ _ (own_set _ _ _ _ set.0 (constraints_of branching.of.0 agent) path all known.1) (branching.stands.member.plan.own agent inside) in
+    known.0 ∙ ap Some (one ∙ ap (λ plan. path_of plan agent) (sym branching.stands.plan))
 
 -- one agent more, whose path has this number
 pub first_more : (paths : List (List ℕ)) (old new : List ℕ) (plan : List (List ℕ)) (n number : ℕ) → ((k : ℕ) → k < n → slice_index new k ≡ slice_index old k) → slice_index new n ≡ number →
@@ -229,77 +250,93 @@ none_lower : (problem : Problem) (bound least agent : ℕ) (cs : List Constraint
 none_lower problem bound least agent cs small none q allowed = none q (record { path = allowed.path; within = omega (arith, allowed.within, small); obeys = allowed.obeys })
 
 -- the own path of a known set serves a lower bound that it keeps, and above it there is none
-pub own_in_path : (cache : PathCache) (set number bound : ℕ) (path : List ℕ) (s : ConstraintSet) → AreKnown cache.problem cache.paths cache.sets → slice_get cache.sets set ≡ Some s → s.own ≡ Path number → slice_get cache.paths number ≡ Some path →
+pub own_in_path : (cache : PathCache) (set number bound : ℕ) (path : List ℕ) (s : ConstraintSet) → AreKnown cache.problem cache.paths cache.sets → slice_get cache.sets set ≡ Some s → HasPath s.own number path →
     bound ≤ cache.problem.bound → cost path ≤ bound → IsOwnIn cache set bound (Some number)
-own_in_path cache set number bound path s is at own there small within agent cs has =
-    let known = own_path_told cache set number agent cs s is at own has in
-    let one : known.0 ≡ path = one_value known.0 path (sym known.1 ∙ there) in (
-      slice_get_within cache.paths number path there,
-      subst (IsOwnWithin cache.problem bound agent cs) (ap Some (one ∙ sym (get_or_from_slice_get cache.paths number path [] there)))
-          (own_within_lower _ cs bound cache.problem.bound _ _ known.0 small (subst (λ p. cost p ≤ bound) (sym one) within) known.2),
-    )
+own_in_path cache set number bound path s is at own small within agent cs has =
+    let known = own_path_told cache set number agent cs s path is at own has in
+    subst (IsOwnWithin cache.problem bound agent cs) (ap Some (sym (get_or_from_slice_get cache.paths number path [] known.0)))
+    (own_within_lower _ cs bound cache.problem.bound _ _ path small within known.1)
 
-pub own_in_dearer : (cache : PathCache) (set number bound : ℕ) (path : List ℕ) (s : ConstraintSet) → AreKnown cache.problem cache.paths cache.sets → slice_get cache.sets set ≡ Some s → s.own ≡ Path number → slice_get cache.paths number ≡ Some path →
+pub own_in_dearer : (cache : PathCache) (set number bound : ℕ) (path : List ℕ) (s : ConstraintSet) → AreKnown cache.problem cache.paths cache.sets → slice_get cache.sets set ≡ Some s → HasPath s.own number path →
     bound ≤ cache.problem.bound → bound < cost path → IsOwnIn cache set bound None
-own_in_dearer cache set number bound path s is at own there small dear agent cs has =
-    let known = own_path_told cache set number agent cs s is at own has in
-    let one : known.0 ≡ path = one_value known.0 path (sym known.1 ∙ there) in
-    (tt, λ q allowed. none_dearer cache.problem bound agent cs known.0 small (subst (λ p. bound < cost p) (sym one) dear) known.2 q allowed)
+own_in_dearer cache set number bound path s is at own small dear agent cs has =
+    let known = own_path_told cache set number agent cs s path is at own has in
+    λ q allowed. none_dearer cache.problem bound agent cs path small dear known.1 q allowed
 
 -- where there was none within a bound there is none within a lower one
 pub own_in_none : (cache : PathCache) (set bound least : ℕ) (s : ConstraintSet) → AreKnown cache.problem cache.paths cache.sets → slice_get cache.sets set ≡ Some s → s.own ≡ NoneWithin least → bound ≤ least → IsOwnIn cache set bound None
 own_in_none cache set bound least s is at own small agent cs has =
     let known = subst (IsCachedPath cache.problem cache.paths s.agent s.constraints) own (is set s at) in
     let same = same_set cache.sets set agent cs s at has in
-    (tt, none_lower cache.problem bound least agent cs small (subst₂ (λ i xs. IsOwnWithin cache.problem least i xs None) same.0 same.1 known))
+    none_lower cache.problem bound least agent cs small (subst₂ (λ i xs. IsOwnWithin cache.problem least i xs None) same.0 same.1 known)
 
 -- what is known of the agent's set at a node and its constraint is what the side's query asks for
-pub found_at : (cache : PathCache) (node : Node) (side : Side) (sets : List ℕ) (c : Conflict) (agent bound extended : ℕ) (constraint : Constraint) (found : Option ℕ) → IsBranching cache.problem node → AreSetsOf cache.sets sets node.constraints →
-    node.conflict ≡ Some c → agent ≡ agent_on c side → constraint ≡ constraint_on c side → agent < length node.constraints → IsExtended cache.sets (slice_index sets agent) constraint extended →
-    Leaves cache.problem node.plan agent bound → IsOwnIn cache extended bound found → IsFoundAt cache node side found
-found_at cache node side sets c agent bound extended constraint found branching are is on forbids inside has leaves own =
+found_at : (cache : PathCache) (node : Node) (side : Side) (sets : List ℕ) (c : Conflict) (agent bound extended : ℕ) (constraint : Constraint) (found : Option ℕ) → AreSetsOf cache.sets sets node.constraints → node.conflict ≡ Some c →
+    agent ≡ agent_on c side → constraint ≡ constraint_on c side → agent < length node.constraints → IsExtended cache.sets (slice_index sets agent) constraint extended → Leaves cache.problem node.plan agent bound → IsOwnIn cache extended bound found →
+    (q : SideQuery) × IsAskedAt cache node side q × (q.agent ≡ agent) × (q.constraint ≡ constraint) × HasSet cache.sets extended q.agent q.constraints × IsFoundBy q (option_map (λ n. path_of cache.paths n) found)
+found_at cache node side sets c agent bound extended constraint found are is on forbids inside has leaves own =
     let set = are.same agent inside in
-    let more = has agent set.0 set.1 in
-    let path = own agent more.0 more.1 in (
+    let more = has agent set.0 set.1 in (
       record { problem = cache.problem; side = side; agent = agent; constraint = constraint; constraints = more.0; bound = bound },
+      (
+        refl,
+        refl,
+        record {
+          agent = λ d e. on ∙ ap (λ x. agent_on x side) (one_value c d (sym is ∙ e));
+          constraint = λ d e. forbids ∙ ap (λ x. constraint_on x side) (one_value c d (sym is ∙ e));
+          constraints = with_same constraint set.0 (get_or node.constraints agent []) more.0 set.2 more.2;
+          leaves = leaves;
+        },
+      ),
       refl,
       refl,
-      record {
-        agent = λ d e. on ∙ ap (λ x. agent_on x side) (one_value c d (sym is ∙ e));
-        constraint = λ d e. forbids ∙ ap (λ x. constraint_on x side) (one_value c d (sym is ∙ e));
-        constraints = with_same constraint set.0 (get_or node.constraints agent []) more.0 set.2 more.2;
-        leaves = leaves;
-      },
-      path.0,
-      path.1,
+      more.1,
+      own agent more.0 more.1,
+    )
+
+-- so a set without a path tells that there is none
+pub no_turn_at : (cache : PathCache) (node : Node) (side : Side) (sets : List ℕ) (c : Conflict) (agent bound extended : ℕ) (constraint : Constraint) → AreSetsOf cache.sets sets node.constraints → node.conflict ≡ Some c → agent ≡ agent_on c side →
+    constraint ≡ constraint_on c side → agent < length node.constraints → IsExtended cache.sets (slice_index sets agent) constraint extended → Leaves cache.problem node.plan agent bound → IsOwnIn cache extended bound None → HasNoTurnAt cache node side
+no_turn_at cache node side sets c agent bound extended constraint are is on forbids inside has leaves own =
+    let found = found_at cache node side sets c agent bound extended constraint None are is on forbids inside has leaves own in (found.0, found.1, found.5)
+
+-- and the change that gives its path is that of the turn
+pub turn_at : (cache : PathCache) (node : Node) (side : Side) (sets : List ℕ) (c : Conflict) (agent bound extended : ℕ) (constraint : Constraint) (number : ℕ) (x : Changed) → AreSetsOf cache.sets sets node.constraints → node.conflict ≡ Some c →
+    agent ≡ agent_on c side → constraint ≡ constraint_on c side → agent < length node.constraints → IsExtended cache.sets (slice_index sets agent) constraint extended → Leaves cache.problem node.plan agent bound →
+    IsOwnIn cache extended bound (Some number) → AreKnown cache.problem cache.paths cache.sets → IsNumberOf cache.sets extended number → GivesOwn cache.sets extended constraint (Some x) → IsTurnAt cache node side number x
+turn_at cache node side sets c agent bound extended constraint number x are is on forbids inside has leaves own known numbered gives =
+    let found = found_at cache node side sets c agent bound extended constraint (Some number) are is on forbids inside has leaves own in
+    let q = found.0 in let s = numbered.0 in
+    let given = gives.1 s numbered.1 in
+    let path : numbered.2 ≡ x.path = one_path s.own number given.1 numbered.2 x.path numbered.3 given.2 in
+    let at : slice_get cache.paths number ≡ Some x.path =
+    (own_path_told cache extended number q.agent q.constraints s numbered.2 known numbered.1 numbered.3 found.4).0 ∙ ap Some path in (
+      q,
+      found.1,
+      given.0 ∙ (same_set cache.sets extended q.agent q.constraints s numbered.1 found.4).0,
+      gives.0 ∙ sym found.3,
+      at,
+      subst (λ p. IsFoundBy q (Some p)) (get_or_from_slice_get cache.paths number x.path [] at) found.5,
     )
 
 -- where the query of a side has no own path there is no child
-pub none_at : (cache : PathCache) (node : Node) (side : Side) → IsFoundAt cache node side None → IsChildOf cache.problem node side None
-none_at cache node side found = subst₂ (λ p s. IsChildOf p node s None) found.1 found.2 (no_child node found.0 found.3 found.5)
+pub none_at : (cache : PathCache) (node : Node) (side : Side) → HasNoTurnAt cache node side → IsChildOf cache.problem node side None
+none_at cache node side found = subst₂ (λ p s. IsChildOf p node s None) found.1.0 found.1.1 (no_child node found.0 found.1.2 found.2)
 
 -- with one the child is within the bound
-pub small_at : (cache : PathCache) (node : Node) (side : Side) (c : Conflict) (agent number : ℕ) (path : List ℕ) → IsBranching cache.problem node → IsFoundAt cache node side (Some number) → slice_get cache.paths number ≡ Some path →
-    node.conflict ≡ Some c → agent ≡ agent_on c side → (agent < length node.plan) × (plan_cost (set node.plan agent path) ≤ cache.problem.bound)
-small_at cache node side c agent number path branching found at is on =
-    let q = found.0 in
-    let same : agent ≡ q.agent = on ∙ ap (λ s. agent_on c s) (sym found.2) ∙ sym (found.3.agent c is) in
-    let inside : q.agent < length node.plan = query_inside node q (subst (λ p. IsBranching p node) (sym found.1) branching) found.3 in
-    let own : IsFoundBy q (Some path) = subst (λ p. IsFoundBy q (Some p)) (get_or_from_slice_get cache.paths number path [] at) found.5 in (
-      subst (λ a. a < length node.plan) (sym same) inside,
-      subst₂ (λ a n. plan_cost (set node.plan a path) ≤ n) (sym same) (ap (λ (p : Problem). p.bound) found.1) (within_bound q.problem node.plan q.agent q.bound q.constraints path inside found.3.leaves own),
+pub small_at : (cache : PathCache) (node : Node) (side : Side) (number : ℕ) (x : Changed) → IsBranching cache.problem node → IsTurnAt cache node side number x →
+    (x.agent < length node.plan) × (plan_cost (set node.plan x.agent x.path) ≤ cache.problem.bound)
+small_at cache node side number x branching turn =
+    let q = turn.0 in
+    let inside : q.agent < length node.plan = query_inside node q (subst (λ p. IsBranching p node) (sym turn.1.0) branching) turn.1.2 in (
+      subst (λ a. a < length node.plan) (sym turn.2) inside,
+      subst₂ (λ a n. plan_cost (set node.plan a x.path) ≤ n) (sym turn.2) (ap (λ (p : Problem). p.bound) turn.1.0) (within_bound q.problem node.plan q.agent q.bound q.constraints x.path inside turn.1.2.leaves turn.5),
     )
 
 -- and the node that has it is the child
-pub child_at : (cache : PathCache) (node new : Node) (side : Side) (c : Conflict) (number : ℕ) (change : Changed) → IsFoundAt cache node side (Some number) → slice_get cache.paths number ≡ Some change.path →
-    node.conflict ≡ Some c → change.agent ≡ agent_on c side → change.constraint ≡ constraint_on c side → new.name ≡ node.name ++ side ∷ [] →
-    new.changes ≡ node.changes ++ change ∷ [] → new.constraints ≡ set node.constraints change.agent (change.constraint ∷ get_or node.constraints change.agent []) →
-    new.plan ≡ set node.plan change.agent change.path → new.rule ≡ node.rule → IsConflictOf node.rule (set node.plan change.agent change.path) new.conflict → IsChildOf cache.problem node side (Some new)
-child_at cache node new side c number change found at is on forbids name changes constraints plan rule conflict =
-    let q = found.0 in
-    let own : IsFoundBy q (Some change.path) = subst (λ p. IsFoundBy q (Some p)) (get_or_from_slice_get cache.paths number change.path [] at) found.5 in
-    subst₂ (λ p s. IsChildOf p node s (Some new)) found.1 found.2
-    (is_child node new q change found.3 own
-    (on ∙ ap (λ s. agent_on c s) (sym found.2) ∙ sym (found.3.agent c is))
-    (forbids ∙ ap (λ s. constraint_on c s) (sym found.2) ∙ sym (found.3.constraint c is))
-    (subst (λ s. new.name ≡ node.name ++ s ∷ []) (sym found.2) name) changes constraints plan rule conflict)
+pub child_at : (cache : PathCache) (node new : Node) (side : Side) (number : ℕ) (x : Changed) → IsTurnAt cache node side number x → new.name ≡ node.name ++ side ∷ [] → new.changes ≡ node.changes ++ x ∷ [] →
+    new.constraints ≡ set node.constraints x.agent (x.constraint ∷ get_or node.constraints x.agent []) → new.plan ≡ set node.plan x.agent x.path → new.rule ≡ node.rule → IsConflictOf node.rule (set node.plan x.agent x.path) new.conflict →
+    IsChildOf cache.problem node side (Some new)
+child_at cache node new side number x turn name changes constraints plan rule conflict =
+    subst₂ (λ p s. IsChildOf p node s (Some new)) turn.1.0 turn.1.1
+    (is_child node new turn.0 x turn.1.2 turn.5 turn.2 turn.3 (subst (λ s. new.name ≡ node.name ++ s ∷ []) (sym turn.1.1) name) changes constraints plan rule conflict)

@@ -8,7 +8,6 @@ pub mod NewestChanges
 pub mod Family
 pub mod SideQuery
 pub mod PathCache
-pub mod SharedChanges
 pub mod Laws
 pub mod OpenList
 pub mod Search

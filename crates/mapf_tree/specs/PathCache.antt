@@ -10,11 +10,9 @@ use Rattle.mapf_tree.specs.declared.own_paths.constraint_sets.Extension.{Extensi
 use Rattle.mapf_tree.specs.declared.own_paths.constraint_sets.CachedPath.{CachedPath}
 use Rattle.mapf_tree.specs.declared.own_paths.constraint_sets.CachedPath.TheVariants.{Path, NoneWithin}
 use Rattle.mapf_tree.specs.declared.own_paths.constraint_sets.ConstraintSet.{ConstraintSet}
-use Rattle.mapf_tree.specs.declared.own_paths.shared_changes.SharedChange.{SharedChange}
-use Rattle.mapf_tree.specs.SharedChanges.{AreShared}
 use Rattle.mapf_tree.specs.Problem.{Problem}
 use Rattle.mapf_tree.specs.Tree.{IsOwnPathOf}
-use Rattle.mapf_tree.specs.Nodes.{Node, IsSameSet}
+use Rattle.mapf_tree.specs.Nodes.{Changed, Node, IsSameSet}
 use Rattle.mapf_tree.specs.Family.{IsBranching, IsOwnWithin}
 use Rattle.mapf_tree.specs.SideQuery.{SideQuery, IsQueryOf, IsFoundBy}
 
@@ -26,13 +24,26 @@ HasSet sets number agent cs = (s : ConstraintSet) × (slice_get sets number ≡ 
 abbrev pub HasOneMore : Constraint → List Constraint → List Constraint → Type 0
 HasOneMore constraint cs all = (x : Constraint) → Contains all x ↔ ((x ≡ constraint) ⊎ Contains cs x)
 
--- an extension tells of two sets of one agent: the second is the first with one constraint more
-abbrev pub IsExtension : List ConstraintSet → Extension → Type 0
-IsExtension sets e =
-    (agent : ℕ) × (cs : List Constraint) × (all : List Constraint) × HasSet sets e.before agent cs × HasSet sets e.after agent all × HasOneMore e.constraint cs all
+-- two numbers are those of two sets of one agent: the second has this constraint more
+abbrev pub IsExtension : List ConstraintSet → ℕ → Constraint → ℕ → Type 0
+IsExtension sets before constraint after =
+    (agent : ℕ) × (cs : List Constraint) × (all : List Constraint) × HasSet sets before agent cs × HasSet sets after agent all × HasOneMore constraint cs all
 
+-- the own path is known: it is this path of this number
+abbrev pub HasPath : CachedPath → ℕ → List ℕ → Type 0
+HasPath (Path number own) n path = (number ≡ n) × (own.value ≡ path)
+HasPath (NoneWithin bound) n path = ⊥
+
+-- the change, if there is one, forbids a set's agent this, and gives it the set's path
+abbrev pub GivesOwn : List ConstraintSet → ℕ → Constraint → Option Changed → Type 0
+GivesOwn sets set constraint change =
+    IfSome change (λ x. (x.constraint ≡ constraint) × ((s : ConstraintSet) → slice_get sets set ≡ Some s → (x.agent ≡ s.agent) × (number : ℕ) × HasPath s.own number x.path))
+
+-- an extension is one, and its change gives the path of its second set
 abbrev pub AreExtensions : List ConstraintSet → List Extension → Type 0
-AreExtensions sets extensions = (number : ℕ) (e : Extension) → slice_get extensions number ≡ Some e → IsExtension sets e
+AreExtensions sets extensions =
+    (number : ℕ) (e : Extension) → slice_get extensions number ≡ Some e →
+    IsExtension sets e.before e.constraint e.after × GivesOwn sets e.after e.constraint (option_map (λ c. c.value) e.change)
 
 -- whichever agent has the set of the first number, that of the second is its set with this constraint more
 abbrev pub IsExtended : List ConstraintSet → ℕ → Constraint → ℕ → Type 0
@@ -47,7 +58,7 @@ pub record PathCache : Type 0 where
 
 -- the path of that number is the agent's own under these constraints; or there is none that costs so little
 abbrev pub IsCachedPath : Problem → List (List ℕ) → ℕ → List Constraint → CachedPath → Type 0
-IsCachedPath problem paths agent cs (Path number) = (path : List ℕ) × (slice_get paths number ≡ Some path) × IsOwnPathOf problem agent cs path
+IsCachedPath problem paths agent cs (Path number path) = (slice_get paths number ≡ Some path.value) × IsOwnPathOf problem agent cs path.value
 IsCachedPath problem paths agent cs (NoneWithin bound) = IsOwnWithin problem bound agent cs None
 
 -- what is remembered of each set is so
@@ -85,8 +96,11 @@ pub record IsAt (cache : PathCache) (node : Node) (at : NodeNumbers) : Type 0 wh
 -- the number of the own path under a set, at a cost of at most the bound; or that there is none
 abbrev pub IsOwnIn : PathCache → ℕ → ℕ → Option ℕ → Type 0
 IsOwnIn cache set bound found =
-    (agent : ℕ) (cs : List Constraint) → HasSet cache.sets set agent cs →
-    IfSome found (λ n. n < length cache.paths) × IsOwnWithin cache.problem bound agent cs (option_map (λ n. path_of cache.paths n) found)
+    (agent : ℕ) (cs : List Constraint) → HasSet cache.sets set agent cs → IsOwnWithin cache.problem bound agent cs (option_map (λ n. path_of cache.paths n) found)
+
+-- the number is that of a set's path
+abbrev pub IsNumberOf : List ConstraintSet → ℕ → ℕ → Type 0
+IsNumberOf sets set number = (s : ConstraintSet) × (slice_get sets set ≡ Some s) × (path : List ℕ) × HasPath s.own number path
 
 -- the query is that of a side of a node of the tree
 abbrev pub IsQueryIn : Problem → Node → SideQuery → Type 0
@@ -94,7 +108,7 @@ IsQueryIn problem node q = IsBranching problem node × (q.problem ≡ problem) �
 
 -- what is remembered of the set of this number tells whether its own path costs at most the bound
 abbrev pub IsTold : ℕ → CachedPath → Type 0
-IsTold bound (Path number) = Unit {0}
+IsTold bound (Path number path) = Unit {0}
 IsTold bound (NoneWithin least) = bound ≤ least
 
 abbrev pub TellsUpTo : List ConstraintSet → ℕ → ℕ → Type 0
@@ -104,15 +118,22 @@ TellsUpTo sets number bound = (s : ConstraintSet) → slice_get sets number ≡ 
 abbrev pub KnowsAnswerTo : PathCache → SideQuery → Type 0
 KnowsAnswerTo cache q = (number : ℕ) × HasSet cache.sets number q.agent q.constraints × TellsUpTo cache.sets number q.bound
 
--- the number of the own path that the query of a node's side asks for; or that there is none
-abbrev pub IsFoundAt : PathCache → Node → Side → Option ℕ → Type 0
-IsFoundAt cache node side found =
-    (q : SideQuery) × (q.problem ≡ cache.problem) × (q.side ≡ side) × IsQueryOf node q × IfSome found (λ n. n < length cache.paths) ×
-    IsFoundBy q (option_map (λ n. path_of cache.paths n) found)
+-- the query is that of a side of a node, for the cache's problem
+abbrev pub IsAskedAt : PathCache → Node → Side → SideQuery → Type 0
+IsAskedAt cache node side q = (q.problem ≡ cache.problem) × (q.side ≡ side) × IsQueryOf node q
+
+-- what the turn to a side of a node changes, where the new path has this number
+abbrev pub IsTurnAt : PathCache → Node → Side → ℕ → Changed → Type 0
+IsTurnAt cache node side number x =
+    (q : SideQuery) × IsAskedAt cache node side q × (x.agent ≡ q.agent) × (x.constraint ≡ q.constraint)
+    × (slice_get cache.paths number ≡ Some x.path) × IsFoundBy q (Some x.path)
+
+-- the own path that a side of a node asks for isn't there
+abbrev pub HasNoTurnAt : PathCache → Node → Side → Type 0
+HasNoTurnAt cache node side = (q : SideQuery) × IsAskedAt cache node side q × IsFoundBy q None
 
 -- all that a cache remembers holds, and its paths are compared by the problem's rule
-abbrev pub IsRemembered : Problem → List ℕ → Option NodeNumbers → List (Option SharedChange) → List ConstraintSet → KnownPaths → Type 0
-IsRemembered problem firsts latest changes sets paths =
+abbrev pub IsRemembered : Problem → List ℕ → Option NodeNumbers → List ConstraintSet → KnownPaths → Type 0
+IsRemembered problem firsts latest sets paths =
     AreKnown problem paths.paths sets × AreFirst problem sets firsts × (paths.rule ≡ problem.rule)
     × IfSome latest (λ at. IsKnownPlan paths at.plan.numbers.items at.plan.conflicts.items)
-    × AreShared paths.paths changes

@@ -8,11 +8,9 @@ pub(crate) mod change;
 pub(crate) mod current_paths;
 mod newest_changes;
 mod order;
-pub(crate) mod side_extensions;
 mod with_change;
 
 use crate::node::chain::Chain;
-use crate::node::side_extensions::SideExtensions;
 use crate::{Key, Name};
 use mapf_grid::NoMemory;
 use mapf_low::Constraint;
@@ -39,8 +37,6 @@ struct Body {
     root: Arc<Plan>,
     changes: Chain,
     conflict: Option<Conflict>,
-    /// Where the paths of both its children were known when it was made.
-    extensions: Option<SideExtensions>,
     rule: Rule,
 }
 
@@ -89,7 +85,6 @@ impl Node {
             root: Arc::new(alloc, plan)?,
             changes: Chain::new(alloc)?,
             conflict,
-            extensions: None,
         };
         Node::of(alloc, body)
     }
@@ -188,7 +183,6 @@ impl Node {
             root: Arc::try_clone(&self.body.root)?,
             changes: self.body.changes.copy()?,
             conflict: self.body.conflict,
-            extensions: self.body.extensions,
         };
         Node::of(alloc, body)
     }

@@ -9,7 +9,6 @@ ghost use Rattle.mapf_tree.specs.SideQuery.{AreFromStart, IsFoundBy, IsQueryOf};
 
 mod constraint_sets;
 mod path_cache;
-mod shared_changes;
 
 use crate::own_paths::path_cache::PathCache;
 use crate::{Children, Node, OpenList, Problem, Side, SideQuery};
@@ -77,21 +76,14 @@ impl<'p> OwnPaths<'p> {
     }
 
     /// The children of a node of the tree on both sides of its conflict, left first, each none exactly where it isn't in the
-    /// tree. What is known of them already is given. A path is searched only where it isn't known.
-    pub fn children_from(
-        &mut self,
-        node: &Node,
-        left: Lookup<Option<Node>>,
-        right: Lookup<Option<Node>>,
-    ) -> Result<(Option<Node>, Option<Node>), NoMemory>
-        requires node { IsBranching self.old node.now }
-        requires left { IfKnown left (IsChildOf self.old node.now Side.Left) }
-        requires right { IfKnown right (IsChildOf self.old node.now Side.Right) }
+    /// tree. A path is searched only where it isn't known.
+    pub fn children(&mut self, node: &Node) -> Result<(Option<Node>, Option<Node>), NoMemory>
+        requires { IsBranching self.old node.now }
         ensures problem { self.new ≡ self.old }
         ensures left { IfOk result (λ sides. IsChildOf self.old node.now Side.Left sides.0) }
         ensures right { IfOk result (λ sides. IsChildOf self.old node.now Side.Right sides.1) }
     {
-        let (left, right) = self.cache.find_children(node, left, right)?;
+        let (left, right) = self.cache.find_children(node)?;
         let left = self.child_from(node, Side::Left, left)?;
         let right = self.child_from(node, Side::Right, right)?;
         Ok((left, right))
@@ -114,26 +106,21 @@ impl<'p> OwnPaths<'p> {
         }
         let query = SideQuery::of(self.alloc, self.problem, node, side)?;
         let query = self.with_from_start(query);
-        let (path, extension) = self.search(node, &query)?;
-        query.child(self.alloc, node, path, extension)
+        let path = query.own_path(self.alloc)?;
+        let extension = self.cache.learn(node, &query, path.as_ref());
+        query.child(self.alloc, node, path, extension.unwrap_or(0))
     }
 
-    /// Searches the own path that a side of a node asks for, and remembers it unless memory runs out for that. Beside it stands a
-    /// guess of the extension's number, for [`children_from`](Self::children_from) alone.
-    pub fn search(
-        &mut self,
-        node: &Node,
-        query: &SideQuery<'p>,
-    ) -> Result<(Option<Arc<Path>>, usize), NoMemory>
+    /// Searches the own path that a side of a node asks for, and remembers it unless memory runs out.
+    pub fn search(&mut self, node: &Node, query: &SideQuery<'p>)
         requires node { IsBranching self.old node.now }
         requires problem { query.now.problem ≡ self.old }
         requires query { IsQueryOf node.now query.now }
-        ensures same { self.new ≡ self.old }
-        ensures path { IfOk result (λ found. IsFoundBy query.now (option_map arc_value found.0)) }
+        ensures { self.new ≡ self.old }
     {
-        let path = query.own_path(self.alloc)?;
-        let extension = self.cache.learn(node, query, path.as_ref()).unwrap_or(0);
-        Ok((path, extension))
+        if let Ok(path) = query.own_path(self.alloc) {
+            let _remembered = self.cache.learn(node, query, path.as_ref());
+        }
     }
 
     /// The pairs of agents that collide at a node, each with the time step of its first conflict, as far as the agents' paths are known.
@@ -156,9 +143,8 @@ impl<'p> OwnPaths<'p> {
         ensures side { IfOk result (λ found. IfSome found (λ q. q.side ≡ side)) }
         ensures query { IfOk result (λ found. IfSome found (IsQueryOf node.now)) }
     {
-        self.cache.number_first_sets(node)?;
         let query = SideQuery::of(self.alloc, self.problem, node, side)?;
-        if self.cache.has_answer_to(&query) {
+        if self.cache.find_set(&query).is_some() {
             return Ok(None);
         }
         Ok(Some(self.with_from_start(query)))
@@ -224,7 +210,7 @@ impl<'p> Children for OwnPaths<'p> {
         _problem: &Problem,
         node: &Node,
     ) -> Result<(Option<Node>, Option<Node>), NoMemory> {
-        self.children_from(node, Lookup::Unknown, Lookup::Unknown)
+        self.children(node)
     }
 
     fn ahead(&mut self, _problem: &Problem, _waiting: &OpenList) {}

@@ -14,7 +14,7 @@ fn what_is_searched_or_told_is_known(rt: HostRuntime) -> Result<(), Fail> {
     let mut paths = OwnPaths::new(alloc, &problem)?;
 
     let left = paths.unknown_query(&root, Side::Left)?.ok_or("known")?;
-    let _found = paths.search(&root, &left)?;
+    paths.search(&root, &left);
     assert!(rt; paths.unknown_query(&root, Side::Left)?.is_none());
 
     let right = paths.unknown_query(&root, Side::Right)?.ok_or("known")?;

@@ -1,37 +1,37 @@
-//! What sessions of a search hand on: own paths, and what is known of children of nodes that wait.
+//! What sessions of a search hand on: own paths, and for which children of nodes that wait there were jobs.
 
 ghost use Rattle.std.specs.Prelude.{◌≡◌, ◌+◌, ◌<◌, ◌≤◌, All, IfErr, IfOk, IfSome, vec_len};
 ghost use Rattle.mapf_board.specs.declared.limits.TheConstants.{MOST_WORKERS};
 ghost use Rattle.mapf_tree.specs.Family.{IsBranching, IsChildOf};
-ghost use Rattle.mapf_low.specs.Lookup.{IfKnown};
 ghost use Rattle.mapf_tree.specs.SideQuery.{IsQueryOf};
 ghost use Rattle.mapf_solve.specs.Sessions.{IsGivenOf, children_in};
 
 use crate::sessions::brands::OneProblem;
-use crate::sessions::child_stage::{ChildOfJob, ChildStage, Entry, forget_posted};
 use crate::sessions::desk::{Given, Slot};
+use crate::sessions::entry::{Entry, forget_posted};
 use crate::sessions::side_job::{SideJob, SideWork};
 use crate::sessions_alone::SessionsAlone;
 use mapf_board::{Left, Pair, Work};
 use mapf_grid::NoMemory;
-use mapf_low::Lookup;
 use mapf_tree::{Node, OwnPaths, Problem, Side, SideQuery};
 use std::alloc::Global;
 use std::cmp::Ordering;
+use std::marker::PhantomData;
 
-/// The own paths that a search knows, what is known of children of its waiting nodes, and how jobs for them are numbered.
+/// The own paths that a search knows, for which children of its waiting nodes there were jobs, and how these are numbered.
 pub(crate) struct Lookahead<'p, P: OneProblem> {
     alloc: Global,
     /// Boxed, since a session takes what is handed on and gives it back.
     own_paths: Box<OwnPaths<'p>>,
     /// The greatest key first, and a right side before a left one: what is next to be asked for is the last.
-    entries: Vec<Entry<'p, P>>,
+    entries: Vec<Entry>,
     /// How many workers there are.
     pub(crate) workers: usize,
     /// The number of the next job.
     next: u64,
     /// How many sessions go on without workers.
     pub(crate) alone: SessionsAlone,
+    of: PhantomData<P>,
     ghost is_of: { own_paths.value ≡ P.problem },
     ghost few: { workers ≤ MOST_WORKERS },
 }
@@ -46,6 +46,7 @@ impl<'p, P: OneProblem> Drop for Lookahead<'p, P> {
             workers: _,
             next: _,
             alone: _,
+            of: _,
         } = self;
     }
 }
@@ -71,6 +72,7 @@ impl<'p, P: OneProblem> Lookahead<'p, P> {
             workers,
             next,
             alone: SessionsAlone::new(),
+            of: PhantomData,
         })
     }
 
@@ -85,12 +87,13 @@ impl<'p, P: OneProblem> Lookahead<'p, P> {
             workers: _,
             next: _,
             alone: _,
+            of: _,
         } = self;
         Box::into_inner(own_paths)
     }
 
-    /// The job for a child of a node, to be posted in this slot, where nothing is known of that child: neither its path, nor
-    /// that it was worked ahead. None where memory runs out, too.
+    /// The job for a child of a node, to be posted in this slot, where the child's path isn't known and no job was posted for it. None
+    /// where memory runs out, too.
     pub(crate) fn job(&mut self, node: &Node, side: Side, slot: Slot) -> Option<SideJob<'p>>
         requires { IsBranching P.problem node.now }
         ensures { IfSome result (λ job. job.query.problem ≡ P.problem) }
@@ -99,11 +102,11 @@ impl<'p, P: OneProblem> Lookahead<'p, P> {
         let number = self.next;
         let job = SideJob::of(self.alloc, node, query, number).ok()?;
         self.next = number.saturating_add(1);
-        self.add(node, side, ChildStage::Posted(slot));
+        self.add(node, side, Some(slot));
         Some(job)
     }
 
-    /// The own path that a side of a node asks for, where nothing is known of that child. None where memory runs out, too.
+    /// The own path that a side of a node asks for, where it isn't known and no job was posted for it. None where memory runs out, too.
     fn unknown_query(&mut self, node: &Node, side: Side) -> Option<SideQuery<'p>>
         requires { IsBranching P.problem node.now }
         ensures query { IfSome result (IsQueryOf node.now) }
@@ -115,18 +118,18 @@ impl<'p, P: OneProblem> Lookahead<'p, P> {
         match self.own_paths.unknown_query(node, side) {
             Ok(Some(query)) => Some(query),
             Ok(None) => {
-                self.add(node, side, ChildStage::Unposted);
+                self.add(node, side, None);
                 None
             }
             Err(_) => None,
         }
     }
 
-    /// The work on a child of a node has come so far; that is forgotten where memory runs out.
-    fn add(&mut self, node: &Node, side: Side, stage: ChildStage<'p, P>) {
+    /// The job for a child of a node is in this slot, or none is to be posted; that is forgotten where memory runs out.
+    fn add(&mut self, node: &Node, side: Side, slot: Option<Slot>) {
         if let Err(place) = self.place_of(node, side) {
             if let Ok(key) = node.key().copy(self.alloc) {
-                let _added = self.entries.insert(place, Entry { key, side, stage });
+                let _added = self.entries.insert(place, Entry { key, side, slot });
             }
         }
     }
@@ -151,20 +154,17 @@ impl<'p, P: OneProblem> Lookahead<'p, P> {
     /// The slot of the job for a child of a node, if it was posted.
     pub(crate) fn slot_of(&self, node: &Node, side: Side) -> Option<Slot> {
         let place = self.place_of(node, side).ok()?;
-        match &self.entries[place].stage {
-            ChildStage::Posted(slot) => Some(*slot),
-            ChildStage::WorkedOut(_) | ChildStage::Unposted => None,
-        }
+        self.entries[place].slot
     }
 
     /// Performs a job that nobody claimed: its path is remembered, unless memory runs out.
     pub(crate) fn perform(&mut self, job: &SideJob<'p>)
         requires { job.now.query.problem ≡ P.problem }
     {
-        let _found = self.own_paths.search(job.node(), job.query());
+        self.own_paths.search(job.node(), job.query());
     }
 
-    /// Keeps what a worker left, where the job's node still waits: the child, or that there was no memory for it.
+    /// Keeps what a worker left: the path of the child, or that there was no memory for it. No job is posted for it again.
     pub(crate) fn keep(&mut self, given: Given<'p>)
         requires { IsGivenOf P.problem given }
         ensures { self.old.alone.children < u64.MAX
@@ -175,11 +175,11 @@ impl<'p, P: OneProblem> Lookahead<'p, P> {
                 self.alone.count();
                 self.learn(pair);
             }
-            Left::Job(job) => self.give_up(&job),
+            Left::Job(job) => self.end_job(&job),
         }
     }
 
-    /// A session of so many nodes ended: keeps what its board leaves, the children that were found, and no job.
+    /// A session of so many nodes ended: keeps the paths of the children that its board leaves, and no job.
     pub(crate) fn end_session(&mut self, left: Vec<(usize, Given<'p>)>, nodes: u64)
         requires { All (λ x. IsGivenOf P.problem x.1) left.items }
     {
@@ -193,51 +193,36 @@ impl<'p, P: OneProblem> Lookahead<'p, P> {
         forget_posted(&mut self.entries);
     }
 
-    /// Remembers the path of a child that was worked out, and keeps the child where its node still waits.
+    /// Remembers the path of a child that was worked out.
     fn learn(&mut self, pair: Pair<SideWork<'p>>)
         requires { pair.0.query.problem ≡ P.problem }
         ensures { self.new.alone ≡ self.old.alone }
     {
         let (job, child) = pair.parts();
         self.own_paths.learn(job.node(), job.query(), &child);
-        if let Ok(place) = self.place_of(job.node(), job.side()) {
-            self.entries[place].stage = ChildStage::WorkedOut(ChildOfJob::of(job, child));
-        }
+        self.end_job(&job);
     }
 
-    /// There was no memory for this job.
-    fn give_up(&mut self, job: &SideJob<'p>)
+    /// A job is in no slot any more.
+    fn end_job(&mut self, job: &SideJob<'p>)
         ensures { self.new.alone ≡ self.old.alone }
     {
         if let Ok(place) = self.place_of(job.node(), job.side()) {
-            self.entries[place].stage = ChildStage::Unposted;
+            self.entries[place].slot = None;
         }
     }
 
-    /// The children of the node that is expanded, of which what was worked ahead is used.
+    /// The children of the node that is expanded. It is remembered no longer whether there were jobs for them.
     pub(crate) fn children(&mut self, node: &Node) -> Result<(Option<Node>, Option<Node>), NoMemory>
         requires { IsBranching P.problem node.now }
         ensures left { IfOk result (λ sides. IsChildOf P.problem node.now Side.Left sides.0) }
         ensures right { IfOk result (λ sides. IsChildOf P.problem node.now Side.Right sides.1) }
     {
-        let left = self.take(node, Side::Left);
-        let right = self.take(node, Side::Right);
-        self.own_paths.children_from(node, left, right)
-    }
-
-    /// The child on one side of the node that is expanded, left before right, if it was worked ahead. What is known of it is
-    /// remembered no longer.
-    fn take(&mut self, node: &Node, side: Side) -> Lookup<Option<Node>>
-        requires { IsBranching P.problem node.now }
-        ensures { IfKnown result (IsChildOf P.problem node.now side) }
-    {
-        let Ok(place) = self.place_of(node, side) else {
-            return Lookup::Unknown;
-        };
-        let Entry { stage, .. } = self.entries.remove(place);
-        match stage {
-            ChildStage::WorkedOut(worked) => worked.child_of(node, side),
-            ChildStage::Posted(_) | ChildStage::Unposted => Lookup::Unknown,
+        for side in [Side::Left, Side::Right] {
+            if let Ok(place) = self.place_of(node, side) {
+                self.entries.remove(place);
+            }
         }
+        self.own_paths.children(node)
     }
 }

@@ -1,6 +1,6 @@
 //! A session as a search's source of children.
 
-ghost use Rattle.std.specs.Prelude.{◌≡◌, IfSome, IsSome, IsTrue};
+ghost use Rattle.std.specs.Prelude.{◌≡◌, IfSome};
 ghost use Rattle.mapf_tree.specs.Family.{IsBranching};
 ghost use Rattle.mapf_tree.specs.Nodes.{AllStand};
 
@@ -56,7 +56,7 @@ impl<'p, 's, P: OneProblem, B: OneBoard, G> SessionSource<'p, 's, P, B, G> {
         requires { AllStand P.problem waiting.now }
     {
         for node in waiting.first(4 * self.lookahead.workers) {
-            if may_have_jobs(node) {
+            if node.conflict().is_some() {
                 self.post(node, Side::Left);
                 self.post(node, Side::Right);
             }
@@ -135,11 +135,4 @@ impl<'p, 's, P: OneProblem, B: OneBoard, G: Gate> Children for SessionSource<'p,
         self.post_all(waiting);
         self.looked = self.lookahead.workers.saturating_sub(1);
     }
-}
-
-/// Whether a node's plan has a conflict, and the path of a child of it was not known when the node was made.
-fn may_have_jobs(node: &Node) -> bool
-    ensures { IsTrue result → IsSome node.now.conflict }
-{
-    node.conflict().is_some() && !node.has_known_sides()
 }

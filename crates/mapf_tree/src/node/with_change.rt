@@ -48,7 +48,6 @@ impl Node {
             root: Arc::try_clone(&self.body.root)?,
             changes: self.body.changes.with(alloc, change)?,
             conflict,
-            extensions: None,
         };
         Node::of(alloc, body)
     }

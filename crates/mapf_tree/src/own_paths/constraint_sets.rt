@@ -1,22 +1,23 @@
 //! The sets of constraints that agents have met, by number.
 
-ghost use Rattle.std.specs.Prelude.{◌≡◌, [], ◌∷◌, ◌++◌, length, slice_get, Some, IfSome, IfOk, IfErr, IsTrue};
-ghost use Rattle.mapf_tree.specs.PathCache.{HasSet, IsExtension, IsExtended};
+ghost use Rattle.std.specs.Prelude.{◌≡◌, [], ◌∷◌, ◌++◌, length, slice_get, Some, option_map, IfSome, IfOk, IfErr};
+ghost use Rattle.mapf_low.specs.Kept.{HasTwoEnds};
+ghost use Rattle.mapf_tree.specs.PathCache.{HasSet, IsExtension, IsExtended, GivesOwn};
 
+use crate::node::change::Change;
 use mapf_grid::NoMemory;
 use mapf_low::{Constraint, Constraints};
+use mapf_plan::Path;
 use std::alloc::Global;
 use std::collections::HashMap;
 use std::marker::Model;
-
-/// 2^64 by the golden ratio.
-const MIXER: u64 = 11_400_714_819_323_198_485;
+use std::sync::Arc;
 
 /// What is known of an agent's own path under a set of constraints.
-#[derive(Clone, Copy)]
+#[derive(Drop)]
 pub(crate) enum CachedPath {
-    /// It is the path of this number.
-    Path(usize),
+    /// It is this path, whose number stands before it.
+    Path(usize, Arc<Path>),
     /// There is none that costs at most so much.
     NoneWithin(u32),
 }
@@ -31,13 +32,15 @@ pub(crate) struct ConstraintSet {
 
 /// Two sets of one agent by number: the second is the first with one constraint more.
 ///
-/// Nodes and their changes keep guesses of an extension's number, by which it is found without a search. A guess may be any
-/// number, since `follow` compares what it finds there.
+/// Changes keep a guess of their extension's number, by which it is found without a search. A guess may be any number, since
+/// what is found there is compared.
 #[derive(Drop)]
 pub(crate) struct Extension {
     pub(crate) before: usize,
     pub(crate) constraint: Constraint,
     pub(crate) after: usize,
+    /// The change by which nodes have the second set and its path; none where that has no path.
+    pub(crate) change: Option<Arc<Change>>,
 }
 
 /// The sets of constraints that agents have met, by number, and which of them is which other one with one constraint more. Two
@@ -84,13 +87,13 @@ impl ConstraintSets {
         self.sets.get(set)
     }
 
-    /// The number of an agent's set of these constraints in their order, where one is found.
-    pub(crate) fn find(&self, agent: usize, constraints: &[Constraint]) -> Option<usize>
+    /// The number of an agent's set of these constraints, where one is found.
+    pub(crate) fn find(&self, agent: usize, constraints: &Constraints) -> Option<usize>
         ensures { IfSome result (λ n. HasSet self.now n agent constraints.now) }
     {
-        let place = *self.set_places.get(&set_key(agent, constraints))?;
+        let place = *self.set_places.get(&constraints.mixed_into(agent as u64))?;
         let known = self.sets.get(place)?;
-        if known.agent == agent && is_same_list(known.constraints.as_slice(), constraints) {
+        if known.agent == agent && known.constraints.is_same(constraints) {
             return Some(place);
         }
         None
@@ -101,141 +104,108 @@ impl ConstraintSets {
         ensures added { IfOk result (λ n. (self.new ≡ self.old ++ set ∷ []) × (n ≡ length self.old)) }
         ensures none { IfErr result (λ _. self.new ≡ self.old) }
     {
-        let key = set_key(set.agent, set.constraints.as_slice());
+        let key = set.constraints.mixed_into(set.agent as u64);
         let number = self.sets.len();
         self.sets.push(set)?;
         let _before = self.set_places.insert(key, number);
         Ok(number)
     }
 
-    /// Remembers an extension, unless it is known or memory runs out. Answers its number.
-    pub(crate) fn extend(&mut self, extension: Extension) -> usize
-        requires { IsExtension self.old extension }
+    /// Remembers that a set has this constraint more than another one, unless that is known. Answers the extension's number.
+    pub(crate) fn extend(
+        &mut self,
+        alloc: Global,
+        before: usize,
+        constraint: Constraint,
+        after: usize,
+    ) -> Result<usize, NoMemory>
+        requires extended { IsExtension self.old before constraint after }
+        requires ends { HasTwoEnds constraint }
         ensures { self.new ≡ self.old }
     {
-        if let Some(number) = self.number_of(&extension) {
-            return number;
+        let key = extension_key(before, &constraint);
+        if let Some(number) = self.extension_places.get(&key) {
+            if let Some(known) = self.extension(*number, before, &constraint) {
+                if known.after == after {
+                    return Ok(*number);
+                }
+            }
         }
-        let key = extension_key(extension.before, &extension.constraint);
         let number = self.extensions.len();
-        if let Ok(()) = self.extensions.push(extension) {
-            let _before = self.extension_places.insert(key, number);
-        }
-        number
+        let change = self.change_to(alloc, after, constraint, number)?;
+        self.extensions.push(Extension {
+            before,
+            constraint,
+            after,
+            change,
+        })?;
+        let _before = self.extension_places.insert(key, number);
+        Ok(number)
     }
 
-    /// The number of an extension, if it is known.
-    fn number_of(&self, extension: &Extension) -> Option<usize> {
-        let number = self.guess_extension(extension.before, &extension.constraint)?;
-        let after = self.follow(number, extension.before, &extension.constraint)?;
-        (after == extension.after).then_some(number)
-    }
-
-    /// A guess of the number of a set's extension by this constraint.
-    pub(crate) fn guess_extension(&self, before: usize, constraint: &Constraint) -> Option<usize> {
-        let key = extension_key(before, constraint);
-        Some(*self.extension_places.get(&key)?)
-    }
-
-    /// The number of a set's extension by this constraint, if its own path is known, too.
-    pub(crate) fn extension_with_path(
+    /// The change that forbids a set's agent this, the newest of the set, and gives it the set's path. None where that has none.
+    fn change_to(
         &self,
-        before: usize,
-        constraint: &Constraint,
-    ) -> Option<usize> {
-        let number = self.guess_extension(before, constraint)?;
-        let after = self.follow(number, before, constraint)?;
-        matches!(self.get(after)?.own, CachedPath::Path(_)).then_some(number)
+        alloc: Global,
+        set: usize,
+        constraint: Constraint,
+        extension: usize,
+    ) -> Result<Option<Arc<Change>>, NoMemory>
+        requires { HasTwoEnds constraint }
+        ensures { IfOk result (λ change. GivesOwn self.now set constraint (option_map (λ c. c.value) change)) }
+    {
+        let Some(set) = self.sets.get(set) else {
+            return Ok(None);
+        };
+        let CachedPath::Path(_, path) = &set.own else {
+            return Ok(None);
+        };
+        let change = Change {
+            agent: set.agent,
+            constraint,
+            path: Arc::try_clone(path)?,
+            extension,
+        };
+        Ok(Some(Arc::new(alloc, change)?))
     }
 
-    /// The set that the extension of this number leads to.
-    pub(crate) fn set_after(&self, number: usize) -> Option<usize> {
-        Some(self.extensions.get(number)?.after)
-    }
-
-    /// The set with this constraint more, if the extension of this number tells it.
-    pub(crate) fn follow(
-        &self,
-        number: usize,
-        before: usize,
-        constraint: &Constraint,
-    ) -> Option<usize>
-        ensures { IfSome result (IsExtended self.now before constraint.now) }
+    /// The extension of this number, if it is one of this set by this constraint.
+    #[inline(always)]
+    fn extension(&self, number: usize, before: usize, constraint: &Constraint) -> Option<&Extension>
+        ensures after { IfSome result (λ e. IsExtended self.now before constraint.now e.now.after) }
+        ensures change { IfSome result (λ e.
+            GivesOwn self.now e.now.after constraint.now (option_map (λ c. c.value) e.now.change)) }
     {
         let extension = self.extensions.get(number)?;
-        if extension.before == before && is_same(&extension.constraint, constraint) {
-            return Some(extension.after);
+        if extension.before == before && extension.constraint.is_same(constraint) {
+            return Some(extension);
         }
         None
     }
 
-    /// The set with this constraint more, where it is known.
-    pub(crate) fn find_set_after(
+    /// The extension of a set by this constraint, where it is known. It is looked for at a guess of its number first.
+    #[inline(always)]
+    pub(crate) fn find_extension(
         &self,
         guess: usize,
         before: usize,
         constraint: &Constraint,
-    ) -> Option<usize>
-        ensures { IfSome result (IsExtended self.now before constraint.now) }
+    ) -> Option<&Extension>
+        ensures after { IfSome result (λ e. IsExtended self.now before constraint.now e.now.after) }
+        ensures change { IfSome result (λ e.
+            GivesOwn self.now e.now.after constraint.now (option_map (λ c. c.value) e.now.change)) }
     {
-        if let Some(after) = self.follow(guess, before, constraint) {
-            return Some(after);
+        if let Some(found) = self.extension(guess, before, constraint) {
+            return Some(found);
         }
-        let number = self.guess_extension(before, constraint)?;
-        self.follow(number, before, constraint)
+        let number = *self
+            .extension_places
+            .get(&extension_key(before, constraint))?;
+        self.extension(number, before, constraint)
     }
-}
-
-/// Whether two lists of constraints are one.
-fn is_same_list(one: &[Constraint], other: &[Constraint]) -> bool
-    ensures { IsTrue result → one.now ≡ other.now }
-{
-    one == other
-}
-
-/// Whether two constraints are one.
-pub(crate) fn is_same(one: &Constraint, other: &Constraint) -> bool
-    ensures { IsTrue result → one.now ≡ other.now }
-{
-    match *one {
-        Constraint::Vertex { cell, time } => match *other {
-            Constraint::Vertex {
-                cell: other_cell,
-                time: other_time,
-            } => cell == other_cell && time == other_time,
-            Constraint::Edge { .. } => false,
-        },
-        Constraint::Edge { from, to, time } => match *other {
-            Constraint::Vertex { .. } => false,
-            Constraint::Edge {
-                from: other_from,
-                to: other_to,
-                time: other_time,
-            } => from == other_from && to == other_to && time == other_time,
-        },
-    }
-}
-
-/// A number for an agent's set of constraints. Others seldom have the same.
-fn set_key(agent: usize, constraints: &[Constraint]) -> u64 {
-    let mut key = agent as u64;
-    for constraint in constraints {
-        key = mix(key, constraint);
-    }
-    key
 }
 
 /// A number for a set with one constraint more. Others seldom have the same.
 fn extension_key(set: usize, constraint: &Constraint) -> u64 {
-    mix((set as u64).wrapping_mul(MIXER), constraint)
-}
-
-/// A number that one more constraint goes into.
-fn mix(number: u64, constraint: &Constraint) -> u64 {
-    let (from, to, time) = match *constraint {
-        Constraint::Vertex { cell, time } => (cell, cell, time),
-        Constraint::Edge { from, to, time } => (from, to, time),
-    };
-    let cells = u64::from(from.number()) * 4_294_967_296 + u64::from(to.number());
-    (number.rotate_left(5) ^ cells ^ u64::from(time).rotate_left(24)).wrapping_mul(MIXER)
+    constraint.mixed_into((set as u64).rotate_left(32))
 }

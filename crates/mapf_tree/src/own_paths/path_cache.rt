@@ -10,7 +10,6 @@ mod node_numbers;
 use crate::Problem;
 use crate::own_paths::constraint_sets::ConstraintSets;
 use crate::own_paths::path_cache::node_numbers::NodeNumbers;
-use crate::own_paths::shared_changes::SharedChange;
 use mapf_plan::KnownPaths;
 use std::alloc::Global;
 use std::marker::Model;
@@ -26,8 +25,6 @@ pub(crate) struct PathCache<'p> {
     firsts: Vec<usize>,
     /// The numbers at the node that was looked at last: the next one has the same paths but for a few.
     latest: Option<NodeNumbers>,
-    /// The changes that nodes share, by the numbers of their extensions.
-    changes: Vec<Option<SharedChange>>,
 }
 
 impl<'p> Model for PathCache<'p> {
@@ -37,7 +34,7 @@ impl<'p> Model for PathCache<'p> {
 
     ghost view = { λ b. record { problem = b.problem.now; sets = b.sets; paths = b.paths.paths } };
 
-    ghost invariant = { λ b. IsRemembered b.problem.now b.firsts.items b.latest b.changes.items b.sets b.paths };
+    ghost invariant = { λ b. IsRemembered b.problem.now b.firsts.items b.latest b.sets b.paths };
 }
 
 impl<'p> PathCache<'p> {
@@ -52,7 +49,6 @@ impl<'p> PathCache<'p> {
             paths: KnownPaths::new(alloc, problem.rule()),
             firsts: Vec::new(alloc),
             latest: None,
-            changes: Vec::new(alloc),
         }
     }
 }

@@ -6,6 +6,7 @@ ghost use Rattle.mapf_plan.specs.Path.{cost};
 ghost use Rattle.mapf_plan.specs.Plan.{path_of, plan_cost};
 ghost use Rattle.mapf_plan.specs.declared.answer.TheConstants.{MOST_BOUND};
 ghost use Rattle.mapf_tree.specs.Family.{IsBranching, IsChildOf, Leaves};
+ghost use Rattle.mapf_low.specs.Kept.{HasTwoEnds};
 ghost use Rattle.mapf_low.specs.Lookup.{IfKnown};
 
 mod low_level;
@@ -125,23 +126,17 @@ impl<'p> SideQuery<'p> {
         self.bound
     }
 
-    /// What the agent is forbidden, in an order of its own.
-    pub(crate) fn constraints(&self) -> &[Constraint]
+    /// What the agent is forbidden.
+    pub(crate) fn constraints(&self) -> &Constraints
         ensures { result.now ≡ self.now.constraints }
     {
-        self.constraints.as_slice()
-    }
-
-    /// A copy of what the agent is forbidden.
-    pub(crate) fn copy_constraints(&self) -> Result<Constraints, NoMemory>
-        ensures { IfOk result (λ other. other ≡ self.now.constraints) }
-    {
-        self.constraints.copy()
+        &self.constraints
     }
 
     /// What the agent is forbidden more than at the node.
     pub(crate) fn constraint(&self) -> Constraint
-        ensures { result ≡ self.now.constraint }
+        ensures constraint { result ≡ self.now.constraint }
+        ensures ends { HasTwoEnds result }
     {
         self.constraint
     }

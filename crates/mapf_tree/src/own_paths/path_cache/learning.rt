@@ -7,11 +7,11 @@ ghost use Rattle.mapf_tree.specs.Family.{IsBranching, IsOwnWithin};
 ghost use Rattle.mapf_tree.specs.SideQuery.{IsFoundBy};
 ghost use Rattle.mapf_tree.specs.PathCache.{HasSet, AreSetsOf, IsCachedPath, IsQueryIn, KnowsAnswerTo, IsTold, TellsUpTo};
 
-use crate::own_paths::constraint_sets::{CachedPath, ConstraintSet, Extension};
+use crate::own_paths::constraint_sets::{CachedPath, ConstraintSet};
 use crate::own_paths::path_cache::PathCache;
 use crate::{Node, SideQuery};
 use mapf_grid::NoMemory;
-use mapf_low::{Constraints, Lookup};
+use mapf_low::Constraints;
 use mapf_plan::Path;
 use std::sync::Arc;
 
@@ -47,7 +47,8 @@ impl<'p> PathCache<'p> {
         self.add(agent, Constraints::new(self.alloc), bound, Some(&path))
     }
 
-    /// Remembers what the query of a side of a node was answered. Answers a guess of the extension's number.
+    /// Remembers what the query of a side of a node was answered. Answers the extension's number, or 0 where the node's sets aren't
+    /// known.
     pub(crate) fn learn(
         &mut self,
         node: &Node,
@@ -61,7 +62,7 @@ impl<'p> PathCache<'p> {
     {
         let set = self.keep_set(node, query, path)?;
         match self.sets_at(node, Vec::new(self.alloc))? {
-            Some(sets) => Ok(self.extend(node, &sets, query, set)),
+            Some(sets) => self.extend(node, &sets, query, set),
             None => Ok(0),
         }
     }
@@ -80,12 +81,10 @@ impl<'p> PathCache<'p> {
         ensures set { IfOk result (λ set. HasSet self.new.sets set query.now.agent query.now.constraints) }
         ensures told { IfOk result (λ set. TellsUpTo self.new.sets set query.now.bound) }
     {
-        if let Some(set) = self.sets.find(query.agent(), query.constraints()) {
-            if matches!(self.find_own_path(set, query.bound()), Lookup::Known(_)) {
-                return Ok(set);
-            }
+        if let Some(set) = self.find_set(query) {
+            return Ok(set);
         }
-        let constraints = query.copy_constraints()?;
+        let constraints = query.constraints().copy()?;
         self.add(query.agent(), constraints, query.bound(), path)
     }
 
@@ -106,8 +105,9 @@ impl<'p> PathCache<'p> {
     {
         match path {
             Some(path) => {
-                let number = self.paths.number(Arc::try_clone(path)?)?;
-                self.push(agent, constraints, CachedPath::Path(number))
+                let path = Arc::try_clone(path)?;
+                let number = self.paths.number(Arc::try_clone(&path)?)?;
+                self.push(agent, constraints, CachedPath::Path(number, path))
             }
             None => self.push(agent, constraints, CachedPath::NoneWithin(bound)),
         }
@@ -134,24 +134,20 @@ impl<'p> PathCache<'p> {
         Ok(set)
     }
 
-    /// Remembers that the agent's set at a node and one constraint more are the set of this number. Answers a guess of the
-    /// extension's number.
+    /// Remembers that the agent's set at a node and one constraint more are the set of this number. Answers the extension's number.
     pub(crate) fn extend(
         &mut self,
         node: &Node,
         sets: &[usize],
         query: &SideQuery<'_>,
         set: usize,
-    ) -> usize
+    ) -> Result<usize, NoMemory>
         requires query { IsQueryIn self.old.problem node.now query.now }
         requires sets { AreSetsOf self.old.sets sets.now node.now.constraints }
         requires set { HasSet self.old.sets set query.now.agent query.now.constraints }
         ensures { self.new ≡ self.old }
     {
-        self.sets.extend(Extension {
-            before: sets[query.agent()],
-            constraint: query.constraint(),
-            after: set,
-        })
+        self.sets
+            .extend(self.alloc, sets[query.agent()], query.constraint(), set)
     }
 }

@@ -16,9 +16,6 @@ use mapf_grid::NoMemory;
 use mapf_plan::{KnownPlan, PairConflict};
 use std::mem::replace;
 
-/// Of more agents than these nothing is kept by node, as there are too many pairs of them.
-const MOST_PAIRED: usize = 256;
-
 /// What agents have at a node, by numbers.
 #[derive(Drop)]
 pub(crate) struct NodeNumbers {
@@ -29,16 +26,12 @@ pub(crate) struct NodeNumbers {
 }
 
 impl<'p> PathCache<'p> {
-    /// The numbers at a node, from those at the one that was looked at last. None where a set or a path isn't known, and of more
-    /// than 256 agents.
+    /// The numbers at a node, from those at the one that was looked at last. None where a set or a path isn't known.
     pub(crate) fn numbers_at(&mut self, node: &Node) -> Result<Option<NodeNumbers>, NoMemory>
         requires { IsBranching self.old.problem node.now }
         ensures problem { self.new.problem ≡ self.old.problem }
         ensures numbers { IfOk result (λ found. IfSome found (IsAt self.new node.now)) }
     {
-        if node.agents() > MOST_PAIRED {
-            return Ok(None);
-        }
         self.number_first_sets(node)?;
         if let Some(latest) = replace(&mut self.latest, None) {
             if latest.plan.numbers.len() == node.agents() {
@@ -144,7 +137,7 @@ impl<'p> PathCache<'p> {
         ensures { IfSome result (λ n. slice_get self.now.paths n ≡ Some (path_of node.now.plan agent)) }
     {
         match self.sets.get(sets[agent])?.own {
-            CachedPath::Path(number) => Some(number),
+            CachedPath::Path(number, _) => Some(number),
             CachedPath::NoneWithin(_) => None,
         }
     }
@@ -193,9 +186,9 @@ fn extend_set(known: &ConstraintSets, sets: &mut Vec<usize>, change: &Change) ->
     if change.agent >= sets.len() {
         return false;
     }
-    match known.find_set_after(change.extension, sets[change.agent], &change.constraint) {
-        Some(set) => {
-            sets[change.agent] = set;
+    match known.find_extension(change.extension, sets[change.agent], &change.constraint) {
+        Some(extension) => {
+            sets[change.agent] = extension.after;
             true
         }
         None => false,

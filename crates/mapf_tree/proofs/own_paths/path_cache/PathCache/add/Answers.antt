@@ -1,6 +1,5 @@
 use Rattle.std.proofs.Common.{◌≡◌, ℕ, List, Option, Some, ◌∙◌}
-use Rattle.std.specs.Prelude.{IfSome, slice_get}
-use Rattle.std.proofs.lemmas.List.Elements.{All-weaker}
+use Rattle.std.specs.Prelude.{slice_get}
 use Rattle.std.proofs.lemmas.Option.{IfSome_then}
 use Rattle.std.proofs.lemmas.Result.{IfOk-weaker}
 use Rattle.mapf_plan.specs.KnownPaths.{KnownPaths}
@@ -8,34 +7,30 @@ use Rattle.mapf_plan.proofs.PlanNumbers.{known_stays}
 use Rattle.mapf_tree.specs.Problem.{Problem}
 use Rattle.mapf_tree.specs.declared.own_paths.path_cache.node_numbers.NodeNumbers.{NodeNumbers}
 use Rattle.mapf_tree.specs.declared.own_paths.constraint_sets.ConstraintSet.{ConstraintSet}
-use Rattle.mapf_tree.specs.declared.own_paths.shared_changes.SharedChange.{SharedChange}
-use Rattle.mapf_tree.specs.SharedChanges.{IsShared}
 use Rattle.mapf_tree.specs.declared.own_paths.constraint_sets.CachedPath.TheVariants.{Path}
 use Rattle.mapf_tree.specs.PathCache.{IsRemembered, IsTold, TellsUpTo}
 use Rattle.mapf_tree.proofs.PathCaches.{known_kept}
 use Rattle.mapf_tree.proofs.own_paths.path_cache.PathCache.add.Goals as goal
 
 -- all that is remembered stays so where each path keeps its number
-all_kept : (problem : Problem) (old new : KnownPaths) (sets : List ConstraintSet) (firsts : List ℕ) (latest : Option NodeNumbers) (changes : List (Option SharedChange)) → new.rule ≡ old.rule →
-    ((n : ℕ) (p : List ℕ) → slice_get old.paths n ≡ Some p → slice_get new.paths n ≡ Some p) → IsRemembered problem firsts latest changes sets old → IsRemembered problem firsts latest changes sets new
-all_kept problem old new sets firsts latest changes same keeps is = (
+all_kept : (problem : Problem) (old new : KnownPaths) (sets : List ConstraintSet) (firsts : List ℕ) (latest : Option NodeNumbers) → new.rule ≡ old.rule →
+    ((n : ℕ) (p : List ℕ) → slice_get old.paths n ≡ Some p → slice_get new.paths n ≡ Some p) → IsRemembered problem firsts latest sets old → IsRemembered problem firsts latest sets new
+all_kept problem old new sets firsts latest same keeps is = (
   known_kept problem old.paths new.paths sets keeps is.0,
   is.1,
   same ∙ is.2,
   IfSome_then latest is.3 (λ at known. known_stays old new at.plan.numbers.items at.plan.conflicts.items same keeps known),
-  All-weaker (λ place. IfSome place (IsShared old.paths)) (λ place. IfSome place (IsShared new.paths))
-      (λ place shared. IfSome_then place shared (λ one is. keeps one.path one.change.value.path is)) changes is.4,
 )
 
 pub invariant_of-self-in_err-number-in-Some : goal.invariant_of-self-in_err-number-in-Some
 invariant_of-self-in_err-number-in-Some c =
-    all_kept c.self.inside.problem.now c.self.inside.paths c.number.new.self c.self.inside.sets c.self.inside.firsts.items c.self.inside.latest c.self.inside.changes.items c.number.ensures.rule c.number.ensures.keeps c.self.invariant
+    all_kept c.self.inside.problem.now c.self.inside.paths c.number.new.self c.self.inside.sets c.self.inside.firsts.items c.self.inside.latest c.number.ensures.rule c.number.ensures.keeps c.self.invariant
 
 pub invariant_of-self-in-Some : goal.invariant_of-self-in-Some
 invariant_of-self-in-Some c =
-    all_kept c.self.inside.problem.now c.self.inside.paths c.number.new.self c.self.inside.sets c.self.inside.firsts.items c.self.inside.latest c.self.inside.changes.items c.number.ensures.rule c.number.ensures.keeps c.self.invariant
+    all_kept c.self.inside.problem.now c.self.inside.paths c.number.new.self c.self.inside.sets c.self.inside.firsts.items c.self.inside.latest c.number.ensures.rule c.number.ensures.keeps c.self.invariant
 
 pub returns-in_ok-number-in-Some-clause-told : goal.returns-in_ok-number-in-Some-clause-told
 returns-in_ok-number-in-Some-clause-told c =
     let sets = c.push.new.self.sets in
-    IfOk-weaker c.push.result (λ set. (bound : ℕ) → IsTold bound (Path c.in_ok-number-in-Some.number) → TellsUpTo sets set bound) (λ set. TellsUpTo sets set c.args.bound) (λ set told. told c.args.bound tt) c.push.ensures.told
+    IfOk-weaker c.push.result (λ set. (bound : ℕ) → IsTold bound (Path c.in_ok-number-in-Some.number c.in_ok-path-in-Some.path) → TellsUpTo sets set bound) (λ set. TellsUpTo sets set c.args.bound) (λ set told. told c.args.bound tt) c.push.ensures.told

@@ -23,10 +23,10 @@ plan-requires-clause-agents c =
     omega (arith, ap length c.deref-2.ensures.value, c.loop-agent.invariant.0, c.loop-agent.auto.agent-end, c.agents-agent-end.ensures.agents, c.agents-agent-end.ensures.few)
 
 pub invariant_of-self : goal.invariant_of-self
-invariant_of-self c = subst (IsRemembered c.self.inside.problem.now c.self.inside.firsts.items c.self.inside.latest c.self.inside.changes.items c.self.inside.sets) (sym c.plan.ensures.known) c.self.invariant
+invariant_of-self c = subst (IsRemembered c.self.inside.problem.now c.self.inside.firsts.items c.self.inside.latest c.self.inside.sets) (sym c.plan.ensures.known) c.self.invariant
 
 pub invariant_of-self-2 : goal.invariant_of-self-2
-invariant_of-self-2 c = subst (IsRemembered c.self.inside.problem.now c.self.inside.firsts.items c.self.inside.latest c.self.inside.changes.items c.self.inside.sets) (sym c.plan.ensures.known) c.self.invariant
+invariant_of-self-2 c = subst (IsRemembered c.self.inside.problem.now c.self.inside.firsts.items c.self.inside.latest c.self.inside.sets) (sym c.plan.ensures.known) c.self.invariant
 
 pub returns-clause-numbers : goal.returns-clause-numbers
 returns-clause-numbers c =

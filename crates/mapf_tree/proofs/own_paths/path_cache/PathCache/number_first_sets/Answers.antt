@@ -28,4 +28,4 @@ invariant_of-self c =
     ) in
     let empty : (k : ℕ) → k < c.loop-agent.agent → HasSet sets (slice_index firsts k) k [] =
     λ k l. subst (λ (b : PathCache). HasSet b.sets (slice_index firsts k) k []) (sym c.self-2.view_is) (c.loop-agent.invariant.2 k l) in
-    (c.self-2.invariant.0, inr (sets_begun sets firsts agents (c.loop-agent.invariant.1 ∙ count, subst (λ n. (k : ℕ) → k < n → HasSet sets (slice_index firsts k) k []) count empty)), c.self-2.invariant.2, c.self-2.invariant.3, c.self-2.invariant.4)
+    (c.self-2.invariant.0, inr (sets_begun sets firsts agents (c.loop-agent.invariant.1 ∙ count, subst (λ n. (k : ℕ) → k < n → HasSet sets (slice_index firsts k) k []) count empty)), c.self-2.invariant.2, c.self-2.invariant.3)

@@ -15,7 +15,6 @@ invariant_of-self-2 c =
       firsts_kept problem old new c.self.inside.firsts.items kept c.self.invariant.1,
       c.self.invariant.2,
       c.self.invariant.3,
-      c.self.invariant.4,
     )
 
 pub returns-clause-kept : goal.returns-clause-kept
@@ -27,4 +26,4 @@ returns-clause-set c = set_added _ _ (record { agent = c.args.agent; constraints
 
 pub invariant_of-self : goal.invariant_of-self
 invariant_of-self c =
-    subst (λ sets. IsRemembered c.self.inside.problem.now c.self.inside.firsts.items c.self.inside.latest c.self.inside.changes.items sets c.self.inside.paths) (sym c.in_err-set.ensures.none) c.self.invariant
+    subst (λ sets. IsRemembered c.self.inside.problem.now c.self.inside.firsts.items c.self.inside.latest sets c.self.inside.paths) (sym c.in_err-set.ensures.none) c.self.invariant

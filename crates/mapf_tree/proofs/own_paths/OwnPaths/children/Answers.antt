@@ -1,7 +1,7 @@
 use Rattle.std.proofs.Common.{subst, ◌∙◌}
 use Rattle.mapf_tree.specs.declared.tree.side.Side.TheVariants.{Left, Right}
 use Rattle.mapf_tree.specs.Family.{IsChildOf}
-use Rattle.mapf_tree.proofs.own_paths.OwnPaths.children_from.Goals as goal
+use Rattle.mapf_tree.proofs.own_paths.OwnPaths.children.Goals as goal
 
 pub returns-clause-left : goal.returns-clause-left
 returns-clause-left c = subst (λ p. IsChildOf p c.args.node.now Left c.in_ok-left-2.left) c.self.view_is c.in_ok-left-2.ensures.child

@@ -1,0 +1,13 @@
+use Rattle.std.proofs.Common.{subst}
+use Rattle.std.specs.Prelude.{MatchOption}
+use Rattle.mapf_low.specs.Lookup.{IfKnown}
+use Rattle.mapf_tree.specs.PathCache.{HasNoTurnAt, IsTurnAt}
+use Rattle.mapf_tree.proofs.PathCaches.{none_at}
+use Rattle.mapf_tree.proofs.own_paths.path_cache.PathCache.child_by_number.Goals as goal
+
+pub returns-in-Known-None-clause-child : goal.returns-in-Known-None-clause-child
+returns-in-Known-None-clause-child c =
+    let cache = c.args.self.now in let node = c.args.node.now in let side = c.args.side in
+    none_at cache node side
+    (subst (λ turn. MatchOption turn (HasNoTurnAt cache node side) (λ t. IsTurnAt cache node side t.0 t.1.value)) c.in-Known-None.field-0-is
+    (subst (λ found. IfKnown found (λ turn. MatchOption turn (HasNoTurnAt cache node side) (λ t. IsTurnAt cache node side t.0 t.1.value))) c.in-Known-None.is c.in_ok-path.ensures))
