@@ -3,12 +3,13 @@
 use crate::sessions::desk::Slot;
 use mapf_tree::{Key, Side};
 
-/// The child on this side of the node of this key: a job was posted for it, or is not to be, as its path is known.
+/// The child on this side of the node of this key: a job was posted for it, or none is to be, as its path is known or memory was
+/// refused.
 #[derive(Drop)]
 pub(crate) struct Entry {
     pub(crate) key: Key,
     pub(crate) side: Side,
-    /// Where its job is; none where it is in no slot any more.
+    /// Where its job is; none where none is to be posted.
     pub(crate) slot: Option<Slot>,
 }
 

@@ -164,7 +164,7 @@ impl<'p, P: OneProblem> Lookahead<'p, P> {
         self.own_paths.search(job.node(), job.query());
     }
 
-    /// Keeps what a worker left: the path of the child, or that there was no memory for it. No job is posted for it again.
+    /// Keeps what a worker left: the path of the child, or that there was no memory for it, so that no job is posted for it again.
     pub(crate) fn keep(&mut self, given: Given<'p>)
         requires { IsGivenOf P.problem given }
         ensures { self.old.alone.children < u64.MAX
@@ -175,7 +175,7 @@ impl<'p, P: OneProblem> Lookahead<'p, P> {
                 self.alone.count();
                 self.learn(pair);
             }
-            Left::Job(job) => self.end_job(&job),
+            Left::Job(job) => self.give_up(&job),
         }
     }
 
@@ -193,22 +193,31 @@ impl<'p, P: OneProblem> Lookahead<'p, P> {
         forget_posted(&mut self.entries);
     }
 
-    /// Remembers the path of a child that was worked out.
+    /// Remembers the path of a child that was worked out, and that there was a job for it no longer.
     fn learn(&mut self, pair: Pair<SideWork<'p>>)
         requires { pair.0.query.problem ≡ P.problem }
         ensures { self.new.alone ≡ self.old.alone }
     {
         let (job, child) = pair.parts();
         self.own_paths.learn(job.node(), job.query(), &child);
-        self.end_job(&job);
+        self.forget(job.node(), job.side());
     }
 
-    /// A job is in no slot any more.
-    fn end_job(&mut self, job: &SideJob<'p>)
+    /// There was no memory for this job.
+    fn give_up(&mut self, job: &SideJob<'p>)
         ensures { self.new.alone ≡ self.old.alone }
     {
         if let Ok(place) = self.place_of(job.node(), job.side()) {
             self.entries[place].slot = None;
+        }
+    }
+
+    /// Nothing is known any more of jobs for a child of a node.
+    fn forget(&mut self, node: &Node, side: Side)
+        ensures { self.new.alone ≡ self.old.alone }
+    {
+        if let Ok(place) = self.place_of(node, side) {
+            self.entries.remove(place);
         }
     }
 
@@ -218,11 +227,8 @@ impl<'p, P: OneProblem> Lookahead<'p, P> {
         ensures left { IfOk result (λ sides. IsChildOf P.problem node.now Side.Left sides.0) }
         ensures right { IfOk result (λ sides. IsChildOf P.problem node.now Side.Right sides.1) }
     {
-        for side in [Side::Left, Side::Right] {
-            if let Ok(place) = self.place_of(node, side) {
-                self.entries.remove(place);
-            }
-        }
+        self.forget(node, Side::Left);
+        self.forget(node, Side::Right);
         self.own_paths.children(node)
     }
 }
