@@ -13,7 +13,7 @@ use mapf_cli::{CheckFault, call, check_run};
 use mapf_grid::{NoMemory, instance_of};
 use mapf_plan::{Counted, DeviceFault, Rule};
 use mapf_solve::{Ask, Refusal, answer, answer_any};
-use mapf_tree::{ByChild, Node, OpenList, Problem, Progress, Search, Side, child, root};
+use mapf_tree::{Node, OpenList, OwnPaths, Problem, Progress, Search, Side, child, root};
 use std::alloc::Global;
 use std::rt::Files;
 use std::thread::Threads;
@@ -256,7 +256,7 @@ fn take_all(waiting: &mut OpenList, nodes: &mut Vec<Node>) -> Option<()> {
 fn copies(alloc: Global, nodes: &[Node]) -> Option<Vec<Node>> {
     let mut same = Vec::with_capacity(alloc, nodes.len()).ok()?;
     for node in nodes {
-        same.push(node.copy(alloc).ok()?).ok()?;
+        same.push(node.copy().ok()?).ok()?;
     }
     Some(same)
 }
@@ -308,7 +308,9 @@ fn searched(alloc: Global, place: u64) -> Outcome {
     let Ok(mut search) = Search::new(alloc, &problem) else {
         return Outcome::Wrong;
     };
-    let mut children = ByChild::new(alloc);
+    let Ok(mut children) = OwnPaths::new(alloc, &problem) else {
+        return Outcome::Wrong;
+    };
     let _ = is_refused(alloc, REFUSED - place);
     match search.go(&mut children, 2) {
         Ok(Progress::Finished) if search.answer().is_some() => Outcome::Right,
@@ -318,7 +320,7 @@ fn searched(alloc: Global, place: u64) -> Outcome {
 }
 
 /// Whether the search answers that memory ran out, and no answer.
-fn is_out_of_memory(search: &mut Search<'_>, children: &mut ByChild) -> bool {
+fn is_out_of_memory(search: &mut Search<'_>, children: &mut OwnPaths<'_>) -> bool {
     search.go(children, 2).is_err() && search.answer().is_none()
 }
 

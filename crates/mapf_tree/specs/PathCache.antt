@@ -50,6 +50,10 @@ abbrev pub IsExtended : List ConstraintSet → ℕ → Constraint → ℕ → Ty
 IsExtended sets before constraint after =
     (agent : ℕ) (cs : List Constraint) → HasSet sets before agent cs → (all : List Constraint) × HasSet sets after agent all × HasOneMore constraint cs all
 
+-- an extension adds this constraint to the set of this number, and its change gives the path of its second set
+abbrev pub Extends : List ConstraintSet → ℕ → Constraint → Extension → Type 0
+Extends sets before constraint e = IsExtended sets before constraint e.after × GivesOwn sets e.after constraint (option_map (λ c. c.value) e.change)
+
 -- sets and paths by number
 pub record PathCache : Type 0 where
   pub problem : Problem

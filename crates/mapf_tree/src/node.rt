@@ -24,8 +24,8 @@ use std::sync::Arc;
 ///
 /// It keeps the root's plan and what each turn of its name changed, and shares both with the nodes beside and above it.
 pub struct Node {
-    /// Boxed, since nodes are moved often.
-    body: Box<Body>,
+    /// Shared with its copies.
+    body: Arc<Body>,
 }
 
 /// What a node is.
@@ -96,36 +96,29 @@ impl Node {
             (node_of body.key.name body.root.value body.changes body.rule body.conflict) }
         ensures { IfOk result (λ n. n ≡ node_of body.key.name body.root.value body.changes body.rule body.conflict) }
     {
-        match Box::new(alloc, body) {
-            Ok(body) => Ok(Node { body }),
-            Err(_refused) => Err(NoMemory),
-        }
+        Ok(Node {
+            body: Arc::new(alloc, body)?,
+        })
     }
 
-    /// The same node, whose changes stand in one list for the nodes below it, where it has as many of its own as may be.
+    /// The same node, whose changes stand in one list for the nodes below it, where it has as many of its own as may be, and no copy.
     pub fn share_changes(self) -> Node
         ensures { result ≡ self }
     {
         let Node { mut body } = self;
-        body.changes.share();
+        if let Some(own) = Arc::get_mut(&mut body) {
+            own.changes.share();
+        }
         Node { body }
     }
 
     /// Where the node stands in the order of a search.
     pub fn key(&self) -> &Key
         ensures rank { key_rank result.now ≡ node_key self.now }
+        ensures cost { result.now.cost ≡ plan_cost self.now.plan }
         ensures name { result.now.name ≡ self.now.name }
     {
         &self.body.key
-    }
-
-    /// Its key.
-    pub(crate) fn into_key(self) -> Key
-        ensures rank { key_rank result ≡ node_key self }
-        ensures cost { result.cost ≡ plan_cost self.plan }
-    {
-        let Node { body } = self;
-        Box::into_inner(body).key
     }
 
     /// The first conflict of the node's plan by the rule of its tree; none where the plan has no conflict.
@@ -173,17 +166,12 @@ impl Node {
         self.body.changes.allocator()
     }
 
-    /// An equal node, which shares plan and changes with this one.
-    pub fn copy(&self, alloc: Global) -> Result<Node, NoMemory>
+    /// An equal node, which shares all with this one. An error is that it can't be shared more often.
+    pub fn copy(&self) -> Result<Node, NoMemory>
         ensures { IfOk result (λ other. other ≡ self.now) }
     {
-        let body = Body {
-            key: self.body.key.copy(alloc)?,
-            rule: self.body.rule,
-            root: Arc::try_clone(&self.body.root)?,
-            changes: self.body.changes.copy()?,
-            conflict: self.body.conflict,
-        };
-        Node::of(alloc, body)
+        Ok(Node {
+            body: Arc::try_clone(&self.body)?,
+        })
     }
 }

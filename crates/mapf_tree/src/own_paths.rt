@@ -21,8 +21,8 @@ use std::sync::Arc;
 
 /// Own paths that were searched before for nodes of a problem's tree, and shared with the nodes that have them.
 ///
-/// In a large tree an agent meets the same set of constraints again and again, in either order of the turns; its own path is
-/// then searched once. The same two paths meet in many nodes, and when they collide is looked for once.
+/// In a large tree an agent meets the same constraints again and again: its own path is searched once for each order of the turns.
+/// The same two paths meet in many nodes, and when they collide is looked for once.
 pub struct OwnPaths<'p> {
     alloc: Global,
     problem: &'p Problem,
@@ -104,8 +104,7 @@ impl<'p> OwnPaths<'p> {
         if let Lookup::Known(child) = known {
             return Ok(child);
         }
-        let query = SideQuery::of(self.alloc, self.problem, node, side)?;
-        let query = self.with_from_start(query);
+        let query = self.query(node, side)?;
         let path = query.own_path(self.alloc)?;
         let extension = self.cache.learn(node, &query, path.as_ref());
         query.child(self.alloc, node, path, extension.unwrap_or(0))
@@ -143,22 +142,25 @@ impl<'p> OwnPaths<'p> {
         ensures side { IfOk result (λ found. IfSome found (λ q. q.side ≡ side)) }
         ensures query { IfOk result (λ found. IfSome found (IsQueryOf node.now)) }
     {
-        let query = SideQuery::of(self.alloc, self.problem, node, side)?;
+        let query = self.query(node, side)?;
         if self.cache.find_set(&query).is_some() {
             return Ok(None);
         }
-        Ok(Some(self.with_from_start(query)))
+        Ok(Some(query))
     }
 
-    /// A query with the distances from its agent's start; without them where memory runs out.
-    fn with_from_start(&mut self, query: SideQuery<'p>) -> SideQuery<'p>
-        requires { query.problem ≡ self.old }
-        ensures problem { self.new ≡ self.old }
-        ensures query { result ≡ query.entry }
+    /// The own path that a side of a node asks for, with the distances from its agent's start; without them where memory runs out.
+    fn query(&mut self, node: &Node, side: Side) -> Result<SideQuery<'p>, NoMemory>
+        requires { IsBranching self.old node.now }
+        ensures same { self.new ≡ self.old }
+        ensures problem { IfOk result (λ q. q.problem ≡ self.old) }
+        ensures side { IfOk result (λ q. q.side ≡ side) }
+        ensures query { IfOk result (IsQueryOf node.now) }
     {
+        let query = SideQuery::of(self.alloc, self.problem, node, side)?;
         match self.table(query.agent()) {
-            Some(distances) => query.with_from_start(distances),
-            None => query,
+            Some(distances) => Ok(query.with_from_start(distances)),
+            None => Ok(query),
         }
     }
 

@@ -11,7 +11,7 @@ mod progress;
 use crate::search::expansion::{Expansion, add_if_some, expand_least};
 use crate::search::lower_bound::answer_at_limit;
 use crate::{Key, Node, OpenList, Problem, root};
-pub use children::{ByChild, Children};
+pub use children::Children;
 use mapf_grid::NoMemory;
 use mapf_plan::Answer;
 pub use progress::Progress;
@@ -130,8 +130,10 @@ impl<'p> Search<'p> {
         ensures none { turns ≡ 0 → self.old.outcome ≡ Ok None
             → (result ≡ Ok Progress.Working) × (self.new ≡ self.old) × (children.new ≡ children.old) }
     {
-        if let Progress::Finished = self.progress()? {
-            return Ok(Progress::Finished);
+        match &self.outcome {
+            Ok(Some(_answer)) => return Ok(Progress::Finished),
+            Ok(None) => {}
+            Err(refused) => return Err(*refused),
         }
         for _taken in 0..turns {
             if let Progress::Finished = self.step(children)? {

@@ -39,7 +39,7 @@ R 3: 0 1; 1 1 0; agents 0 and 1 on 1 at 1
 fn write_node(rt: &impl Abort, alloc: Global, node: &Node, text: &mut String) -> Result<(), Fail> {
     let key = node.key();
     assert_eq!(rt; key.depth, key.name.len());
-    assert_eq!(rt; node.copy(alloc)?.key(), key);
+    assert_eq!(rt; node.copy()?.key(), key);
     let name = key.name.to_vec(alloc)?;
     write!(text, "{} {}:", letters(alloc, name.as_slice())?, key.cost)?;
     push_paths(text, node.plan(alloc)?.paths())?;

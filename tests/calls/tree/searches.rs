@@ -5,7 +5,7 @@ use super::texts::{letters, push_paths};
 use crate::worked::{ALONG, BAY, CANNOT_PASS, CHANGE, CROSSING, RING, Worked};
 use mapf_plan::Answer;
 use mapf_solve::solve_alone;
-use mapf_tree::{ByChild, Problem, Progress, Search};
+use mapf_tree::{OwnPaths, Problem, Progress, Search};
 use std::alloc::Global;
 use std::process::Abort;
 use std::test::Fail;
@@ -117,7 +117,7 @@ fn the_turn_after_the_limit_takes_no_node(rt: HostRuntime) -> Result<(), Fail> {
 /// The nodes that so many turns take, a full stop where the search is finished, and its answer.
 fn taken(alloc: Global, problem: &Problem, turns: u8) -> Result<String, Fail> {
     let mut search = Search::new(alloc, problem)?;
-    let mut children = ByChild::new(alloc);
+    let mut children = OwnPaths::new(alloc, problem)?;
     let mut text = String::new(alloc);
     for _ in 0..turns {
         let progress = search.go(&mut children, 1)?;
@@ -160,7 +160,7 @@ fn three_turns_without_a_solution(rt: HostRuntime) -> Result<(), Fail> {
 fn no_turn_takes_no_node(rt: HostRuntime) -> Result<(), Fail> {
     let problem = problem_of(rt.alloc(), &CHANGE, 3)?;
     let mut search = Search::new(rt.alloc(), &problem)?;
-    let progress = search.go(&mut ByChild::new(rt.alloc()), 0)?;
+    let progress = search.go(&mut OwnPaths::new(rt.alloc(), &problem)?, 0)?;
     assert!(rt; progress == Progress::Working);
     assert!(rt; search.last().is_none());
     Ok(())

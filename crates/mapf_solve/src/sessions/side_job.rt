@@ -54,7 +54,7 @@ impl<'p> SideJob<'p> {
         requires query { IsQueryOf node.now query }
         ensures { IfOk result (λ job. job ≡ record { query = query.entry; node = node.now; number = number }) }
     {
-        let node = node.copy(alloc)?;
+        let node = node.copy()?;
         match Box::new(alloc, query) {
             Ok(query) => Ok(SideJob {
                 node,

@@ -71,16 +71,6 @@ impl Chain {
         }
     }
 
-    /// An equal chain.
-    pub(crate) fn copy(&self) -> Result<Chain, NoMemory>
-        ensures { IfOk result (λ other. other ≡ self.now) }
-    {
-        Ok(Chain {
-            older: Arc::try_clone(&self.older)?,
-            newest: self.newest.copy()?,
-        })
-    }
-
     /// The chain with one change more. Where it has as many by itself as may be, those are shared with all nodes below it.
     pub(crate) fn with(&self, alloc: Global, change: Arc<Change>) -> Result<Chain, NoMemory>
         ensures { IfOk result (λ chain. chain ≡ self.now ++ change.value ∷ []) }

@@ -77,19 +77,4 @@ impl NewestChanges {
         };
         Ok(NewestChanges { held })
     }
-
-    /// The same changes, shared once more.
-    pub(crate) fn copy(&self) -> Result<NewestChanges, NoMemory>
-        ensures { IfOk result (λ newest. newest ≡ self.now) }
-    {
-        let held = match &self.held {
-            Held::Nothing => Held::Nothing,
-            Held::One([a]) => Held::One([Arc::try_clone(a)?]),
-            Held::Two([a, b]) => Held::Two([Arc::try_clone(a)?, Arc::try_clone(b)?]),
-            Held::Three([a, b, c]) => {
-                Held::Three([Arc::try_clone(a)?, Arc::try_clone(b)?, Arc::try_clone(c)?])
-            }
-        };
-        Ok(NewestChanges { held })
-    }
 }

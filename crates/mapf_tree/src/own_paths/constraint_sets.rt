@@ -2,7 +2,7 @@
 
 ghost use Rattle.std.specs.Prelude.{◌≡◌, [], ◌∷◌, ◌++◌, length, slice_get, Some, option_map, IfSome, IfOk, IfErr};
 ghost use Rattle.mapf_low.specs.Kept.{HasTwoEnds};
-ghost use Rattle.mapf_tree.specs.PathCache.{HasSet, IsExtension, IsExtended, GivesOwn};
+ghost use Rattle.mapf_tree.specs.PathCache.{HasSet, IsExtension, Extends, GivesOwn};
 
 use crate::node::change::Change;
 use mapf_grid::NoMemory;
@@ -111,7 +111,7 @@ impl ConstraintSets {
         Ok(number)
     }
 
-    /// Remembers that a set has this constraint more than another one, unless that is known. Answers the extension's number.
+    /// Remembers that a set has this constraint more than another one. Answers the extension's number.
     pub(crate) fn extend(
         &mut self,
         alloc: Global,
@@ -123,14 +123,6 @@ impl ConstraintSets {
         requires ends { HasTwoEnds constraint }
         ensures { self.new ≡ self.old }
     {
-        let key = extension_key(before, &constraint);
-        if let Some(number) = self.extension_places.get(&key) {
-            if let Some(known) = self.extension(*number, before, &constraint) {
-                if known.after == after {
-                    return Ok(*number);
-                }
-            }
-        }
         let number = self.extensions.len();
         let change = self.change_to(alloc, after, constraint, number)?;
         self.extensions.push(Extension {
@@ -139,6 +131,7 @@ impl ConstraintSets {
             after,
             change,
         })?;
+        let key = extension_key(before, &constraint);
         let _before = self.extension_places.insert(key, number);
         Ok(number)
     }
@@ -172,9 +165,7 @@ impl ConstraintSets {
     /// The extension of this number, if it is one of this set by this constraint.
     #[inline(always)]
     fn extension(&self, number: usize, before: usize, constraint: &Constraint) -> Option<&Extension>
-        ensures after { IfSome result (λ e. IsExtended self.now before constraint.now e.now.after) }
-        ensures change { IfSome result (λ e.
-            GivesOwn self.now e.now.after constraint.now (option_map (λ c. c.value) e.now.change)) }
+        ensures { IfSome result (λ e. Extends self.now before constraint.now e.now) }
     {
         let extension = self.extensions.get(number)?;
         if extension.before == before && extension.constraint.is_same(constraint) {
@@ -191,9 +182,7 @@ impl ConstraintSets {
         before: usize,
         constraint: &Constraint,
     ) -> Option<&Extension>
-        ensures after { IfSome result (λ e. IsExtended self.now before constraint.now e.now.after) }
-        ensures change { IfSome result (λ e.
-            GivesOwn self.now e.now.after constraint.now (option_map (λ c. c.value) e.now.change)) }
+        ensures { IfSome result (λ e. Extends self.now before constraint.now e.now) }
     {
         if let Some(found) = self.extension(guess, before, constraint) {
             return Some(found);

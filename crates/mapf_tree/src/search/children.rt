@@ -3,9 +3,8 @@ ghost use Rattle.mapf_tree.specs.Problem.{Problem};
 ghost use Rattle.mapf_tree.specs.Nodes.{AllStand};
 ghost use Rattle.mapf_tree.specs.Family.{IsBranching, IsChildOf};
 
-use crate::{Node, OpenList, Problem, Side, child};
+use crate::{Node, OpenList, Problem, Side};
 use mapf_grid::NoMemory;
-use std::alloc::Global;
 
 /// Where a search has the children of nodes from.
 pub trait Children {
@@ -28,35 +27,4 @@ pub trait Children {
         requires serves { serves self.old problem.now }
         requires nodes { AllStand problem.now waiting.now }
         ensures serves { serves self.new problem.now };
-}
-
-/// Children as they are needed, each worked out alone.
-#[derive(Drop)]
-pub struct ByChild {
-    alloc: Global,
-}
-
-impl ByChild {
-    /// Children of any problem's nodes, whose memory comes from this allocator.
-    pub fn new(alloc: Global) -> ByChild
-        ensures serves { (problem : Problem) → ⟦<ByChild as Children>⟧.serves result problem }
-    {
-        ByChild { alloc }
-    }
-}
-
-impl Children for ByChild {
-    ghost serves = { λ _ _. Unit {0} };
-
-    fn both(
-        &mut self,
-        problem: &Problem,
-        node: &Node,
-    ) -> Result<(Option<Node>, Option<Node>), NoMemory> {
-        let left = child(self.alloc, problem, node, Side::Left)?;
-        let right = child(self.alloc, problem, node, Side::Right)?;
-        Ok((left, right))
-    }
-
-    fn ahead(&mut self, _problem: &Problem, _waiting: &OpenList) {}
 }

@@ -35,14 +35,14 @@ pub(crate) fn expand_least<C: Children>(
     };
     if node.conflict().is_none() {
         let plan = node.plan(node.allocator())?;
-        let key = node.into_key();
+        let key = node.key().copy(node.allocator())?;
         return Ok(Expansion::Solved { key, plan });
     }
     let node = node.share_changes();
     let (left, right) = children.both(problem, &node)?;
     add_if_some(waiting, left)?;
     add_if_some(waiting, right)?;
-    Ok(Expansion::Branched(node.into_key()))
+    Ok(Expansion::Branched(node.key().copy(node.allocator())?))
 }
 
 /// Adds a node, if there is one.

@@ -5,14 +5,14 @@ ghost use Rattle.mapf_low.specs.Lookup.{IfKnown};
 ghost use Rattle.mapf_plan.specs.Path.{cost};
 ghost use Rattle.mapf_plan.specs.Plan.{path_of};
 ghost use Rattle.mapf_tree.specs.Family.{IsBranching, IsChildOf};
-ghost use Rattle.mapf_tree.specs.PathCache.{AreSetsOf, IsAt, HasNoTurnAt, IsTurnAt};
+ghost use Rattle.mapf_tree.specs.PathCache.{IsAt, HasNoTurnAt, IsTurnAt};
 
 use crate::node::change::Change;
 use crate::own_paths::path_cache::PathCache;
 use crate::own_paths::path_cache::node_numbers::NodeNumbers;
 use crate::tree::side_query::bound_for;
 use crate::tree::sides::{agent_of, constraint_of};
-use crate::{Node, Side, SideQuery};
+use crate::{Node, Side};
 use mapf_grid::NoMemory;
 use mapf_low::Lookup;
 use mapf_plan::MOST_BOUND;
@@ -40,25 +40,6 @@ impl<'p> PathCache<'p> {
 
     /// The child of a node on one side of its conflict, where its path is known: none exactly where it isn't in the tree.
     fn find_child(
-        &mut self,
-        node: &Node,
-        at: &NodeNumbers,
-        side: Side,
-    ) -> Result<Lookup<Option<Node>>, NoMemory>
-        requires node { IsBranching self.old.problem node.now }
-        requires at { IsAt self.old node.now at.now }
-        ensures same { self.new ≡ self.old }
-        ensures child { IfOk result (λ found. IfKnown found (IsChildOf self.old.problem node.now side)) }
-    {
-        let child = self.child_by_number(node, at, side)?;
-        if matches!(child, Lookup::Known(_)) || !self.extend_by_query(node, &at.sets, side)? {
-            return Ok(child);
-        }
-        self.child_by_number(node, at, side)
-    }
-
-    /// The same by the number of the agent's set at the node.
-    fn child_by_number(
         &mut self,
         node: &Node,
         at: &NodeNumbers,
@@ -134,21 +115,6 @@ impl<'p> PathCache<'p> {
             Some(change) => Ok(Lookup::Known(Some((number, Arc::try_clone(change)?)))),
             None => Ok(Lookup::Unknown),
         }
-    }
-
-    /// Remembers that a side of a node adds its constraint to the agent's set, where the path that it asks for is known by all that the
-    /// agent is forbidden then. Answers whether it is.
-    fn extend_by_query(&mut self, node: &Node, sets: &[usize], side: Side) -> Result<bool, NoMemory>
-        requires node { IsBranching self.old.problem node.now }
-        requires sets { AreSetsOf self.old.sets sets.now node.now.constraints }
-        ensures { self.new ≡ self.old }
-    {
-        let query = SideQuery::of(self.alloc, self.problem, node, side)?;
-        let Some(set) = self.find_set(&query) else {
-            return Ok(false);
-        };
-        self.extend(node, sets, &query, set)?;
-        Ok(true)
     }
 
     /// What an agent's path costs at a node.

@@ -5,7 +5,7 @@ ghost use Rattle.std.specs.Arc.{arc_value};
 ghost use Rattle.mapf_low.specs.declared.constraint.Constraint.{Constraint};
 ghost use Rattle.mapf_tree.specs.Family.{IsBranching, IsOwnWithin};
 ghost use Rattle.mapf_tree.specs.SideQuery.{IsFoundBy};
-ghost use Rattle.mapf_tree.specs.PathCache.{HasSet, AreSetsOf, IsCachedPath, IsQueryIn, KnowsAnswerTo, IsTold, TellsUpTo};
+ghost use Rattle.mapf_tree.specs.PathCache.{HasSet, IsCachedPath, IsQueryIn, KnowsAnswerTo, IsTold, TellsUpTo};
 
 use crate::own_paths::constraint_sets::{CachedPath, ConstraintSet};
 use crate::own_paths::path_cache::PathCache;
@@ -62,7 +62,10 @@ impl<'p> PathCache<'p> {
     {
         let set = self.keep_set(node, query, path)?;
         match self.sets_at(node, Vec::new(self.alloc))? {
-            Some(sets) => self.extend(node, &sets, query, set),
+            Some(sets) => {
+                let before = sets[query.agent()];
+                self.sets.extend(self.alloc, before, query.constraint(), set)
+            }
             None => Ok(0),
         }
     }
@@ -132,22 +135,5 @@ impl<'p> PathCache<'p> {
             own,
         })?;
         Ok(set)
-    }
-
-    /// Remembers that the agent's set at a node and one constraint more are the set of this number. Answers the extension's number.
-    pub(crate) fn extend(
-        &mut self,
-        node: &Node,
-        sets: &[usize],
-        query: &SideQuery<'_>,
-        set: usize,
-    ) -> Result<usize, NoMemory>
-        requires query { IsQueryIn self.old.problem node.now query.now }
-        requires sets { AreSetsOf self.old.sets sets.now node.now.constraints }
-        requires set { HasSet self.old.sets set query.now.agent query.now.constraints }
-        ensures { self.new ≡ self.old }
-    {
-        self.sets
-            .extend(self.alloc, sets[query.agent()], query.constraint(), set)
     }
 }

@@ -1,5 +1,7 @@
 use Rattle.std.proofs.Common.{◌≡◌, ◌∷◌, Some, subst, sym, ap, ◌∙◌}
 use Rattle.mapf_plan.specs.declared.conflict.Conflict.{Conflict}
+use Rattle.mapf_tree.specs.declared.tree.key.Key.{Key}
+use Rattle.mapf_tree.specs.Tree.{key_rank}
 use Rattle.mapf_tree.specs.Nodes.{Node}
 use Rattle.mapf_tree.specs.Family.{IsBranching}
 use Rattle.mapf_tree.proofs.Expansions.{solved_case, branches, branched_case, conflict_there, some_there, conflict_absent}
@@ -7,16 +9,16 @@ use Rattle.mapf_tree.proofs.search.expansion.expand_least.Goals as goal
 
 pub returns-then-is_none-clause-expanded : goal.returns-then-is_none-clause-expanded
 returns-then-is_none-clause-expanded g c =
-    solved_case c.args.problem.now c.args.waiting.now c.take_least.new.self c.in-Some.node c.into_key-key.result c.in_ok-plan.plan c.in-Some.ensures.taken c.in-Some.ensures.rising c.requires.nodes
-    (conflict_absent _ _ _ c.is_none.ensures c.conflict.ensures.conflict c.if-is_none.true) c.into_key-key.ensures.rank c.in_ok-plan.ensures c.into_key-key.ensures.cost
+    solved_case c.args.problem.now c.args.waiting.now c.take_least.new.self c.in-Some.node c.in_ok-key.key c.in_ok-plan.plan c.in-Some.ensures.taken c.in-Some.ensures.rising c.requires.nodes
+    (conflict_absent _ _ _ c.is_none.ensures c.conflict.ensures.conflict c.if-is_none.true) (ap key_rank c.in_ok-key.ensures ∙ c.key.ensures.rank) c.in_ok-plan.ensures (ap (λ (k : Key). k.cost) c.in_ok-key.ensures ∙ c.key.ensures.cost)
 
 pub returns-clause-expanded : goal.returns-clause-expanded
 returns-clause-expanded g c =
     let same : c.in-Some.node ≡ c.share_changes-node.result = sym c.share_changes-node.ensures in
-    branched_case c.args.problem.now c.args.waiting.now c.take_least.new.self c.add_if_some.new.waiting c.add_if_some-2.new.waiting c.share_changes-node.result c.into_key.result c.in_ok-left.left c.in_ok-left.right
+    branched_case c.args.problem.now c.args.waiting.now c.take_least.new.self c.add_if_some.new.waiting c.add_if_some-2.new.waiting c.share_changes-node.result _ c.in_ok-left.left c.in_ok-left.right
     (c.in-Some.ensures.taken ∙ ap (λ n. n ∷ c.take_least.new.self) same) c.in-Some.ensures.rising c.requires.nodes
     (subst (λ (n : Node). (found : Conflict) × (n.conflict ≡ Some found)) same (conflict_there _ _ _ c.is_none.ensures c.conflict.ensures.conflict c.if-is_none.false))
-    c.in_ok-left.ensures.left c.in_ok-left.ensures.right c.in_ok-add_if_some.ensures c.in_ok-add_if_some-2.ensures c.into_key.ensures.rank
+    c.in_ok-left.ensures.left c.in_ok-left.ensures.right c.in_ok-add_if_some.ensures c.in_ok-add_if_some-2.ensures (ap key_rank c.in_ok-copy.ensures ∙ c.key-2.ensures.rank)
 
 pub both-requires-clause-branching : goal.both-requires-clause-branching
 both-requires-clause-branching g c =

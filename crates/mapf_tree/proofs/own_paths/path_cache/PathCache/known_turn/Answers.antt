@@ -16,7 +16,7 @@ returns-in_default-path c =
     let inside : agent < length node.constraints = omega (arith, within, c.requires.node.stands.agents) in
     let set : c.index-set.result.now ≡ get_or sets agent 0 = c.index-set.ensures ∙ get_or_default_zero sets agent c.index-set.result.now (omega (arith, inside, c.requires.at.sets.each)) in
     no_turn_at cache node c.args.side sets c.unwrap-conflict.result agent c.bound_for-bound.result after constraint c.requires.at.sets is c.agent_of-agent.ensures c.constraint_of-constraint.ensures inside
-    (subst₂ (λ (b : PathCache) n. IsExtended b.sets n constraint after) c.self.view_is set c.in-Some.ensures.after)
+    (subst₂ (λ (b : PathCache) n. IsExtended b.sets n constraint after) c.self.view_is set c.in-Some.ensures.0)
     (subst (λ (b : PathCache). Leaves b.problem node.plan agent c.bound_for-bound.result) c.self.view_is c.bound_for-bound.ensures.leaves)
     (subst (IsOwnIn cache after c.bound_for-bound.result) c.in_default-path.is c.in-Known.ensures.own)
 
@@ -28,10 +28,10 @@ returns-in_ok-try_clone-in-Some-change c =
     let within : agent < length cache.problem.inst.starts = search rules in
     let inside : agent < length node.constraints = omega (arith, within, c.requires.node.stands.agents) in
     let set : c.index-set.result.now ≡ get_or sets agent 0 = c.index-set.ensures ∙ get_or_default_zero sets agent c.index-set.result.now (omega (arith, inside, c.requires.at.sets.each)) in
-    let given = subst (λ x. GivesOwn c.self.inside.sets after constraint (option_map (λ d. d.value) x)) c.in-Some-change.is c.in-Some.ensures.change in
+    let given = subst (λ x. GivesOwn c.self.inside.sets after constraint (option_map (λ d. d.value) x)) c.in-Some-change.is c.in-Some.ensures.1 in
     subst (λ (x : Changed). IsTurnAt cache node c.args.side c.in-Some-path.number x) (sym c.in_ok-try_clone-in-Some-change.ensures)
     (turn_at cache node c.args.side sets c.unwrap-conflict.result agent c.bound_for-bound.result after constraint c.in-Some-path.number c.in-Some-change.change.value c.requires.at.sets is c.agent_of-agent.ensures c.constraint_of-constraint.ensures inside
-    (subst₂ (λ (b : PathCache) n. IsExtended b.sets n constraint after) c.self.view_is set c.in-Some.ensures.after)
+    (subst₂ (λ (b : PathCache) n. IsExtended b.sets n constraint after) c.self.view_is set c.in-Some.ensures.0)
     (subst (λ (b : PathCache). Leaves b.problem node.plan agent c.bound_for-bound.result) c.self.view_is c.bound_for-bound.ensures.leaves)
     (subst (IsOwnIn cache after c.bound_for-bound.result) c.in-Some-path.is c.in-Known.ensures.own)
     (subst (λ (b : PathCache). AreKnown b.problem b.paths b.sets) c.self.view_is c.self.invariant.0)

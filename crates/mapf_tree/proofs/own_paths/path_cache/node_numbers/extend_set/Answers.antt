@@ -12,4 +12,4 @@ returns-in-Some c told cs are =
     let at : c.index.result.now ≡ get_or numbers c.change.inside.agent 0 = c.index.ensures ∙ get_or_default_zero numbers c.change.inside.agent c.index.result.now inside in
     subst (λ (x : Changed). AreSetsOf sets (set numbers c.change.inside.agent c.in-Some.extension.now.after) (set cs x.agent (x.constraint ∷ get_or cs x.agent []))) c.change.view_is
     (sets_turned_on sets numbers cs c.change.inside.agent c.in-Some.extension.now.after c.change.inside.constraint inside are
-    (subst (λ n. IsExtended sets n c.change.inside.constraint c.in-Some.extension.now.after) at c.in-Some.ensures.after))
+    (subst (λ n. IsExtended sets n c.change.inside.constraint c.in-Some.extension.now.after) at c.in-Some.ensures.0))

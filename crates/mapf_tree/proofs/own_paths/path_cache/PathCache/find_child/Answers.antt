@@ -3,7 +3,7 @@ use Rattle.std.specs.Prelude.{MatchOption}
 use Rattle.mapf_low.specs.Lookup.{IfKnown}
 use Rattle.mapf_tree.specs.PathCache.{HasNoTurnAt, IsTurnAt}
 use Rattle.mapf_tree.proofs.PathCaches.{none_at}
-use Rattle.mapf_tree.proofs.own_paths.path_cache.PathCache.child_by_number.Goals as goal
+use Rattle.mapf_tree.proofs.own_paths.path_cache.PathCache.find_child.Goals as goal
 
 pub returns-in-Known-None-clause-child : goal.returns-in-Known-None-clause-child
 returns-in-Known-None-clause-child c =
