@@ -1,7 +1,6 @@
 -- The current jobs of a board's slots, each for a child of a node of one problem's tree.
-use Rattle.std.proofs.Common.{◌≡◌, ◌≢◌, ◌∙◌, ℕ, zero, suc, Bool, true, List, [], ◌∷◌, Option, Some, None, Result, Ok, Err, OnOk, OnErr, IfOk, IfErr, ap, refl, is_some, map, replicate, slice_index_or, slice_set, sym, subst}
+use Rattle.std.proofs.Common.{◌≡◌, ◌∙◌, ℕ, zero, suc, true, List, [], ◌∷◌, Option, Some, None, Result, Ok, Err, OnOk, IfOk, IfErr, ap, is_ok, map, replicate, slice_index_or, slice_set, sym, subst}
 use Rattle.std.proofs.lemmas.List.{map-set}
-use Rattle.std.proofs.Math.Seq.{map-set_same}
 use Rattle.std.proofs.lemmas.Option.{same_Some}
 use Rattle.mapf_board.specs.Views.{Seen, posting, noting}
 use Rattle.mapf_board.specs.declared.live.found.Found.{Found}
@@ -36,17 +35,11 @@ freed_sides p (Ok x) old new slot freeing frees freed found all =
     subst (λ v. AreSidesOf p v.current) (sym freed) (subst (AreSidesOf p) (sym (frees x)) (with_slot p old.current slot None all (λ job e. cc)))
 freed_sides p (Err e) old new slot freeing frees freed found all = subst (λ v. AreSidesOf p v.current) (sym found) all
 
--- where one slot changes, so does its mark, and the others have the marks that they had
-pub with_mark : {J : Type 0} (marks : List Bool) (old new : List (Option J)) (k : ℕ) (now : Option J) → marks ≡ map is_some old → new ≡ slice_set old k now → slice_set marks k (is_some now) ≡ map is_some new
-with_mark marks old new k now are becomes = ap (λ m. slice_set m k (is_some now)) are ∙ sym (map-set is_some old k now) ∙ ap (map is_some) (sym becomes)
+-- where one slot changes, so does what is noted of it, and of the others it stays
+pub with_note : {J N : Type 0} (of : Option J → N) (notes : List N) (old new : List (Option J)) (k : ℕ) (now : Option J) → notes ≡ map of old → new ≡ slice_set old k now → slice_set notes k (of now) ≡ map of new
+with_note of notes old new k now are becomes = ap (λ n. slice_set n k (of now)) are ∙ sym (map-set of old k now) ∙ ap (map of) (sym becomes)
 
--- what is there is something
-some_there : {J : Type 0} (there : Option J) → there ≢ None → true ≡ is_some there
-some_there None there = absurd (there refl)
-some_there (Some x) there = refl
-
--- a slot that a job was posted in is marked, and so is one that had a job
-pub posted_mark : (marks : List Bool) (r : Result (Unit {0}) (WantedChild × Found)) (old new : Seen WantedChild (Option Node)) (slot : ℕ) (job : WantedChild) → OnOk r (new ≡ posting old slot job) → OnErr r (slice_index_or old.current slot None ≢ None) → IfErr r (λ e. new ≡ noting old slot e.1) → marks ≡ map is_some old.current → slice_set marks slot true ≡ map is_some new.current
-posted_mark marks (Ok done) old new slot job posted busy found are = with_mark marks old.current new.current slot (Some job) are (ap (λ v. v.current) posted)
-posted_mark marks (Err e) old new slot job posted busy found are =
-    with_mark marks old.current _ slot (Some job) are refl ∙ map-set_same is_some old.current slot (Some job) None (some_there _ busy) ∙ ap (λ v. map is_some v.current) (sym found)
+-- a job that was posted is the slot's current one
+pub posted_current : (r : Result (Unit {0}) (WantedChild × Found)) (old new : Seen WantedChild (Option Node)) (slot : ℕ) (job : WantedChild) → is_ok r ≡ true → OnOk r (new ≡ posting old slot job) → new.current ≡ slice_set old.current slot (Some job)
+posted_current (Ok done) old new slot job ok posted = ap (λ v. v.current) posted
+posted_current (Err e) old new slot job ok posted = cc

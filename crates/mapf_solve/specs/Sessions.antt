@@ -1,5 +1,5 @@
 -- What a session keeps of a problem and of its board, and how a search goes on in it. Nothing here speaks of threads.
-use Rattle.std.specs.Prelude.{◌≡◌, ℕ, ◌≤◌, List, [], Option, Some, None, Result, Ok, Err, slice_index_or}
+use Rattle.std.specs.Prelude.{◌≡◌, ℕ, ◌≤◌, List, [], Option, Some, None, Result, Ok, Err, option_map, slice_index_or}
 use Rattle.mapf_grid.specs.declared.fault.NoMemory.{NoMemory}
 use Rattle.mapf_board.specs.Views.{Held, job_in}
 use Rattle.mapf_board.specs.declared.live.left.Left.TheVariants.{Answer, Job}
@@ -27,6 +27,10 @@ children_in (Job j) = 0
 -- the current job of each slot, if any, is for a child of a node of this problem's tree
 abbrev pub AreSidesOf : Problem → List (Option WantedChild) → Type 0
 AreSidesOf p current = (slot : ℕ) (job : WantedChild) → slice_index_or current slot None ≡ Some job → job.query.problem ≡ p
+
+-- the number of the job, if there is one
+abbrev pub number_of : Option WantedChild → Option ℕ
+number_of = option_map (λ job. job.number)
 
 -- from the last taken node on a search took the next n nodes of the tree and has no answer yet, or it ended after at most n
 abbrev pub HasTaken : Problem → ℕ → Option (List ℕ) → Searched → Result Progress NoMemory → Type 0

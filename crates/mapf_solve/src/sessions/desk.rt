@@ -1,10 +1,10 @@
 //! What the owner of a session's board works with.
 
-ghost use Rattle.std.specs.Prelude.{◌≡◌, ◌<◌, None, IfOk, is_some, map, replicate};
+ghost use Rattle.std.specs.Prelude.{◌≡◌, ◌<◌, None, IfOk, map, replicate};
 ghost use Rattle.mapf_board.specs.Owners.{IsOwnerOf, IsOwnerAt, board_of, currents};
 ghost use Rattle.mapf_board.specs.Workers.{size_of};
 ghost use Rattle.mapf_board.specs.declared.limits.TheConstants.{MOST_SLOTS};
-ghost use Rattle.mapf_solve.specs.Sessions.{AreSidesOf, IsGivenOf};
+ghost use Rattle.mapf_solve.specs.Sessions.{AreSidesOf, IsGivenOf, number_of};
 
 use crate::sessions::brands::{OneBoard, OneProblem};
 use crate::sessions::side_job::{SideJob, SideWork};
@@ -36,14 +36,14 @@ pub(crate) type Given<'p> = Left<Pair<SideWork<'p>>, SideJob<'p>>;
 pub(crate) struct Desk<'p, 's, P: OneProblem, B: OneBoard> {
     live: &'s Live<SideWork<'p>>,
     owner: Owner<SideWork<'p>>,
-    /// Which slots have a job.
-    used: [bool; MOST_SLOTS],
+    /// The number of each slot's job; none where it has none.
+    numbers: [Option<u64>; MOST_SLOTS],
     of: PhantomData<(P, B)>,
     ghost board: { board_of live.now ≡ B.board },
     ghost slots: { size_of live.now ≡ MOST_SLOTS },
     ghost owns: { IsOwnerOf live.now owner },
     ghost sides: { AreSidesOf P.problem (currents owner) },
-    ghost marked: { used ≡ map is_some (currents owner) },
+    ghost numbered: { numbers ≡ map number_of (currents owner) },
 }
 
 impl<'p, 's, P: OneProblem, B: OneBoard> Desk<'p, 's, P, B> {
@@ -60,7 +60,7 @@ impl<'p, 's, P: OneProblem, B: OneBoard> Desk<'p, 's, P, B> {
         Desk {
             live,
             owner,
-            used: [false; MOST_SLOTS],
+            numbers: [None; MOST_SLOTS],
             of: PhantomData,
         }
     }
@@ -75,19 +75,29 @@ impl<'p, 's, P: OneProblem, B: OneBoard> Desk<'p, 's, P, B> {
 
     /// Whether the slot has a job.
     pub(crate) fn is_used(&self, slot: Slot) -> bool {
-        self.used[slot.number]
+        self.numbers[slot.number].is_some()
     }
 
     /// Whether any slot has a job.
     pub(crate) fn has_jobs(&self) -> bool {
-        self.used.contains(&true)
+        self.numbers.iter().any(|number| number.is_some())
     }
 
     /// The first slot that has no job.
     pub(crate) fn free_slot(&self) -> Option<Slot> {
         for number in 0..MOST_SLOTS {
-            if !self.used[number] {
+            if self.numbers[number].is_none() {
                 return Some(Slot::at(number));
+            }
+        }
+        None
+    }
+
+    /// The slot whose job has this number.
+    pub(crate) fn slot_of(&self, number: u64) -> Option<Slot> {
+        for place in 0..MOST_SLOTS {
+            if self.numbers[place] == Some(number) {
+                return Some(Slot::at(place));
             }
         }
         None
@@ -97,8 +107,10 @@ impl<'p, 's, P: OneProblem, B: OneBoard> Desk<'p, 's, P, B> {
     pub(crate) fn post(&mut self, slot: Slot, job: SideJob<'p>)
         requires { job.query.problem ≡ P.problem }
     {
-        let _posted = self.live.post(&mut self.owner, slot.number, job);
-        self.used[slot.number] = true;
+        let number = job.number();
+        if self.live.post(&mut self.owner, slot.number, job).is_ok() {
+            self.numbers[slot.number] = Some(number);
+        }
     }
 
     /// What a worker left in the slot. An error is the state that was found.
@@ -106,7 +118,7 @@ impl<'p, 's, P: OneProblem, B: OneBoard> Desk<'p, 's, P, B> {
         ensures { IfOk result (IsGivenOf P.problem) }
     {
         let left = self.live.collect(&mut self.owner, slot.number)?;
-        self.used[slot.number] = false;
+        self.numbers[slot.number] = None;
         Ok(left)
     }
 
@@ -115,7 +127,7 @@ impl<'p, 's, P: OneProblem, B: OneBoard> Desk<'p, 's, P, B> {
         ensures { IfOk result (λ job. job.query.problem ≡ P.problem) }
     {
         let job = self.live.withdraw(&mut self.owner, slot.number)?;
-        self.used[slot.number] = false;
+        self.numbers[slot.number] = None;
         Ok(job)
     }
 

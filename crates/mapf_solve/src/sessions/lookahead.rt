@@ -1,30 +1,29 @@
-//! What sessions of a search hand on: own paths, and for which children of nodes that wait there were jobs.
+//! What sessions of a search hand on: own paths, and for which children of nodes that wait it was asked.
 
-ghost use Rattle.std.specs.Prelude.{◌≡◌, ◌+◌, ◌<◌, ◌≤◌, All, IfErr, IfOk, IfSome, vec_len};
+ghost use Rattle.std.specs.Prelude.{◌≡◌, ◌+◌, ◌<◌, ◌≤◌, All, IfOk, IfSome};
 ghost use Rattle.mapf_board.specs.declared.limits.TheConstants.{MOST_WORKERS};
 ghost use Rattle.mapf_tree.specs.Family.{IsBranching, IsChildOf};
-ghost use Rattle.mapf_tree.specs.SideQuery.{IsQueryOf};
 ghost use Rattle.mapf_solve.specs.Sessions.{IsGivenOf, children_in};
 
 use crate::sessions::brands::OneProblem;
-use crate::sessions::desk::{Given, Slot};
-use crate::sessions::entry::{Entry, forget_posted};
+use crate::sessions::child::Child;
+use crate::sessions::desk::Given;
 use crate::sessions::side_job::{SideJob, SideWork};
 use crate::sessions_alone::SessionsAlone;
-use mapf_board::{Left, Pair, Work};
+use mapf_board::{Left, Pair};
 use mapf_grid::NoMemory;
-use mapf_tree::{Node, OwnPaths, Problem, Side, SideQuery};
+use mapf_tree::{Node, OwnPaths, Problem, Side};
 use std::alloc::Global;
-use std::cmp::Ordering;
+use std::collections::BTreeMap;
 use std::marker::PhantomData;
 
-/// The own paths that a search knows, for which children of its waiting nodes there were jobs, and how these are numbered.
+/// The own paths that a search knows, for which children of its waiting nodes it was asked, and how jobs are numbered.
 pub(crate) struct Lookahead<'p, P: OneProblem> {
     alloc: Global,
     /// Boxed, since a session takes what is handed on and gives it back.
     own_paths: Box<OwnPaths<'p>>,
-    /// The greatest key first, and a right side before a left one: what is next to be asked for is the last.
-    entries: Vec<Entry>,
+    /// For which children of nodes that wait it was asked: the number of the job, none where the path was known.
+    asked: BTreeMap<Child, Option<u64>>,
     /// How many workers there are.
     pub(crate) workers: usize,
     /// The number of the next job.
@@ -42,7 +41,7 @@ impl<'p, P: OneProblem> Drop for Lookahead<'p, P> {
         let Lookahead {
             alloc: _,
             own_paths: _,
-            entries: _,
+            asked: _,
             workers: _,
             next: _,
             alone: _,
@@ -68,7 +67,7 @@ impl<'p, P: OneProblem> Lookahead<'p, P> {
         Ok(Lookahead {
             alloc,
             own_paths,
-            entries: Vec::new(alloc),
+            asked: BTreeMap::new(alloc),
             workers,
             next,
             alone: SessionsAlone::new(),
@@ -83,7 +82,7 @@ impl<'p, P: OneProblem> Lookahead<'p, P> {
         let Lookahead {
             alloc: _,
             own_paths,
-            entries: _,
+            asked: _,
             workers: _,
             next: _,
             alone: _,
@@ -92,69 +91,31 @@ impl<'p, P: OneProblem> Lookahead<'p, P> {
         Box::into_inner(own_paths)
     }
 
-    /// The job for a child of a node, to be posted in this slot, where the child's path isn't known and no job was posted for it. None
-    /// where memory runs out, too.
-    pub(crate) fn job(&mut self, node: &Node, side: Side, slot: Slot) -> Option<SideJob<'p>>
+    /// The job for a child of a node, to be posted, where it wasn't asked for yet and its path isn't known. None where memory runs
+    /// out, too.
+    pub(crate) fn job(&mut self, node: &Node, side: Side) -> Option<SideJob<'p>>
         requires { IsBranching P.problem node.now }
         ensures { IfSome result (λ job. job.query.problem ≡ P.problem) }
     {
-        let query = self.unknown_query(node, side)?;
+        let child = Child::of(self.alloc, node, side).ok()?;
+        if self.asked.contains_key(&child) {
+            return None;
+        }
+        let Some(query) = self.own_paths.unknown_query(node, side).ok()? else {
+            let _known = self.asked.insert(child, None);
+            return None;
+        };
         let number = self.next;
         let job = SideJob::of(self.alloc, node, query, number).ok()?;
+        self.asked.insert(child, Some(number)).ok()?;
         self.next = number.saturating_add(1);
-        self.add(node, side, Some(slot));
         Some(job)
     }
 
-    /// The own path that a side of a node asks for, where it isn't known and no job was posted for it. None where memory runs out, too.
-    fn unknown_query(&mut self, node: &Node, side: Side) -> Option<SideQuery<'p>>
-        requires { IsBranching P.problem node.now }
-        ensures query { IfSome result (IsQueryOf node.now) }
-        ensures problem { IfSome result (λ q. q.problem ≡ P.problem) }
-    {
-        if self.place_of(node, side).is_ok() {
-            return None;
-        }
-        match self.own_paths.unknown_query(node, side) {
-            Ok(Some(query)) => Some(query),
-            Ok(None) => {
-                self.add(node, side, None);
-                None
-            }
-            Err(_) => None,
-        }
-    }
-
-    /// The job for a child of a node is in this slot, or none is to be posted; that is forgotten where memory runs out.
-    fn add(&mut self, node: &Node, side: Side, slot: Option<Slot>) {
-        if let Err(place) = self.place_of(node, side) {
-            if let Ok(key) = node.key().copy(self.alloc) {
-                let _added = self.entries.insert(place, Entry { key, side, slot });
-            }
-        }
-    }
-
-    /// Where the entry of a child of a node stands, or else where it is to be put in.
-    fn place_of(&self, node: &Node, side: Side) -> Result<usize, usize>
-        ensures there { IfOk result (λ place. place < vec_len self.now.entries) }
-        ensures new { IfErr result (λ place. place ≤ vec_len self.now.entries) }
-    {
-        let mut place = self.entries.len();
-        while place > 0 {
-            let entry = &self.entries[place - 1];
-            match entry.key.cmp(node.key()).then(entry.side.cmp(&side)) {
-                Ordering::Less => place -= 1,
-                Ordering::Equal => return Ok(place - 1),
-                Ordering::Greater => break,
-            }
-        }
-        Err(place)
-    }
-
-    /// The slot of the job for a child of a node, if it was posted.
-    pub(crate) fn slot_of(&self, node: &Node, side: Side) -> Option<Slot> {
-        let place = self.place_of(node, side).ok()?;
-        self.entries[place].slot
+    /// The number of the job for a child of a node, if one was posted. It is remembered no longer that it was asked for.
+    pub(crate) fn take_number(&mut self, node: &Node, side: Side) -> Option<u64> {
+        let child = Child::of(self.alloc, node, side).ok()?;
+        self.asked.remove(&child)?
     }
 
     /// Performs a job that nobody claimed: its path is remembered, unless memory runs out.
@@ -164,7 +125,7 @@ impl<'p, P: OneProblem> Lookahead<'p, P> {
         self.own_paths.search(job.node(), job.query());
     }
 
-    /// Keeps what a worker left: the path of the child, or that there was no memory for it, so that no job is posted for it again.
+    /// Keeps what a worker left: the path of the child, or nothing where there was no memory for it.
     pub(crate) fn keep(&mut self, given: Given<'p>)
         requires { IsGivenOf P.problem given }
         ensures { self.old.alone.children < u64.MAX
@@ -175,11 +136,12 @@ impl<'p, P: OneProblem> Lookahead<'p, P> {
                 self.alone.count();
                 self.learn(pair);
             }
-            Left::Job(job) => self.give_up(&job),
+            Left::Job(_dropped) => {}
         }
     }
 
-    /// A session of so many nodes ended: keeps the paths of the children that its board leaves, and no job.
+    /// A session of so many nodes ended: keeps the paths of the children that its board leaves, and no job. The next session asks
+    /// again.
     pub(crate) fn end_session(&mut self, left: Vec<(usize, Given<'p>)>, nodes: u64)
         requires { All (λ x. IsGivenOf P.problem x.1) left.items }
     {
@@ -190,45 +152,24 @@ impl<'p, P: OneProblem> Lookahead<'p, P> {
                 Left::Job(_dropped) => {}
             }
         }
-        forget_posted(&mut self.entries);
+        self.asked = BTreeMap::new(self.alloc);
     }
 
-    /// Remembers the path of a child that was worked out, and that there was a job for it no longer.
+    /// Remembers the path of a child that was worked out.
     fn learn(&mut self, pair: Pair<SideWork<'p>>)
         requires { pair.0.query.problem ≡ P.problem }
         ensures { self.new.alone ≡ self.old.alone }
     {
         let (job, child) = pair.parts();
         self.own_paths.learn(job.node(), job.query(), &child);
-        self.forget(job.node(), job.side());
     }
 
-    /// There was no memory for this job.
-    fn give_up(&mut self, job: &SideJob<'p>)
-        ensures { self.new.alone ≡ self.old.alone }
-    {
-        if let Ok(place) = self.place_of(job.node(), job.side()) {
-            self.entries[place].slot = None;
-        }
-    }
-
-    /// Nothing is known any more of jobs for a child of a node.
-    fn forget(&mut self, node: &Node, side: Side)
-        ensures { self.new.alone ≡ self.old.alone }
-    {
-        if let Ok(place) = self.place_of(node, side) {
-            self.entries.remove(place);
-        }
-    }
-
-    /// The children of the node that is expanded. It is remembered no longer whether there were jobs for them.
+    /// The children of the node that is expanded.
     pub(crate) fn children(&mut self, node: &Node) -> Result<(Option<Node>, Option<Node>), NoMemory>
         requires { IsBranching P.problem node.now }
         ensures left { IfOk result (λ sides. IsChildOf P.problem node.now Side.Left sides.0) }
         ensures right { IfOk result (λ sides. IsChildOf P.problem node.now Side.Right sides.1) }
     {
-        self.forget(node, Side::Left);
-        self.forget(node, Side::Right);
         self.own_paths.children(node)
     }
 }

@@ -7,7 +7,7 @@ ghost use Rattle.mapf_solve.specs.Rounds.{FitsSide};
 
 use mapf_board::{Pair, Task, Work};
 use mapf_grid::NoMemory;
-use mapf_tree::{Node, Problem, Side, SideQuery, child_with};
+use mapf_tree::{Node, Problem, SideQuery, child_with};
 use std::alloc::Global;
 use std::marker::{Model, PhantomData};
 
@@ -82,15 +82,10 @@ impl<'p> SideJob<'p> {
     }
 
     /// The job's number.
-    pub(crate) fn number(&self) -> u64 {
-        self.number
-    }
-
-    /// The side of the child.
-    pub(crate) fn side(&self) -> Side
-        ensures { result ≡ self.now.query.side }
+    pub(crate) fn number(&self) -> u64
+        ensures { result ≡ self.now.number }
     {
-        self.query.side()
+        self.number
     }
 
     /// The child.

@@ -68,7 +68,7 @@ impl<'p, 's, P: OneProblem, B: OneBoard, G> SessionSource<'p, 's, P, B, G> {
         requires { IsBranching P.problem node.now }
     {
         if let Some(slot) = self.desk.free_slot() {
-            if let Some(job) = self.lookahead.job(node, side, slot) {
+            if let Some(job) = self.lookahead.job(node, side) {
                 self.desk.post(slot, job);
             }
         }
@@ -79,7 +79,8 @@ impl<'p, 's, P: OneProblem, B: OneBoard, G> SessionSource<'p, 's, P, B, G> {
     fn fetch(&mut self, node: &Node, side: Side) -> Option<SideJob<'p>>
         ensures { IfSome result (λ job. job.query.problem ≡ P.problem) }
     {
-        let slot = self.lookahead.slot_of(node, side)?;
+        let number = self.lookahead.take_number(node, side)?;
+        let slot = self.desk.slot_of(number)?;
         let Err(Found::Posted) = self.keep_done(slot) else {
             return None;
         };

@@ -1,7 +1,8 @@
-use Rattle.std.proofs.Common.{None, is_some, map, refl, ap, sym, ◌∙◌}
+use Rattle.std.proofs.Common.{None, map, refl, ap, sym, ◌∙◌}
 use Rattle.mapf_board.specs.Views.{withdrawing}
 use Rattle.mapf_board.specs.Owners.{known_to}
-use Rattle.mapf_solve.proofs.Boards.{freed_sides, with_mark}
+use Rattle.mapf_solve.specs.Sessions.{number_of}
+use Rattle.mapf_solve.proofs.Boards.{freed_sides, with_note}
 use Rattle.mapf_solve.proofs.sessions.desk.Desk.withdraw.Goals as goal
 
 pub invariant_of-self : goal.invariant_of-self
@@ -10,7 +11,7 @@ invariant_of-self g c = record {
   slots = c.args.self.now.slots;
   owns = c.withdraw.ensures.owner;
   sides = freed_sides _ c.withdraw.result _ _ _ (withdrawing (known_to c.args.self.now.owner) c.args.slot.number) (λ x. refl) c.withdraw.ensures.withdrawn c.withdraw.ensures.found c.args.self.now.sides;
-  marked = c.args.self.now.marked ∙ ap (λ v. map is_some v.current) (sym c.in_err-job.ensures.found);
+  numbered = c.args.self.now.numbered ∙ ap (λ v. map number_of v.current) (sym c.in_err-job.ensures.found);
 }
 
 pub invariant_of-self-2 : goal.invariant_of-self-2
@@ -19,7 +20,7 @@ invariant_of-self-2 g c = record {
   slots = c.args.self.now.slots;
   owns = c.withdraw.ensures.owner;
   sides = freed_sides _ c.withdraw.result _ _ _ (withdrawing (known_to c.args.self.now.owner) c.args.slot.number) (λ x. refl) c.withdraw.ensures.withdrawn c.withdraw.ensures.found c.args.self.now.sides;
-  marked = with_mark _ _ _ c.args.slot.number None c.args.self.now.marked (ap (λ v. v.current) c.in_ok-job.ensures.withdrawn);
+  numbered = with_note number_of _ _ _ c.args.slot.number None c.args.self.now.numbered (ap (λ v. v.current) c.in_ok-job.ensures.withdrawn);
 }
 
 pub returns : goal.returns
