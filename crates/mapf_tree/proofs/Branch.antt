@@ -1,18 +1,8 @@
 -- A valid plan that obeys a node obeys one of its sides.
 use Rattle.std.proofs.Common.{◌≡◌, ℕ, ◌<◌, List, [], ◌∷◌, length, inl, inr, subst, sym, ◌∙◌, arith}
-use Rattle.mapf_grid.proofs.Decide.{by_cases}
-use Rattle.mapf_grid.proofs.Lists.{set_cases}
-use Rattle.mapf_plan.specs.declared.conflict.Conflict.{Conflict}
+use Rattle.mapf_tree.proofs.Prelude.{by_cases, set_cases, dec_breaks}
+use Rattle.mapf_tree.specs.Prelude.{Conflict, Rule, IsConflict, path_of, Obeys, Breaks, Problem, Side, Left, Right, TreeNode, side_of, constraints_of, constraint_on, agent_on, ObeysNode, ObeysOneSide}
 use Rattle.mapf_plan.specs.declared.conflict.Conflict.TheVariants.{Vertex, Swapping, Following}
-use Rattle.mapf_plan.specs.declared.rule.Rule.{Rule}
-use Rattle.mapf_plan.specs.Plan.{IsConflict, path_of}
-use Rattle.mapf_low.specs.Constraints.{Obeys, Breaks}
-use Rattle.mapf_tree.specs.Problem.{Problem}
-use Rattle.mapf_tree.specs.declared.tree.side.Side.{Side}
-use Rattle.mapf_tree.specs.declared.tree.side.Side.TheVariants.{Left, Right}
-use Rattle.mapf_tree.specs.Tree.{TreeNode, side_of, constraints_of, constraint_on, agent_on}
-use Rattle.mapf_tree.specs.Laws.{ObeysNode, ObeysOneSide}
-use Rattle.mapf_low.proofs.OwnPaths.{dec_breaks}
 use Rattle.mapf_tree.proofs.Followers.{of_parts}
 
 -- a plan that obeys a node, and keeps the constraint of a side, obeys that side

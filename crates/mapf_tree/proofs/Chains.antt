@@ -2,15 +2,8 @@
 use Rattle.std.proofs.Common.{◌≡◌, ◌≢◌, ◌↔◌, ℕ, ◌+◌, ◌<◌, List, [], ◌∷◌, ◌++◌, length, take, take_all, map, get_or, set, All, Option, Some, replicate, ap₂, refl, sym, ap, ◌∙◌, subst, subst₂, arith, Contains, get_or-set_same}
 use Rattle.std.specs.List.{AllZip, AppendsClones, slice_get}
 use Rattle.std.proofs.lemmas.List.{length-set, length_push, map-append, take_more}
-use Rattle.std.proofs.lemmas.Option.{slice_get_within, get_or_from_slice_get}
-use Rattle.std.proofs.lemmas.List.Elements.{All-push}
-use Rattle.mapf_grid.proofs.Lists.{set_cases}
-use Rattle.mapf_low.specs.declared.constraint.Constraint.{Constraint}
-use Rattle.mapf_plan.specs.Plan.{path_of, plan_cost}
-use Rattle.mapf_plan.specs.declared.conflict.Conflict.{Conflict}
-use Rattle.mapf_plan.specs.declared.rule.Rule.{Rule}
-use Rattle.mapf_tree.specs.declared.tree.side.Side.{Side}
-use Rattle.mapf_tree.specs.Nodes.{Node, node_of, IsConflictOf, IsSameSet, AgreesWith, Changed, changed_plan, changed_sets}
+use Rattle.mapf_tree.proofs.Prelude.{slice_get_within, get_or_from_slice_get, All-push, set_cases}
+use Rattle.mapf_tree.specs.Prelude.{Constraint, path_of, plan_cost, Conflict, Rule, Side, Node, node_of, IsConflictOf, IsSameSet, AgreesWith, Changed, changed_plan, changed_sets}
 use Rattle.mapf_tree.proofs.ConstraintSets.{IsWith, IsWith-cons}
 
 -- the last change is made last

@@ -1,8 +1,7 @@
 -- Sets of constraints, with one constraint more.
 use Rattle.std.proofs.Common.{◌≡◌, ◌⊎◌, ◌↔◌, List, ◌∷◌, inl, inr, sym, ⊎_elim, Contains}
-use Rattle.mapf_grid.proofs.Members.{here, there, here_or_there}
-use Rattle.mapf_low.specs.declared.constraint.Constraint.{Constraint}
-use Rattle.mapf_tree.specs.Nodes.{IsSameSet}
+use Rattle.mapf_tree.proofs.Prelude.{here, there, here_or_there}
+use Rattle.mapf_tree.specs.Prelude.{Constraint, IsSameSet}
 
 -- what one set more holds
 abbrev pub IsWith : Constraint → List Constraint → List Constraint → Type 0

@@ -1,22 +1,8 @@
 -- From a valid plan down the tree to a solution that costs no more: so the answer is an optimum.
 use Rattle.std.proofs.Common.{◌⊎◌, ℕ, zero, suc, ◌<◌, ◌≤◌, ◌+◌, List, [], ◌∷◌, map, length, inl, inr, subst, sym, ◌∙◌, ⊎_elim, arith, length-append}
-use Rattle.std.proofs.lemmas.List.{get_or-replicate}
-use Rattle.std.proofs.lemmas.List.Sums.{get_or-le-sum_by}
-use Rattle.std.proofs.lemmas.Bool.{cases_lt}
-use Rattle.mapf_grid.proofs.Ranks.{first_le}
+use Rattle.mapf_tree.proofs.Prelude.{get_or-replicate, get_or-le-sum_by, cases_lt, first_le, first_conflict, own_path_costs}
 use Rattle.mapf_grid.proofs.Lists.{build, sum_by-le}
-use Rattle.mapf_plan.specs.Path.{cost}
-use Rattle.mapf_plan.specs.declared.conflict.Conflict.{Conflict}
-use Rattle.mapf_plan.specs.Plan.{IsFirstConflict, HasNoConflict, IsValid, path_of, plan_cost}
-use Rattle.mapf_plan.proofs.Conflicts.{first_conflict}
-use Rattle.mapf_low.specs.Constraints.{Obeys}
-use Rattle.mapf_low.proofs.OwnPaths.{own_path_costs}
-use Rattle.mapf_tree.specs.Problem.{Problem}
-use Rattle.mapf_tree.specs.declared.tree.side.Side.{Side}
-use Rattle.mapf_tree.specs.declared.tree.side.Side.TheVariants.{Left, Right}
-use Rattle.mapf_tree.specs.Names.{turn}
-use Rattle.mapf_tree.specs.Tree.{TreeNode, HasPlan, InTree, root, side, side_of, root_of, IsSolution, PlannedNode}
-use Rattle.mapf_tree.specs.Laws.{ObeyedIsInCost, ObeysNode, DepthIsBounded, AnswerIsOptimum, NoneIsNone}
+use Rattle.mapf_tree.specs.Prelude.{cost, Conflict, IsFirstConflict, HasNoConflict, IsValid, path_of, plan_cost, Obeys, Problem, Side, Left, Right, turn, TreeNode, HasPlan, InTree, root, side, side_of, root_of, IsSolution, PlannedNode, ObeyedIsInCost, ObeysNode, DepthIsBounded, AnswerIsOptimum, NoneIsNone}
 use Rattle.mapf_tree.proofs.Branch.{obeys_one_side}
 use Rattle.mapf_tree.proofs.Measure.{grown_all, most, depth_le, depth_most}
 use Rattle.mapf_tree.proofs.Plans.{AllowedAt, OwnAt, own_at}

@@ -1,22 +1,11 @@
 -- One step of a search over nodes.
 use Rattle.std.proofs.Common.{◌≡◌, ◌⊎◌, ℕ, ◌+◌, ◌<◌, ◌≤◌, min, List, [], ◌∷◌, Bool, true, false, Option, Some, None, is_some, IsSome, not, Result, Ok, inl, inr, subst, sym, refl, ap, ◌∙◌, ⊎_elim, arith, Contains}
-use Rattle.mapf_grid.specs.declared.fault.NoMemory.{NoMemory}
-use Rattle.mapf_grid.specs.Least.{IsLeast}
-use Rattle.mapf_plan.specs.Plan.{plan_cost, HasNoConflict, IsValid}
-use Rattle.mapf_plan.specs.declared.conflict.Conflict.{Conflict}
-use Rattle.mapf_tree.specs.declared.tree.key.Key.{Key}
-use Rattle.mapf_tree.specs.declared.tree.side.Side.TheVariants.{Left, Right}
+use Rattle.mapf_tree.specs.Prelude.{NoMemory, IsLeast, plan_cost, HasNoConflict, IsValid, Conflict, Key, Left, Right}
 use Rattle.mapf_tree.specs.declared.search.expansion.Expansion.TheVariants as variant
-use Rattle.mapf_tree.specs.Tree.{key_rank, root_of, key, IsAnswer, PlannedNode, IsMember}
-use Rattle.mapf_tree.specs.Family.{IsRoot, IsBranching, IsChildOf}
-use Rattle.mapf_tree.specs.OpenList.{IsRising, IsAddedIfSome}
-use Rattle.mapf_plan.specs.declared.answer.Answer.{Answer}
+use Rattle.mapf_tree.specs.Prelude.{key_rank, root_of, key, IsAnswer, PlannedNode, IsMember, IsRoot, IsBranching, IsChildOf, IsRising, IsAddedIfSome, Answer}
 use Rattle.mapf_plan.specs.declared.answer.Answer.TheVariants as answer
-use Rattle.mapf_tree.specs.Problem.{Problem, IsLimit}
-use Rattle.mapf_tree.specs.Search.{IsReached, IsWaiting, IsTakenTo, NoneSolves, IsLawful, IsCounted, TakesBetween, most_counted}
-use Rattle.mapf_tree.specs.Steps.{IsSearchAt, ExpandsLeast, TakesLeast, IsGivenUp, GoesUpTo, TakesOne}
-use Rattle.mapf_tree.specs.Nodes.{Node, node_key, AllStand, HasNodeFor}
-use Rattle.mapf_grid.proofs.Members.{nowhere, here}
+use Rattle.mapf_tree.specs.Prelude.{Problem, IsLimit, IsReached, IsWaiting, IsTakenTo, NoneSolves, IsLawful, IsCounted, TakesBetween, most_counted, IsSearchAt, ExpandsLeast, TakesLeast, IsGivenUp, GoesUpTo, TakesOne, Node, node_key, AllStand, HasNodeFor}
+use Rattle.mapf_tree.proofs.Prelude.{nowhere, here}
 use Rattle.mapf_tree.proofs.SearchLaws.{reached_now, reached_then, next_waits, ends_at_first, ends_at_none, starts}
 use Rattle.mapf_tree.proofs.Limits.{least_is_below, is_cut, solved_before, empty_before, as_stated, as_given_up}
 use Rattle.mapf_tree.proofs.GoingOn.{takes_none, takes_more}

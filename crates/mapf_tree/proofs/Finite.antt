@@ -1,19 +1,7 @@
 -- The tree is finite: it has as many levels as a name can be long, and each level is a list.
 use Rattle.std.proofs.Common.{◌≡◌, ◌⊎◌, ℕ, zero, suc, ◌≤◌, List, [], ◌∷◌, ◌++◌, map, length, inl, inr, subst, sym, refl, ap, ◌∙◌, ⊎_elim, arith, length-append, All, Contains}
-use Rattle.std.proofs.lemmas.Bool.{cases_eq}
-use Rattle.std.proofs.lemmas.List.Elements.{All-nil, All-cons, All-tail, All-append, All-contains, Contains-append_left, Contains-append_right}
-use Rattle.mapf_grid.proofs.Decide.{by_cases}
-use Rattle.mapf_grid.proofs.Lists.{Contains-map}
-use Rattle.mapf_grid.proofs.Members.{nowhere, here, here_or_there}
-use Rattle.mapf_plan.specs.declared.conflict.Conflict.{Conflict}
-use Rattle.mapf_plan.specs.Plan.{IsFirstConflict, HasNoConflict}
-use Rattle.mapf_plan.proofs.Conflicts.{first_conflict, same_first}
-use Rattle.mapf_tree.specs.Problem.{Problem}
-use Rattle.mapf_tree.specs.declared.tree.side.Side.{Side}
-use Rattle.mapf_tree.specs.declared.tree.side.Side.TheVariants.{Left, Right}
-use Rattle.mapf_tree.specs.Tree.{TreeNode, HasPlan, InTree, root, side, side_of, root_of, PlannedNode, IsMember}
-use Rattle.mapf_tree.specs.Search.{IsChild}
-use Rattle.mapf_tree.specs.Laws.{TreeIsFinite}
+use Rattle.mapf_tree.proofs.Prelude.{cases_eq, All-nil, All-cons, All-tail, All-append, All-contains, Contains-append_left, Contains-append_right, by_cases, Contains-map, nowhere, here, here_or_there, first_conflict, same_first}
+use Rattle.mapf_tree.specs.Prelude.{Conflict, IsFirstConflict, HasNoConflict, Problem, Side, Left, Right, TreeNode, HasPlan, InTree, root, side, side_of, root_of, PlannedNode, IsMember, IsChild, TreeIsFinite}
 use Rattle.mapf_tree.proofs.Measure.{grown_all, most, depth_most}
 use Rattle.mapf_tree.proofs.Plans.{InCost, dec_in_cost, same_plan}
 

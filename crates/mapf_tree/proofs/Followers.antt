@@ -1,8 +1,7 @@
 -- A following conflict by its follower and its leader, and by its sides, of which the smaller agent is the left one.
 use Rattle.std.proofs.Common.{◌≡◌, ◌≢◌, ℕ, ◌-◌, ◌≤◌, ◌==◌, if◌then◌else◌, List, Bool, true, false, min, max, subst, sym, refl, ap, arith}
-use Rattle.std.proofs.lemmas.Bool.{eq-eqb, ne_eqb}
-use Rattle.mapf_plan.specs.Plan.{place}
-use Rattle.mapf_plan.proofs.Conflicts.{both_of, of_both}
+use Rattle.mapf_tree.proofs.Prelude.{eq-eqb, ne_eqb, both_of, of_both}
+use Rattle.mapf_tree.specs.Prelude.{place}
 
 -- agent k's part where agent i follows: the follower is on the cell at that time, and the leader was one time step before
 abbrev Part : List (List ℕ) → ℕ → ℕ → ℕ → ℕ → Type 0

@@ -1,16 +1,8 @@
 -- A search over many steps, and its answer.
 use Rattle.std.proofs.Common.{◌≡◌, ◌⊎◌, ℕ, ◌+◌, ◌<◌, ◌≤◌, List, [], ◌∷◌, Option, Some, None, Result, Ok, Err, IfOk, inl, inr, subst, sym, refl, ◌∙◌, ⊎_elim, arith, Contains}
-use Rattle.std.specs.Option.{ok_or}
-use Rattle.mapf_grid.specs.declared.fault.NoMemory.{NoMemory}
-use Rattle.mapf_grid.proofs.Members.{nowhere, here, there, here_or_there}
-use Rattle.mapf_plan.specs.declared.answer.Answer.{Answer}
+use Rattle.mapf_tree.specs.Prelude.{ok_or, NoMemory, Answer, Working, Finished, Problem, PlannedNode, IsMember, IsReached, Searched, IsSearch, IsLawful, IsEnded, TakesBetween, answer_of, IsStated, IsAnswerUpTo, IsAnswerOf, IsBestAnswer, TakesOne, IsStep}
+use Rattle.mapf_tree.proofs.Prelude.{nowhere, here, there, here_or_there}
 use Rattle.mapf_tree.specs.declared.search.progress.Progress.{Progress}
-use Rattle.mapf_tree.specs.declared.search.progress.Progress.TheVariants.{Working, Finished}
-use Rattle.mapf_tree.specs.Problem.{Problem}
-use Rattle.mapf_tree.specs.Tree.{PlannedNode, IsMember}
-use Rattle.mapf_tree.specs.Search.{IsReached, Searched, IsSearch, IsLawful, IsEnded, TakesBetween, answer_of}
-use Rattle.mapf_tree.specs.Answered.{IsStated, IsAnswerUpTo, IsAnswerOf, IsBestAnswer}
-use Rattle.mapf_tree.specs.Steps.{TakesOne, IsStep}
 use Rattle.mapf_tree.proofs.Descent.{answer_is_optimum, none_is_none}
 use Rattle.mapf_tree.proofs.Limits.{cut_is_below}
 

@@ -1,10 +1,7 @@
 -- The order of keys is that of their ranks.
 use Rattle.std.proofs.Common.{◌≡◌, ◌⊎◌, ◌↔◌, ℕ, ◌<◌, List, [], ◌∷◌, Less, Equal, Greater, nat_cmp, inl, inr, refl, sym, ap, ◌∙◌, arith}
-use Rattle.std.specs.Ordering.{ordering_then}
-use Rattle.std.specs.Cmp.Lexicographic.{slice_cmp}
-use Rattle.std.proofs.lemmas.Bool.{cases_order}
-use Rattle.std.proofs.lemmas.Bool.Decides.{nat_tests}
-use Rattle.mapf_grid.specs.Least.{Precedes}
+use Rattle.mapf_tree.specs.Prelude.{ordering_then, slice_cmp, Precedes}
+use Rattle.mapf_tree.proofs.Prelude.{cases_order, nat_tests}
 
 -- std compares numbers by their order
 pub cmp_less : (a b : ℕ) → a < b → nat_cmp a b ≡ Less

@@ -1,12 +1,6 @@
 -- The side that forbids a leader its start.
 use Rattle.std.proofs.Common.{◌≡◌, ℕ, ◌-◌, ◌<◌, ◌==◌, if◌then◌else◌, [], ◌∷◌, length, subst, sym, ap, ◌∙◌, get_or-set_same}
-use Rattle.mapf_plan.specs.Path.{at}
-use Rattle.mapf_plan.specs.declared.conflict.Conflict.{Conflict}
-use Rattle.mapf_plan.specs.declared.conflict.Conflict.TheVariants.{Following}
-use Rattle.mapf_plan.specs.Plan.{path_of, place}
-use Rattle.mapf_low.specs.Constraints.{Obeys}
-use Rattle.mapf_tree.specs.Tree.{constraints_of, constraint_on, agent_on}
-use Rattle.mapf_tree.specs.Laws.{LeaderAtStart}
+use Rattle.mapf_tree.specs.Prelude.{at, Conflict, Following, path_of, place, Obeys, constraints_of, constraint_on, agent_on, LeaderAtStart}
 use Rattle.mapf_tree.proofs.Branch.{agent_below}
 use Rattle.mapf_tree.proofs.Followers.{leader_time}
 use Rattle.mapf_tree.proofs.Measure.{grown_all}

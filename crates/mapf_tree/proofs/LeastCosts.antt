@@ -1,16 +1,7 @@
 -- An agent's path costs no less where the agent is forbidden more.
 use Rattle.std.proofs.Common.{ℕ, ◌<◌, ◌≤◌, List, [], length, get_or, inr, subst, sym, ap, ◌∙◌, arith}
-use Rattle.std.proofs.lemmas.List.Sums.{get_or-le-sum_by}
-use Rattle.mapf_grid.proofs.Ranks.{first_le}
-use Rattle.mapf_plan.specs.Path.{cost}
-use Rattle.mapf_plan.specs.Plan.{path_of}
-use Rattle.mapf_low.specs.declared.constraint.Constraint.{Constraint}
-use Rattle.mapf_low.specs.Constraints.{Breaks}
-use Rattle.mapf_low.proofs.Sets.{AllByRecursion-fewer}
-use Rattle.mapf_tree.specs.Problem.{Problem}
-use Rattle.mapf_tree.specs.Tree.{IsAllowedFor, IsOwnPathOf, PlannedNode, constraints_of}
-use Rattle.mapf_tree.specs.Nodes.{Node, StandsFor}
-use Rattle.mapf_tree.specs.Family.{Leaves}
+use Rattle.mapf_tree.proofs.Prelude.{get_or-le-sum_by, first_le, AllByRecursion-fewer}
+use Rattle.mapf_tree.specs.Prelude.{cost, path_of, Constraint, Breaks, Problem, IsAllowedFor, IsOwnPathOf, PlannedNode, constraints_of, Node, StandsFor, Leaves}
 use Rattle.mapf_tree.proofs.ConstraintSets.{IsWith}
 
 -- what the agent may take under one constraint more it may take at the node

@@ -1,3 +1,4 @@
+mod Prelude
 pub mod ConstraintSets
 mod Distinct
 pub mod Universe

@@ -1,22 +1,11 @@
 -- The limit on nodes: where a search gives up, and where it doesn't.
 use Rattle.std.proofs.Common.{◌≡◌, ℕ, ◌<◌, ◌≤◌, List, ◌∷◌, length, map, Option, Some, None, inl, inr, subst, sym, refl, ap, ◌∙◌, ⊎_elim, arith, Contains}
-use Rattle.std.proofs.lemmas.Bool.{cases_lt}
-use Rattle.mapf_grid.specs.Least.{Precedes, IsLeast}
-use Rattle.mapf_grid.proofs.Decide.{by_cases}
-use Rattle.mapf_grid.proofs.Members.{here_or_there}
-use Rattle.mapf_grid.proofs.Ranks.{by_compare, irreflexive, asymmetric, transitive, before_le, first_le}
-use Rattle.mapf_plan.specs.Plan.{plan_cost, HasNoConflict, IsValid}
-use Rattle.mapf_plan.specs.declared.answer.Answer.{Answer}
+use Rattle.mapf_tree.proofs.Prelude.{cases_lt, by_cases, here_or_there, by_compare, irreflexive, asymmetric, transitive, before_le, first_le}
+use Rattle.mapf_tree.specs.Prelude.{Precedes, IsLeast, plan_cost, HasNoConflict, IsValid, Answer}
 use Rattle.mapf_plan.specs.declared.answer.Answer.TheVariants as answer
-use Rattle.mapf_plan.proofs.Conflicts.{first_conflict}
-use Rattle.mapf_tree.specs.Problem.{Problem}
-use Rattle.mapf_tree.specs.Names.{turn}
-use Rattle.mapf_tree.specs.Tree.{PlannedNode, IsMember, IsSolution, key}
+use Rattle.mapf_tree.proofs.Prelude.{first_conflict}
+use Rattle.mapf_tree.specs.Prelude.{Problem, turn, PlannedNode, IsMember, IsSolution, key, stated, IsStated, IsAnswerUpTo, IsAnswerOf, IsReached, IsWaiting, TakesBetween, IsSearchAt, StatedIsUnique}
 use Rattle.mapf_tree.specs.Cut.{IsAtPlace, IsInCut, IsCutAt}
-use Rattle.mapf_tree.specs.Answered.{stated, IsStated, IsAnswerUpTo, IsAnswerOf}
-use Rattle.mapf_tree.specs.Search.{IsReached, IsWaiting, TakesBetween}
-use Rattle.mapf_tree.specs.Steps.{IsSearchAt}
-use Rattle.mapf_tree.specs.Laws.{StatedIsUnique}
 use Rattle.mapf_tree.proofs.Descent.{cheaper_solution}
 use Rattle.mapf_tree.proofs.Distinct.{distinct_le}
 use Rattle.mapf_tree.proofs.SearchLaws.{dec_reached, waits_above, x_waits, none_between, still, ends_at_first}

@@ -1,20 +1,9 @@
 -- What a search knows of the cost of each plan without conflict holds of all of them.
 use Rattle.std.proofs.Common.{◌≡◌, ℕ, ◌+◌, ◌≤◌, List, [], ◌∷◌, take, Option, Some, None, Result, Ok, Err, inl, inr, subst, sym, refl, ap, ◌∙◌, ⊎_elim, arith, Contains}
-use Rattle.std.proofs.lemmas.Bool.{cases_lt}
-use Rattle.mapf_grid.specs.declared.fault.NoMemory.{NoMemory}
-use Rattle.mapf_grid.specs.Least.{IsLeast}
-use Rattle.mapf_grid.proofs.Members.{here}
-use Rattle.mapf_plan.specs.Plan.{plan_cost}
-use Rattle.mapf_plan.specs.declared.answer.Answer.{Answer}
+use Rattle.mapf_tree.proofs.Prelude.{cases_lt, here}
+use Rattle.mapf_tree.specs.Prelude.{NoMemory, IsLeast, plan_cost, Answer}
 use Rattle.mapf_plan.specs.declared.answer.Answer.TheVariants as answer
-use Rattle.mapf_tree.specs.Problem.{Problem}
-use Rattle.mapf_tree.specs.declared.tree.key.Key.{Key}
-use Rattle.mapf_tree.specs.Tree.{key, key_rank}
-use Rattle.mapf_tree.specs.Nodes.{Node, node_key, AllStand, HasNodeFor}
-use Rattle.mapf_tree.specs.Answered.{IsBestAnswer}
-use Rattle.mapf_tree.specs.OpenList.{IsRising}
-use Rattle.mapf_tree.specs.Search.{IsLawful}
-use Rattle.mapf_tree.specs.LowerBound.{IsLeastCost, IsLowerBound, IsBelowAll, least_stated}
+use Rattle.mapf_tree.specs.Prelude.{Problem, Key, key, key_rank, Node, node_key, AllStand, HasNodeFor, IsBestAnswer, IsRising, IsLawful, IsLeastCost, IsLowerBound, IsBelowAll, least_stated}
 use Rattle.mapf_tree.proofs.Descent.{none_is_none}
 use Rattle.mapf_tree.proofs.GoingOn.{best_answer}
 use Rattle.mapf_tree.proofs.OpenNodes.{first_is_least}

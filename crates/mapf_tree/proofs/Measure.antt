@@ -1,26 +1,11 @@
 -- Each side's constraint is new, and there are so many constraints at most: so no name is long.
 use Rattle.std.proofs.Common.{◌≡◌, ◌≢◌, ℕ, ◌<◌, ◌≤◌, ◌+◌, ◌-◌, ◌*◌, List, [], ◌∷◌, length, get_or, subst, subst₂, sym, ◌∙◌, arith, length-set, length-append, All, Contains}
-use Rattle.std.specs.List.{sum_by}
-use Rattle.std.proofs.lemmas.List.{length-replicate, get_or-replicate}
+use Rattle.mapf_tree.specs.Prelude.{sum_by, IsFree, Next, IsPath, Conflict, Rule, IsConflict, IsFirstConflict, path_of, place, conflict_time, Constraint, Breaks, Obeys, Problem, Side, Left, Right, TreeNode, HasPlan, InTree, root, side, side_of, constraints_of, constraint_on, agent_on, root_of, ConstraintIsNew, ConstraintIsEarly, HoldsGrid}
+use Rattle.mapf_tree.proofs.Prelude.{length-replicate, get_or-replicate, All-nil, All-cons, All-contains, All-from_recursion, All-from_get_or, set_cases, first_early}
 use Rattle.std.proofs.lemmas.List.Sums.{sum_by-set, sum_by-le}
 use Rattle.std.proofs.lemmas.List.Folds.{sum_by-replicate}
-use Rattle.std.proofs.lemmas.List.Elements.{All-nil, All-cons, All-contains, All-from_recursion, All-from_get_or}
-use Rattle.mapf_grid.specs.Grid.{IsFree, Next}
-use Rattle.mapf_grid.proofs.Lists.{set_cases}
-use Rattle.mapf_plan.specs.Path.{IsPath}
-use Rattle.mapf_plan.specs.declared.conflict.Conflict.{Conflict}
 use Rattle.mapf_plan.specs.declared.conflict.Conflict.TheVariants.{Vertex, Swapping, Following}
-use Rattle.mapf_plan.specs.declared.rule.Rule.{Rule}
-use Rattle.mapf_plan.specs.Plan.{IsConflict, IsFirstConflict, path_of, place, conflict_time}
 use Rattle.mapf_plan.proofs.Paths.{place_free, moves}
-use Rattle.mapf_plan.proofs.Conflicts.{first_early}
-use Rattle.mapf_low.specs.declared.constraint.Constraint.{Constraint}
-use Rattle.mapf_low.specs.Constraints.{Breaks, Obeys}
-use Rattle.mapf_tree.specs.Problem.{Problem}
-use Rattle.mapf_tree.specs.declared.tree.side.Side.{Side}
-use Rattle.mapf_tree.specs.declared.tree.side.Side.TheVariants.{Left, Right}
-use Rattle.mapf_tree.specs.Tree.{TreeNode, HasPlan, InTree, root, side, side_of, constraints_of, constraint_on, agent_on, root_of}
-use Rattle.mapf_tree.specs.Laws.{ConstraintIsNew, ConstraintIsEarly, HoldsGrid}
 use Rattle.mapf_tree.proofs.Branch.{agent_below}
 use Rattle.mapf_tree.proofs.Followers.{parts, part_early}
 use Rattle.mapf_tree.proofs.Distinct.{Distinct, distinct_le}

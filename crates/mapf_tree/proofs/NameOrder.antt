@@ -1,11 +1,7 @@
 -- Names are in the order of their turns: by their numbers, then by how many turns these keep, and then by what is behind them.
 use Rattle.std.proofs.Common.{◌≡◌, ℕ, zero, suc, ◌+◌, ◌*◌, ◌^◌, ◌<◌, ◌≤◌, List, [], ◌∷◌, ◌++◌, length, map, Ordering, Less, Equal, Greater, nat_cmp, refl, sym, ap, ap₂, ◌∙◌, arith}
-use Rattle.std.specs.Ordering.{ordering_then}
-use Rattle.std.specs.Cmp.Lexicographic.{slice_cmp}
-use Rattle.std.proofs.lemmas.Bool.Decides.{nat_tests}
-use Rattle.mapf_tree.specs.declared.tree.side.Side.{Side}
-use Rattle.mapf_tree.specs.declared.tree.side.Side.TheVariants.{Left, Right}
-use Rattle.mapf_tree.specs.Names.{turn, number_of, turns_of, IsKept}
+use Rattle.mapf_tree.specs.Prelude.{ordering_then, slice_cmp, Side, Left, Right, turn, number_of, turns_of, IsKept}
+use Rattle.mapf_tree.proofs.Prelude.{nat_tests}
 use Rattle.mapf_tree.proofs.Keyed.{cmp_less, cmp_greater}
 use Rattle.mapf_tree.proofs.NameTurns.{number_below, length_turns}
 

@@ -2,10 +2,8 @@
 use Rattle.std.proofs.Common.{◌≡◌, ◌⊎◌, ℕ, zero, suc, ◌+◌, ◌-◌, ◌*◌, ◌^◌, ◌<◌, ◌≤◌, nat_lt, List, [], ◌∷◌, ◌++◌, length, inl, inr, refl, sym, ap, ap₂, ◌∙◌, arith, subst, append_assoc, append-nil, length-append}
 use Rattle.std.proofs.Math.Nat.{pow-suc}
 use Rattle.std.proofs.lemmas.Nat.{pow_pos}
-use Rattle.std.proofs.lemmas.Bool.{cases_lt, cond-true, cond-false, lt-ltb, le-ltb}
-use Rattle.mapf_tree.specs.declared.tree.side.Side.{Side}
-use Rattle.mapf_tree.specs.declared.tree.side.Side.TheVariants.{Left, Right}
-use Rattle.mapf_tree.specs.Names.{turn, number_of, turns_of, IsKept}
+use Rattle.mapf_tree.proofs.Prelude.{cases_lt, cond-true, cond-false, lt-ltb, le-ltb}
+use Rattle.mapf_tree.specs.Prelude.{Side, Left, Right, turn, number_of, turns_of, IsKept}
 
 -- the first turn of a number is that of its highest bit
 pub read_left : (few bits n : ℕ) → n < 2 ^ bits → turns_of (suc few) (suc bits) n ≡ Left ∷ turns_of few bits n

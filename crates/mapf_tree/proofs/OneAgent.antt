@@ -1,15 +1,8 @@
 -- The answer for one agent.
 use Rattle.std.proofs.Common.{◌≡◌, ℕ, zero, suc, ◌<◌, List, [], ◌∷◌, length, subst, sym, refl, ◌∙◌, arith, Some, None}
-use Rattle.std.proofs.lemmas.List.Sums.{sum_by-cons}
-use Rattle.mapf_grid.specs.Least.{Precedes}
-use Rattle.mapf_grid.proofs.Ranks.{irreflexive}
-use Rattle.mapf_plan.specs.Path.{cost}
+use Rattle.mapf_tree.proofs.Prelude.{sum_by-cons, irreflexive}
+use Rattle.mapf_tree.specs.Prelude.{Precedes, cost, Rule, HasNoConflict, path_of, Problem, IsAllowedFor, IsOwnPathOf, TreeNode, HasPlan, InTree, root, side, root_of, constraints_of, key, IsSolution, IsAnswer, OneAgentsAnswer}
 use Rattle.mapf_plan.specs.declared.conflict.Conflict.TheVariants.{Vertex, Swapping, Following}
-use Rattle.mapf_plan.specs.declared.rule.Rule.{Rule}
-use Rattle.mapf_plan.specs.Plan.{HasNoConflict, path_of}
-use Rattle.mapf_tree.specs.Problem.{Problem}
-use Rattle.mapf_tree.specs.Tree.{IsAllowedFor, IsOwnPathOf, TreeNode, HasPlan, InTree, root, side, root_of, constraints_of, key, IsSolution, IsAnswer}
-use Rattle.mapf_tree.specs.Laws.{OneAgentsAnswer}
 use Rattle.mapf_tree.proofs.Plans.{same_plan}
 use Rattle.mapf_tree.proofs.RootNodes.{free_at_root}
 

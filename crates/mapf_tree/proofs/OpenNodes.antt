@@ -1,22 +1,7 @@
 -- Which nodes of the tree a list of nodes stands for, when a node is taken out or put in.
 use Rattle.std.proofs.Common.{◌≡◌, ◌≢◌, ◌⊎◌, ◌↔◌, ℕ, List, ◌∷◌, length, map, Option, Some, None, inl, inr, subst, sym, refl, ap, ap₂, ◌∙◌, ⊎_elim, Contains}
-use Rattle.std.proofs.lemmas.List.Elements.{All-contains, All-from_recursion}
-use Rattle.mapf_grid.specs.Least.{Precedes, IsLeast}
-use Rattle.mapf_grid.proofs.Members.{here, there, here_or_there}
-use Rattle.mapf_grid.proofs.Ranks.{irreflexive, asymmetric}
-use Rattle.mapf_plan.specs.declared.conflict.Conflict.{Conflict}
-use Rattle.mapf_plan.specs.Plan.{plan_cost, HasNoConflict, IsFirstConflict}
-use Rattle.mapf_plan.proofs.Conflicts.{same_first}
-use Rattle.mapf_tree.specs.declared.tree.side.Side.{Side}
-use Rattle.mapf_tree.specs.declared.tree.side.Side.TheVariants.{Left, Right}
-use Rattle.mapf_tree.specs.Problem.{Problem}
-use Rattle.mapf_tree.specs.Names.{turn}
-use Rattle.mapf_tree.specs.Tree.{TreeNode, HasPlan, root_of, side_of, key, PlannedNode, IsMember}
-use Rattle.mapf_tree.specs.Search.{IsChild}
-use Rattle.mapf_tree.specs.Nodes.{Node, node_key, StandsFor, IsConflictOf, AllStand, HasNodeFor}
-use Rattle.mapf_tree.specs.Family.{IsRoot, IsSide}
-use Rattle.mapf_tree.specs.OpenList.{IsRising, IsPut, IsAddedIfSome}
-use Rattle.mapf_tree.specs.Steps.{ExpandsLeast}
+use Rattle.mapf_tree.proofs.Prelude.{All-contains, All-from_recursion, here, there, here_or_there, irreflexive, asymmetric, same_first}
+use Rattle.mapf_tree.specs.Prelude.{Precedes, IsLeast, Conflict, plan_cost, HasNoConflict, IsFirstConflict, Side, Left, Right, Problem, turn, TreeNode, HasPlan, root_of, side_of, key, PlannedNode, IsMember, IsChild, Node, node_key, StandsFor, IsConflictOf, AllStand, HasNodeFor, IsRoot, IsSide, IsRising, IsPut, IsAddedIfSome, ExpandsLeast}
 use Rattle.mapf_tree.proofs.Plans.{same_plan}
 use Rattle.mapf_tree.proofs.Unique.{same_member}
 

@@ -1,28 +1,10 @@
 -- What a path cache remembers.
 use Rattle.std.proofs.Common.{◌≡◌, ◌⊎◌, ℕ, zero, suc, ◌+◌, ◌<◌, ◌≤◌, List, [], ◌∷◌, ◌++◌, length, get_or, set, replicate, Option, Some, None, IsSome, subst, subst₂, sym, refl, ap, ◌∙◌, inl, inr, ⊎_elim, arith, get_or-set_same, get_or-set_other}
-use Rattle.std.specs.Prelude.{slice_get, slice_index, option_map}
 use Rattle.std.proofs.lemmas.List.{length-set, length_push, length-append, length-replicate, get_or-replicate, get_or_append_left, get_or_push}
-use Rattle.std.proofs.lemmas.List.Sums.{get_or-le-sum_by}
-use Rattle.std.proofs.lemmas.Option.{get_or_from_slice_get, slice_get_within, slice_get-get_or, IfSome_then}
-use borrow.Author.Count.{below_more}
-use Rattle.mapf_grid.proofs.Lists.{set_cases}
-use Rattle.mapf_plan.specs.Path.{cost}
-use Rattle.mapf_plan.specs.Plan.{path_of, plan_cost}
-use Rattle.mapf_plan.specs.declared.conflict.Conflict.{Conflict}
-use Rattle.mapf_low.specs.declared.constraint.Constraint.{Constraint}
-use Rattle.mapf_low.proofs.OwnPaths.{own_path_costs, same_own}
-use Rattle.mapf_low.proofs.Sets.{own_set}
-use Rattle.mapf_tree.specs.declared.tree.side.Side.{Side}
+use Rattle.mapf_tree.proofs.Prelude.{get_or-le-sum_by, get_or_from_slice_get, slice_get_within, slice_get-get_or, IfSome_then, below_more, set_cases, own_path_costs, same_own, own_set}
+use Rattle.mapf_tree.specs.Prelude.{slice_get, slice_index, option_map, cost, path_of, plan_cost, Conflict, Constraint, Side, Path, NoneWithin, ConstraintSet, Problem, Changed, Node, IsSameSet, IsConflictOf, IsBranching, IsChildOf, IsOwnWithin, Leaves, SideQuery, IsQueryOf, IsFoundBy, IsAllowedFor, IsOwnPathOf, agent_on, constraint_on, constraints_of, PathCache, HasSet, IsExtension, AreExtensions, IsExtended, AreKnown, IsCachedPath, IsOwnIn, IsNumberOf, IsAskedAt, IsTurnAt, HasNoTurnAt, GivesOwn, HasPath, AreFirst, AreFirstPaths, AreSetsOf}
 use Rattle.mapf_tree.specs.declared.own_paths.constraint_sets.Extension.{Extension}
 use Rattle.mapf_tree.specs.declared.own_paths.constraint_sets.CachedPath.{CachedPath}
-use Rattle.mapf_tree.specs.declared.own_paths.constraint_sets.CachedPath.TheVariants.{Path, NoneWithin}
-use Rattle.mapf_tree.specs.declared.own_paths.constraint_sets.ConstraintSet.{ConstraintSet}
-use Rattle.mapf_tree.specs.Problem.{Problem}
-use Rattle.mapf_tree.specs.Nodes.{Changed, Node, IsSameSet, IsConflictOf}
-use Rattle.mapf_tree.specs.Family.{IsBranching, IsChildOf, IsOwnWithin, Leaves}
-use Rattle.mapf_tree.specs.SideQuery.{SideQuery, IsQueryOf, IsFoundBy}
-use Rattle.mapf_tree.specs.Tree.{IsAllowedFor, IsOwnPathOf, agent_on, constraint_on, constraints_of}
-use Rattle.mapf_tree.specs.PathCache.{PathCache, HasSet, IsExtension, AreExtensions, IsExtended, AreKnown, IsCachedPath, IsOwnIn, IsNumberOf, IsAskedAt, IsTurnAt, HasNoTurnAt, GivesOwn, HasPath, AreFirst, AreFirstPaths, AreSetsOf}
 use Rattle.mapf_tree.proofs.ConstraintSets.{with_same, IsWith, IsWith-cons}
 use Rattle.mapf_tree.proofs.SideNodes.{own_within_lower, within_bound, agent_inside}
 use Rattle.mapf_tree.proofs.Queries.{is_child, no_child}

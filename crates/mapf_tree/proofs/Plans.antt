@@ -1,13 +1,8 @@
 -- The plan of a node: there is one at most, and whether there is one can be decided.
 use Rattle.std.proofs.Common.{◌≡◌, ◌⊎◌, ℕ, ◌<◌, ◌≤◌, List, [], length, get_or, inl, inr, subst, sym, ap, ◌∙◌, ext_get_or, ⊎_elim, arith}
 use native.Mathlib.Decide.{dec_le}
-use Rattle.mapf_grid.proofs.Decide.{dec_map}
-use Rattle.mapf_grid.proofs.Lists.{build_or}
-use Rattle.mapf_plan.specs.Path.{cost}
-use Rattle.mapf_plan.specs.Plan.{path_of, plan_cost}
-use Rattle.mapf_low.proofs.OwnPaths.{own_path, same_own}
-use Rattle.mapf_tree.specs.Problem.{Problem}
-use Rattle.mapf_tree.specs.Tree.{IsAllowedFor, IsOwnPathOf, TreeNode, HasPlan, constraints_of}
+use Rattle.mapf_tree.proofs.Prelude.{dec_map, build_or, own_path, same_own}
+use Rattle.mapf_tree.specs.Prelude.{cost, path_of, plan_cost, Problem, IsAllowedFor, IsOwnPathOf, TreeNode, HasPlan, constraints_of}
 
 -- a path that agent i may take under a node
 abbrev pub AllowedAt : Problem → TreeNode → ℕ → List ℕ → Type 0

@@ -1,11 +1,6 @@
 -- From the own path that a side's query asks for to the child on that side.
 use Rattle.std.proofs.Common.{◌≡◌, [], ◌∷◌, ◌++◌, ℕ, get_or, set, Option, Some, None, option_map, IsSome, refl, subst, subst₂, sym, ◌∙◌, arith}
-use Rattle.mapf_plan.specs.declared.conflict.Conflict.{Conflict}
-use Rattle.mapf_tree.specs.Nodes.{Changed, Node, IsConflictOf}
-use Rattle.mapf_plan.specs.Plan.{path_of}
-use Rattle.mapf_tree.specs.Tree.{agent_on, constraint_on}
-use Rattle.mapf_tree.specs.Family.{IsBranching, IsChildOf, IsOwnWithin}
-use Rattle.mapf_tree.specs.SideQuery.{SideQuery, IsQueryOf, IsFoundBy}
+use Rattle.mapf_tree.specs.Prelude.{Conflict, Changed, Node, IsConflictOf, path_of, agent_on, constraint_on, IsBranching, IsChildOf, IsOwnWithin, SideQuery, IsQueryOf, IsFoundBy}
 use Rattle.mapf_tree.proofs.SideNodes.{IsSought, no_side, side_stands, own_of_side}
 
 -- what is searched for a query, by the conflict's side

@@ -1,17 +1,9 @@
 -- Nodes in strict order by key, and a list of them with one node put in.
 use Rattle.std.proofs.Common.{◌≡◌, ℕ, List, [], ◌∷◌, Less, Equal, Greater, Ordering, nat_cmp, inl, inr, refl, subst, sym, ap, ◌∙◌, ⊎_elim, Contains}
 use Rattle.std.specs.BTreeSet.{insert_key}
-use Rattle.std.specs.Cmp.{IsTotalOrder, nat_cmp_total, tied_itself}
-use Rattle.std.specs.Cmp.Lexicographic.{slice_cmp, lists_total}
-use Rattle.std.specs.List.{AllByRecursion}
+use Rattle.mapf_tree.specs.Prelude.{IsTotalOrder, nat_cmp_total, tied_itself, slice_cmp, lists_total, AllByRecursion, ordering_reverse, match_ordering, Precedes, Node, node_key, by_key, IsRising, IsPut}
 use Rattle.std.specs.List.Sorted.{IsStrictlySortedBy}
-use Rattle.std.specs.Ordering.{ordering_reverse, match_ordering}
-use Rattle.std.proofs.lemmas.List.Elements.{All-contains, All-from_recursion}
-use Rattle.mapf_grid.specs.Least.{Precedes}
-use Rattle.mapf_grid.proofs.Members.{nowhere, here, there, here_or_there}
-use Rattle.mapf_grid.proofs.Ranks.{by_compare, before_is_other, transitive}
-use Rattle.mapf_tree.specs.Nodes.{Node, node_key, by_key}
-use Rattle.mapf_tree.specs.OpenList.{IsRising, IsPut}
+use Rattle.mapf_tree.proofs.Prelude.{All-contains, All-from_recursion, nowhere, here, there, here_or_there, by_compare, before_is_other, transitive}
 use Rattle.mapf_tree.proofs.Keyed.{Precedes-slice_cmp}
 
 -- ranks are in a total order

@@ -1,13 +1,7 @@
 -- From the own paths of all agents to the root of the tree.
 use Rattle.std.proofs.Common.{◌≡◌, ◌↔◌, ℕ, ◌<◌, ◌≤◌, ◌+◌, List, [], ◌∷◌, ◌++◌, length, get_or, replicate, Some, None, subst, sym, ap, ◌∙◌, arith, Contains}
-use Rattle.std.proofs.lemmas.List.{get_or-replicate, length-replicate, length_push, get_or_append_left, get_or_push}
-use borrow.Author.Count.{below_more}
-use Rattle.mapf_plan.specs.Plan.{path_of, plan_cost}
-use Rattle.mapf_low.specs.declared.constraint.Constraint.{Constraint}
-use Rattle.mapf_tree.specs.Problem.{Problem}
-use Rattle.mapf_tree.specs.Tree.{IsOwnPathOf, HasPlan, root, root_of, constraints_of}
-use Rattle.mapf_tree.specs.Nodes.{AreChanges, unchanged, Node, IsConflictOf}
-use Rattle.mapf_tree.specs.Family.{IsRoot, IsOwn, AreRootPaths}
+use Rattle.mapf_tree.proofs.Prelude.{get_or-replicate, length-replicate, length_push, get_or_append_left, get_or_push, below_more}
+use Rattle.mapf_tree.specs.Prelude.{path_of, plan_cost, Constraint, Problem, IsOwnPathOf, HasPlan, root, root_of, constraints_of, AreChanges, unchanged, Node, IsConflictOf, IsRoot, IsOwn, AreRootPaths}
 use Rattle.mapf_tree.proofs.Plans.{OwnAt, dear_plan}
 
 -- no agent has a constraint at the root

@@ -1,21 +1,8 @@
 -- The steps of a search.
 use Rattle.std.proofs.Common.{◌≡◌, ◌≢◌, ◌⊎◌, ◌↔◌, ℕ, zero, suc, ◌<◌, ◌≤◌, List, [], ◌∷◌, length, get_or, set, Option, Some, None, inl, inr, subst, sym, refl, ap, ◌∙◌, ⊎_elim, arith, length-append, Contains}
-use Rattle.std.proofs.lemmas.Bool.{cases_lt}
-use Rattle.mapf_grid.specs.Least.{Precedes, IsLeast}
-use Rattle.mapf_grid.proofs.Ranks.{by_compare, irreflexive, transitive, dec_precedes, le_before}
-use Rattle.mapf_grid.proofs.Decide.{by_cases, dec_not}
+use Rattle.mapf_tree.proofs.Prelude.{cases_lt, by_compare, irreflexive, transitive, dec_precedes, le_before, by_cases, dec_not, own_path_costs}
+use Rattle.mapf_tree.specs.Prelude.{Precedes, IsLeast, cost, Conflict, HasNoConflict, path_of, plan_cost, Constraint, Obeys, Problem, Side, TreeNode, HasPlan, InTree, root, side, side_of, constraint_on, agent_on, root_of, key, IsFirstSolution, IsAnswer, PlannedNode, IsMember, IsReached, IsChild, IsWaiting, IsSearchAt, Expands, TakesNext, EndsAtAnswer, SearchStarts}
 use Rattle.mapf_grid.proofs.Lists.{sum_by-le}
-use Rattle.mapf_plan.specs.Path.{cost}
-use Rattle.mapf_plan.specs.declared.conflict.Conflict.{Conflict}
-use Rattle.mapf_plan.specs.Plan.{HasNoConflict, path_of, plan_cost}
-use Rattle.mapf_low.specs.declared.constraint.Constraint.{Constraint}
-use Rattle.mapf_low.specs.Constraints.{Obeys}
-use Rattle.mapf_low.proofs.OwnPaths.{own_path_costs}
-use Rattle.mapf_tree.specs.Problem.{Problem}
-use Rattle.mapf_tree.specs.declared.tree.side.Side.{Side}
-use Rattle.mapf_tree.specs.Tree.{TreeNode, HasPlan, InTree, root, side, side_of, constraint_on, agent_on, root_of, key, IsFirstSolution, IsAnswer, PlannedNode, IsMember}
-use Rattle.mapf_tree.specs.Search.{IsReached, IsChild, IsWaiting}
-use Rattle.mapf_tree.specs.Steps.{IsSearchAt, Expands, TakesNext, EndsAtAnswer, SearchStarts}
 use Rattle.mapf_tree.proofs.Plans.{AllowedAt}
 use Rattle.mapf_tree.proofs.Unique.{same_member}
 

@@ -1,23 +1,9 @@
 -- From a search for the agent of one side of a node's conflict to that side of the tree.
 use Rattle.std.proofs.Common.{◌≡◌, ℕ, ◌+◌, ◌<◌, ◌≤◌, List, [], ◌∷◌, ◌++◌, length, get_or, set, Option, Some, None, option_map, subst, subst₂, sym, ap, ◌∙◌, ⊎_elim, arith, get_or-set_same, get_or-set_other}
 use Rattle.std.proofs.lemmas.List.{length-set}
-use Rattle.std.proofs.lemmas.List.Sums.{sum_by-set, get_or-le-sum_by}
-use Rattle.mapf_grid.specs.Grid.{Grid}
-use Rattle.mapf_plan.specs.declared.conflict.Conflict.{Conflict}
-use Rattle.mapf_plan.specs.Path.{cost}
-use Rattle.mapf_plan.specs.Plan.{IsFirstConflict, path_of, plan_cost}
-use Rattle.mapf_low.specs.declared.constraint.Constraint.{Constraint}
-use Rattle.mapf_low.specs.OwnPath.{IsOwnPath}
+use Rattle.mapf_tree.proofs.Prelude.{sum_by-set, get_or-le-sum_by, own_path, own_set, none_set, set_cases}
+use Rattle.mapf_tree.specs.Prelude.{Grid, Conflict, cost, IsFirstConflict, path_of, plan_cost, Constraint, IsOwnPath, Side, Problem, IsOwnPathOf, TreeNode, HasPlan, side, side_of, agent_on, constraint_on, constraints_of, PlannedNode, AreChanges, turned, Node, StandsFor, IsConflictOf, IsSameSet, IsSide, IsOwn, IsOwnWithin, Leaves, NoneIsDearer}
 use Rattle.mapf_low.proofs.HigherBounds.{own_by_bound}
-use Rattle.mapf_low.proofs.OwnPaths.{own_path}
-use Rattle.mapf_low.proofs.Sets.{own_set, none_set}
-use Rattle.mapf_tree.specs.declared.tree.side.Side.{Side}
-use Rattle.mapf_tree.specs.Problem.{Problem}
-use Rattle.mapf_tree.specs.Tree.{IsOwnPathOf, TreeNode, HasPlan, side, side_of, agent_on, constraint_on, constraints_of, PlannedNode}
-use Rattle.mapf_tree.specs.Nodes.{AreChanges, turned, Node, StandsFor, IsConflictOf, IsSameSet}
-use Rattle.mapf_tree.specs.Family.{IsSide, IsOwn, IsOwnWithin, Leaves}
-use Rattle.mapf_tree.specs.Laws.{NoneIsDearer}
-use Rattle.mapf_grid.proofs.Lists.{set_cases}
 use Rattle.mapf_tree.proofs.Branch.{agent_below}
 use Rattle.mapf_tree.proofs.Measure.{grown_all}
 use Rattle.mapf_tree.proofs.ConstraintSets.{IsWith, with_front, IsWith-cons}

@@ -1,10 +1,7 @@
 -- The tree's nodes are a list, so it has a least solution or none.
 use Rattle.std.proofs.Common.{Some, None, ⊎_elim}
-use Rattle.mapf_grid.proofs.Ranks.{least_by}
-use Rattle.mapf_plan.proofs.Conflicts.{first_conflict}
-use Rattle.mapf_tree.specs.Problem.{Problem}
-use Rattle.mapf_tree.specs.Tree.{key, IsSolution, PlannedNode, IsMember}
-use Rattle.mapf_tree.specs.Laws.{AnswerExists}
+use Rattle.mapf_tree.proofs.Prelude.{least_by, first_conflict}
+use Rattle.mapf_tree.specs.Prelude.{Problem, key, IsSolution, PlannedNode, IsMember, AnswerExists}
 use Rattle.mapf_tree.proofs.Finite.{members}
 
 -- whether a node of the tree is a solution

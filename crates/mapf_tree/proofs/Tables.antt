@@ -1,8 +1,7 @@
 -- Each agent's table of distances.
 use Rattle.std.proofs.Common.{◌≡◌, ℕ, ◌<◌, List, [], length, get_or, slice_index, Option, subst, sym, ◌∙◌, arith}
-use Rattle.std.proofs.lemmas.List.{get_or_default}
-use Rattle.mapf_low.specs.Walk.{AreDistances}
-use Rattle.mapf_tree.specs.Problem.{Problem, IsReady}
+use Rattle.mapf_tree.proofs.Prelude.{get_or_default}
+use Rattle.mapf_tree.specs.Prelude.{AreDistances, Problem, IsReady}
 
 -- the table at an agent's place has the distances of the agent's goal
 pub table_at : (problem : Problem) (tables : List (List (Option ℕ))) → IsReady problem tables → (i : ℕ) → i < length problem.inst.starts →

@@ -1,8 +1,7 @@
 -- How many nodes a search can take.
 use Rattle.std.proofs.Common.{List, [], ◌∷◌, length}
-use Rattle.std.proofs.lemmas.List.Elements.{All-from_recursion, All-contains}
-use Rattle.mapf_tree.specs.Tree.{PlannedNode, IsMember, EachOnce}
-use Rattle.mapf_tree.specs.Steps.{TakenAreBounded}
+use Rattle.mapf_tree.proofs.Prelude.{All-from_recursion, All-contains}
+use Rattle.mapf_tree.specs.Prelude.{PlannedNode, IsMember, EachOnce, TakenAreBounded}
 use Rattle.mapf_tree.proofs.Distinct.{Distinct, distinct_le}
 use Rattle.mapf_tree.proofs.Finite.{members}
 

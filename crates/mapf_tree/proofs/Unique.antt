@@ -1,15 +1,7 @@
 -- Pairs of the tree are determined by their names, and the answer by the instance.
 use Rattle.std.proofs.Common.{◌≡◌, List, [], ◌∷◌, map, length, Some, None, subst, refl, ap, ap₂, ◌∙◌, arith, length-append}
-use Rattle.std.proofs.lemmas.List.{same_from_push}
-use Rattle.mapf_grid.proofs.Ranks.{same_rank}
-use Rattle.mapf_plan.specs.Plan.{IsFirstConflict}
-use Rattle.mapf_plan.proofs.Conflicts.{same_first}
-use Rattle.mapf_tree.specs.Problem.{Problem}
-use Rattle.mapf_tree.specs.declared.tree.side.Side.{Side}
-use Rattle.mapf_tree.specs.declared.tree.side.Side.TheVariants.{Left, Right}
-use Rattle.mapf_tree.specs.Names.{turn}
-use Rattle.mapf_tree.specs.Tree.{TreeNode, HasPlan, InTree, root, side, side_of, key, IsSolution, PlannedNode, IsMember}
-use Rattle.mapf_tree.specs.Laws.{AnswerIsUnique}
+use Rattle.mapf_tree.proofs.Prelude.{same_from_push, same_rank, same_first}
+use Rattle.mapf_tree.specs.Prelude.{IsFirstConflict, Problem, Side, Left, Right, turn, TreeNode, HasPlan, InTree, root, side, side_of, key, IsSolution, PlannedNode, IsMember, AnswerIsUnique}
 use Rattle.mapf_tree.proofs.Plans.{same_plan}
 
 -- two nodes of the tree with one name are one

@@ -1,15 +1,9 @@
 -- The constraints that a tree can have are so many at most.
 use Rattle.std.proofs.Common.{◌≡◌, ◌≢◌, ℕ, zero, suc, ◌≤◌, ◌+◌, ◌*◌, List, [], ◌∷◌, ◌++◌, map, length, true, refl, ap, ap₂, ◌∙◌, arith, length-append, Contains}
-use Rattle.std.specs.List.{flat_map}
-use Rattle.std.proofs.lemmas.List.{length-map}
-use Rattle.std.proofs.lemmas.List.Elements.{Contains-append_left, Contains-append_right}
-use Rattle.std.proofs.lemmas.Option.{slice_get_within}
-use Rattle.mapf_grid.specs.Grid.{Grid, IsFree, Next}
-use Rattle.mapf_grid.proofs.Lists.{below, Contains-below, Contains-map, Contains-flat_map}
-use Rattle.mapf_low.specs.declared.constraint.Constraint.{Constraint}
+use Rattle.mapf_tree.specs.Prelude.{flat_map, Grid, IsFree, Next, Constraint, HoldsGrid}
+use Rattle.mapf_tree.proofs.Prelude.{length-map, Contains-append_left, Contains-append_right, slice_get_within, below, Contains-below, Contains-map, Contains-flat_map}
 use Rattle.mapf_low.specs.declared.constraint.Constraint.TheVariants.{Vertex, Edge}
 use Rattle.mapf_low.specs.Times.{time_of}
-use Rattle.mapf_tree.specs.Laws.{HoldsGrid}
 
 -- every constraint on these cells and edges at times up to b
 at_time : List ℕ → List (ℕ × ℕ) → ℕ → List Constraint

@@ -1,3 +1,4 @@
+pub mod Prelude
 pub mod Problem
 pub mod Names
 pub mod Tree

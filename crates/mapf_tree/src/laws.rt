@@ -1,8 +1,7 @@
 //! What holds of the constraint tree, its answer and a search in it: functions that do nothing,
 //! each with one law as its contract.
 
-ghost use Rattle.mapf_tree.specs.Laws.{OneAgentsAnswer, ObeysOneSide, ConstraintIsNew, ConstraintIsEarly, LeaderAtStart, ObeyedIsInCost, NoneIsDearer, DepthIsBounded, TreeIsFinite, AnswerExists, AnswerIsUnique, StatedIsUnique, AnswerIsOptimum, NoneIsNone};
-ghost use Rattle.mapf_tree.specs.Steps.{SearchStarts, TakesNext, EndsAtAnswer, TakenAreBounded};
+ghost use Rattle.mapf_tree.specs.Prelude.{OneAgentsAnswer, ObeysOneSide, ConstraintIsNew, ConstraintIsEarly, LeaderAtStart, ObeyedIsInCost, NoneIsDearer, DepthIsBounded, TreeIsFinite, AnswerExists, AnswerIsUnique, StatedIsUnique, AnswerIsOptimum, NoneIsNone, SearchStarts, TakesNext, EndsAtAnswer, TakenAreBounded};
 
 /// For one agent the answer is its own path, and none where it may take no path.
 #[tactic(auto, using(crate::proofs::OneAgent::one_agents_answer))]

@@ -1,6 +1,6 @@
 ghost use Rattle.std.specs.Prelude.{◌≡◌, ◌↔◌, [], length, take, OnOk, IfErr, IsTrue};
 ghost use Rattle.std.specs.Iterator.{at_most};
-ghost use Rattle.mapf_tree.specs.OpenList.{IsTaken, GivesFirst};
+ghost use Rattle.mapf_tree.specs.Prelude.{IsTaken, GivesFirst};
 
 use crate::Node;
 use std::alloc::Global;
@@ -15,8 +15,7 @@ pub struct OpenList {
 
 impl Model for OpenList {
     ghost use Rattle.std.specs.Prelude.{List};
-    ghost use Rattle.mapf_tree.specs.Nodes.{Node};
-    ghost use Rattle.mapf_tree.specs.OpenList.{IsRising};
+    ghost use Rattle.mapf_tree.specs.Prelude.{Node, IsRising};
 
     ghost Value = { List Node };
 
@@ -26,7 +25,7 @@ impl Model for OpenList {
 }
 
 impl OpenList {
-    ghost use Rattle.mapf_tree.specs.OpenList.{IsRising, IsPut};
+    ghost use Rattle.mapf_tree.specs.Prelude.{IsRising, IsPut};
 
     /// No node waits.
     pub fn new(alloc: Global) -> OpenList
@@ -88,7 +87,7 @@ pub struct First<'a> {
 
 impl<'a> Model for First<'a> {
     ghost use Rattle.std.specs.Prelude.{List, take};
-    ghost use Rattle.mapf_tree.specs.Nodes.{Node};
+    ghost use Rattle.mapf_tree.specs.Prelude.{Node};
 
     ghost Value = { List Node };
 

@@ -1,11 +1,7 @@
 //! Own paths that were searched before.
 
 ghost use Rattle.std.specs.Prelude.{◌≡◌, ℕ, ◌<◌, length, IfOk, IfSome, option_map};
-ghost use Rattle.std.specs.Arc.{arc_value};
-ghost use Rattle.mapf_tree.specs.Problem.{Problem};
-ghost use Rattle.mapf_tree.specs.Family.{IsBranching, IsChildOf};
-ghost use Rattle.mapf_low.specs.Lookup.{IfKnown};
-ghost use Rattle.mapf_tree.specs.SideQuery.{AreFromStart, IsFoundBy, IsQueryOf};
+ghost use Rattle.mapf_tree.specs.Prelude.{arc_value, Problem, IsBranching, IsChildOf, IfKnown, AreFromStart, IsFoundBy, IsQueryOf};
 
 mod constraint_sets;
 mod path_cache;
@@ -45,9 +41,7 @@ impl<'p> Drop for OwnPaths<'p> {
 
 impl<'p> Model for OwnPaths<'p> {
     ghost use Rattle.std.specs.Prelude.{◌≡◌, map, option_map};
-    ghost use Rattle.std.specs.Arc.{arc_value};
-    ghost use Rattle.mapf_tree.specs.Problem.{Problem};
-    ghost use Rattle.mapf_tree.specs.SideQuery.{AreTables};
+    ghost use Rattle.mapf_tree.specs.Prelude.{arc_value, Problem, AreTables};
 
     ghost Value = { Problem };
 

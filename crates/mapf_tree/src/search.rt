@@ -1,7 +1,6 @@
 ghost use Rattle.std.specs.Prelude.{◌≡◌, ◌<◌, ◌≤◌, ℕ, Ok, Err, Some, None, IfOk, OnErr, IsErr, IsSome};
 ghost use Rattle.std.specs.Option.{option_copied, option_map};
-ghost use Rattle.mapf_plan.specs.declared.answer.Answer.{Answer};
-ghost use Rattle.mapf_tree.specs.Tree.{key_rank};
+ghost use Rattle.mapf_tree.specs.Prelude.{Answer, key_rank};
 
 mod children;
 mod expansion;
@@ -43,8 +42,7 @@ impl<'p> Drop for Search<'p> {
 
 impl<'p> Model for Search<'p> {
     ghost use Rattle.std.specs.Option.{option_map};
-    ghost use Rattle.mapf_tree.specs.Tree.{key_rank};
-    ghost use Rattle.mapf_tree.specs.Search.{Searched, IsLawful, IsCounted};
+    ghost use Rattle.mapf_tree.specs.Prelude.{key_rank, Searched, IsLawful, IsCounted};
 
     ghost Value = { Searched };
 
@@ -60,11 +58,7 @@ impl<'p> Model for Search<'p> {
 }
 
 impl<'p> Search<'p> {
-    ghost use Rattle.mapf_tree.specs.Problem.{Problem};
-    ghost use Rattle.mapf_tree.specs.Family.{IsRoot};
-    ghost use Rattle.mapf_tree.specs.Answered.{IsAnswerOf, IsBestAnswer};
-    ghost use Rattle.mapf_tree.specs.Search.{IsSearch, IsEnded, TakesBetween, answer_of};
-    ghost use Rattle.mapf_tree.specs.Steps.{IsStep};
+    ghost use Rattle.mapf_tree.specs.Prelude.{Problem, IsRoot, IsAnswerOf, IsBestAnswer, IsSearch, IsEnded, TakesBetween, answer_of, IsStep};
 
     /// A search that has taken no node yet.
     pub fn new(alloc: Global, problem: &'p Problem) -> Result<Search<'p>, NoMemory>

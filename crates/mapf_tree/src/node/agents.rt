@@ -1,9 +1,7 @@
 //! What the agents have at a node: their paths, and what they are forbidden.
 
 ghost use Rattle.std.specs.Prelude.{◌≡◌, ◌↔◌, ◌<◌, ◌≤◌, [], length, slice_index_or, IfOk, IfSome, Contains};
-ghost use Rattle.std.specs.Arc.{arc_value};
-ghost use Rattle.mapf_grid.specs.declared.instance.TheConstants.{MOST_AGENTS};
-ghost use Rattle.mapf_plan.specs.Plan.{path_of};
+ghost use Rattle.mapf_tree.specs.Prelude.{arc_value, MOST_AGENTS, path_of};
 
 use crate::Node;
 use crate::node::current_paths::CurrentPaths;

@@ -14,7 +14,7 @@ pub struct CurrentPaths<'a> {
 
 impl<'a> Model for CurrentPaths<'a> {
     ghost use Rattle.std.specs.Prelude.{ℕ, List, ◌<◌, ◌≤◌, length, map};
-    ghost use Rattle.mapf_grid.specs.declared.instance.TheConstants.{MOST_AGENTS};
+    ghost use Rattle.mapf_tree.specs.Prelude.{MOST_AGENTS};
 
     ghost Value = { List (List ℕ) };
 

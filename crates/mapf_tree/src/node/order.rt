@@ -1,10 +1,8 @@
 //! The order of nodes: that of their keys.
 
-ghost use Rattle.std.specs.Cmp.{eq_by_cmp_equiv, partial_equiv_from_equiv, partial_order_from_total};
-ghost use Rattle.std.specs.Ordering.{eq_by_cmp, as_partial_cmp};
+ghost use Rattle.mapf_tree.specs.Prelude.{eq_by_cmp_equiv, partial_equiv_from_equiv, partial_order_from_total, eq_by_cmp, as_partial_cmp, by_key, by_key_total};
 ghost use Rattle.std.proofs.Common.{rules};
 ghost use Rattle.std.specs.Cmp.Rules.{comparing};
-ghost use Rattle.mapf_tree.specs.Nodes.{by_key, by_key_total};
 
 use crate::Node;
 use std::cmp::Ordering;

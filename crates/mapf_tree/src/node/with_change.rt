@@ -1,10 +1,7 @@
 //! A node with one change more.
 
 ghost use Rattle.std.specs.Prelude.{◌≡◌, ◌+◌, ◌<◌, ◌≤◌, [], ◌∷◌, ◌++◌, length, slice_set, slice_index_or, IfOk, IsSome};
-ghost use Rattle.mapf_plan.specs.Path.{cost};
-ghost use Rattle.mapf_plan.specs.Plan.{path_of, plan_cost};
-ghost use Rattle.mapf_plan.specs.declared.answer.TheConstants.{MOST_BOUND};
-ghost use Rattle.mapf_tree.specs.Nodes.{IsConflictOf};
+ghost use Rattle.mapf_tree.specs.Prelude.{cost, path_of, plan_cost, MOST_BOUND, IsConflictOf};
 
 use crate::node::Body;
 use crate::node::change::Change;

@@ -1,8 +1,7 @@
 //! The sets of constraints that agents have met, by number.
 
 ghost use Rattle.std.specs.Prelude.{◌≡◌, [], ◌∷◌, ◌++◌, length, slice_get, Some, option_map, IfSome, IfOk, IfErr};
-ghost use Rattle.mapf_low.specs.Kept.{HasTwoEnds};
-ghost use Rattle.mapf_tree.specs.PathCache.{HasSet, IsExtension, Extends, GivesOwn};
+ghost use Rattle.mapf_tree.specs.Prelude.{HasTwoEnds, HasSet, IsExtension, Extends, GivesOwn};
 
 use crate::node::change::Change;
 use mapf_grid::NoMemory;
@@ -57,8 +56,7 @@ pub(crate) struct ConstraintSets {
 
 impl Model for ConstraintSets {
     ghost use Rattle.std.specs.Prelude.{List};
-    ghost use Rattle.mapf_tree.specs.declared.own_paths.constraint_sets.ConstraintSet.{ConstraintSet};
-    ghost use Rattle.mapf_tree.specs.PathCache.{AreExtensions};
+    ghost use Rattle.mapf_tree.specs.Prelude.{ConstraintSet, AreExtensions};
 
     ghost Value = { List ConstraintSet };
 

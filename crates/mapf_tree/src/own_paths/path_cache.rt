@@ -28,7 +28,7 @@ pub(crate) struct PathCache<'p> {
 }
 
 impl<'p> Model for PathCache<'p> {
-    ghost use Rattle.mapf_tree.specs.PathCache.{PathCache, IsRemembered};
+    ghost use Rattle.mapf_tree.specs.Prelude.{PathCache, IsRemembered};
 
     ghost Value = { PathCache };
 

@@ -1,7 +1,5 @@
 ghost use Rattle.std.specs.Prelude.{IfOk};
-ghost use Rattle.mapf_tree.specs.Problem.{Problem};
-ghost use Rattle.mapf_tree.specs.Nodes.{AllStand};
-ghost use Rattle.mapf_tree.specs.Family.{IsBranching, IsChildOf};
+ghost use Rattle.mapf_tree.specs.Prelude.{Problem, AllStand, IsBranching, IsChildOf};
 
 use crate::{Node, OpenList, Problem, Side};
 use mapf_grid::NoMemory;

@@ -1,7 +1,5 @@
 ghost use Rattle.std.specs.Prelude.{◌≡◌, IfOk, OnOk};
-ghost use Rattle.mapf_tree.specs.OpenList.{IsAddedIfSome};
-ghost use Rattle.mapf_tree.specs.Steps.{TakesLeast};
-ghost use Rattle.mapf_tree.specs.Nodes.{AllStand};
+ghost use Rattle.mapf_tree.specs.Prelude.{IsAddedIfSome, TakesLeast, AllStand};
 
 use crate::{Children, Key, Node, OpenList, Problem};
 use mapf_grid::NoMemory;

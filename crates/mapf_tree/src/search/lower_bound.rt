@@ -1,16 +1,13 @@
 //! What a search knows of the cost of all plans, and what it answers where it may take no more nodes.
 
 ghost use Rattle.std.specs.Prelude.{◌≡◌, [], IsErr, IfSome, MatchOption};
-ghost use Rattle.mapf_tree.specs.Problem.{Problem, IsLimit};
-ghost use Rattle.mapf_tree.specs.Nodes.{AllStand};
-ghost use Rattle.mapf_tree.specs.LowerBound.{IsLeastCost, IsLeastWaiting, least_stated};
-ghost use Rattle.mapf_tree.specs.Steps.{IsGivenUp, GoesUpTo};
+ghost use Rattle.mapf_tree.specs.Prelude.{Problem, IsLimit, AllStand, IsLeastCost, IsLeastWaiting, least_stated, IsGivenUp, GoesUpTo};
 
 use crate::{OpenList, Problem, Search};
 use mapf_plan::Answer;
 
 impl<'p> Search<'p> {
-    ghost use Rattle.mapf_tree.specs.LowerBound.{IsLowerBound, IsBelowAll};
+    ghost use Rattle.mapf_tree.specs.Prelude.{IsLowerBound, IsBelowAll};
 
     /// What each plan without conflict costs at least: what the least waiting node costs, or more than the bound where none
     /// waits; with an answer, what that states. None after memory ran out.

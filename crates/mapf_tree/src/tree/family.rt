@@ -1,9 +1,7 @@
 //! The members of the constraint tree: its root, and the children of a node.
 
 ghost use Rattle.std.specs.Prelude.{◌<◌, ◌≤◌, [], length, IfOk, None, MatchOption};
-ghost use Rattle.mapf_plan.specs.declared.answer.TheConstants.{MOST_BOUND};
-ghost use Rattle.mapf_tree.specs.SideQuery.{IsQueryOf};
-ghost use Rattle.mapf_tree.specs.Family.{AreRootPaths, IsBranching, IsChildOf, IsOwn, IsOwnWithin, IsRoot};
+ghost use Rattle.mapf_tree.specs.Prelude.{MOST_BOUND, IsQueryOf, AreRootPaths, IsBranching, IsChildOf, IsOwn, IsOwnWithin, IsRoot};
 
 use crate::{Node, Problem, Side, SideQuery};
 use mapf_grid::NoMemory;

@@ -1,7 +1,5 @@
 ghost use Rattle.std.specs.Prelude.{◌≡◌, ◌<◌, ◌≤◌, IfOk, IfErr, Some, None, length, slice_index};
-ghost use Rattle.mapf_low.specs.Walk.{AreDistances};
-ghost use Rattle.mapf_tree.specs.Problem.{HasDistances, IsLimit};
-ghost use Rattle.mapf_plan.specs.declared.answer.TheConstants.{MOST_BOUND, MOST_NODES};
+ghost use Rattle.mapf_tree.specs.Prelude.{AreDistances, HasDistances, IsLimit, MOST_BOUND, MOST_NODES};
 ghost use Rattle.mapf_plan.specs.declared.rule.Rule.TheVariants.{Classical, NoFollowing};
 
 use mapf_grid::{Instance, NoMemory};
@@ -34,7 +32,7 @@ impl Drop for Problem {
 }
 
 impl Model for Problem {
-    ghost use Rattle.mapf_tree.specs.Problem.{Problem, IsReady};
+    ghost use Rattle.mapf_tree.specs.Prelude.{Problem, IsReady};
 
     ghost Value = { Problem };
 

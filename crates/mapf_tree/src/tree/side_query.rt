@@ -1,13 +1,7 @@
 //! What the child on a side of a node's conflict asks of the low level.
 
 ghost use Rattle.std.specs.Prelude.{◌≡◌, ◌<◌, ◌≤◌, length, option_map, Some, IfOk};
-ghost use Rattle.std.specs.Arc.{arc_value};
-ghost use Rattle.mapf_plan.specs.Path.{cost};
-ghost use Rattle.mapf_plan.specs.Plan.{path_of, plan_cost};
-ghost use Rattle.mapf_plan.specs.declared.answer.TheConstants.{MOST_BOUND};
-ghost use Rattle.mapf_tree.specs.Family.{IsBranching, IsChildOf, Leaves};
-ghost use Rattle.mapf_low.specs.Kept.{HasTwoEnds};
-ghost use Rattle.mapf_low.specs.Lookup.{IfKnown};
+ghost use Rattle.mapf_tree.specs.Prelude.{arc_value, cost, path_of, plan_cost, MOST_BOUND, IsBranching, IsChildOf, Leaves, HasTwoEnds, IfKnown};
 
 mod low_level;
 
@@ -39,8 +33,7 @@ pub struct SideQuery<'p> {
 
 impl<'p> Model for SideQuery<'p> {
     ghost use Rattle.std.specs.Prelude.{option_map};
-    ghost use Rattle.std.specs.Arc.{arc_value};
-    ghost use Rattle.mapf_tree.specs.SideQuery.{SideQuery, IsAsked};
+    ghost use Rattle.mapf_tree.specs.Prelude.{arc_value, SideQuery, IsAsked};
 
     ghost Value = { SideQuery };
 
@@ -64,7 +57,7 @@ impl<'p> Model for SideQuery<'p> {
 }
 
 impl<'p> SideQuery<'p> {
-    ghost use Rattle.mapf_tree.specs.SideQuery.{AreFromStart, IsQueryOf, IsFoundBy};
+    ghost use Rattle.mapf_tree.specs.Prelude.{AreFromStart, IsQueryOf, IsFoundBy};
 
     /// The query of a side of a node of the tree.
     pub fn of(

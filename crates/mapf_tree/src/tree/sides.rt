@@ -1,7 +1,7 @@
 //! The two sides of a conflict: each forbids one of the two agents its part in it.
 
 ghost use Rattle.std.specs.Prelude.{◌≡◌};
-ghost use Rattle.mapf_tree.specs.Tree.{agent_on, constraint_on};
+ghost use Rattle.mapf_tree.specs.Prelude.{agent_on, constraint_on};
 
 use crate::Side;
 use mapf_low::Constraint;

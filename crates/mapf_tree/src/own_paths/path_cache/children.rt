@@ -1,11 +1,7 @@
 //! The children of a node whose own paths are known.
 
 ghost use Rattle.std.specs.Prelude.{◌≡◌, ◌<◌, length, Some, IfOk, MatchOption};
-ghost use Rattle.mapf_low.specs.Lookup.{IfKnown};
-ghost use Rattle.mapf_plan.specs.Path.{cost};
-ghost use Rattle.mapf_plan.specs.Plan.{path_of};
-ghost use Rattle.mapf_tree.specs.Family.{IsBranching, IsChildOf};
-ghost use Rattle.mapf_tree.specs.PathCache.{IsAt, HasNoTurnAt, IsTurnAt};
+ghost use Rattle.mapf_tree.specs.Prelude.{IfKnown, cost, path_of, IsBranching, IsChildOf, IsAt, HasNoTurnAt, IsTurnAt};
 
 use crate::node::change::Change;
 use crate::own_paths::path_cache::PathCache;

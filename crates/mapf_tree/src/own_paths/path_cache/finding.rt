@@ -1,8 +1,7 @@
 //! What is known of own paths.
 
 ghost use Rattle.std.specs.Prelude.{◌≤◌, IfSome};
-ghost use Rattle.mapf_low.specs.Lookup.{IfKnown};
-ghost use Rattle.mapf_tree.specs.PathCache.{HasSet, IsNumberOf, IsOwnIn, TellsUpTo};
+ghost use Rattle.mapf_tree.specs.Prelude.{IfKnown, HasSet, IsNumberOf, IsOwnIn, TellsUpTo};
 
 use crate::SideQuery;
 use crate::own_paths::constraint_sets::CachedPath;

@@ -1,11 +1,7 @@
 //! What is remembered of own paths: sets of constraints that agents met, and what was found under them.
 
 ghost use Rattle.std.specs.Prelude.{◌≡◌, ◌<◌, ◌≤◌, ℕ, List, [], length, replicate, option_map, IfOk, OnOk};
-ghost use Rattle.std.specs.Arc.{arc_value};
-ghost use Rattle.mapf_low.specs.declared.constraint.Constraint.{Constraint};
-ghost use Rattle.mapf_tree.specs.Family.{IsBranching, IsOwnWithin};
-ghost use Rattle.mapf_tree.specs.SideQuery.{IsFoundBy};
-ghost use Rattle.mapf_tree.specs.PathCache.{HasSet, IsCachedPath, IsQueryIn, KnowsAnswerTo, IsTold, TellsUpTo};
+ghost use Rattle.mapf_tree.specs.Prelude.{arc_value, Constraint, IsBranching, IsOwnWithin, IsFoundBy, HasSet, IsCachedPath, IsQueryIn, KnowsAnswerTo, IsTold, TellsUpTo};
 
 use crate::own_paths::constraint_sets::{CachedPath, ConstraintSet};
 use crate::own_paths::path_cache::PathCache;
@@ -64,7 +60,8 @@ impl<'p> PathCache<'p> {
         match self.sets_at(node, Vec::new(self.alloc))? {
             Some(sets) => {
                 let before = sets[query.agent()];
-                self.sets.extend(self.alloc, before, query.constraint(), set)
+                self.sets
+                    .extend(self.alloc, before, query.constraint(), set)
             }
             None => Ok(0),
         }

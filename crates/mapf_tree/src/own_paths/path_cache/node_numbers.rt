@@ -1,11 +1,7 @@
 //! Each agent's set of constraints and its path at a node, by number.
 
 ghost use Rattle.std.specs.Prelude.{◌≡◌, ◌+◌, ◌<◌, List, ◌∷◌, [], length, slice_get, Some, IfSome, IfOk, IsTrue};
-ghost use Rattle.mapf_plan.specs.Plan.{path_of};
-ghost use Rattle.mapf_low.specs.declared.constraint.Constraint.{Constraint};
-ghost use Rattle.mapf_tree.specs.Nodes.{changed_sets};
-ghost use Rattle.mapf_tree.specs.Family.{IsBranching};
-ghost use Rattle.mapf_tree.specs.PathCache.{AreSetsOf, IsPlanOf, IsPlanUpTo, IsAt};
+ghost use Rattle.mapf_tree.specs.Prelude.{path_of, Constraint, changed_sets, IsBranching, AreSetsOf, IsPlanOf, IsPlanUpTo, IsAt};
 
 use crate::Node;
 use crate::node::chain::Chain;

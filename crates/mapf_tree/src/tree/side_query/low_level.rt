@@ -1,8 +1,7 @@
 //! The low-level search for the own path that a side asks for: forwards, or backwards by distances from its agent's start.
 
 ghost use Rattle.std.specs.Prelude.{IfOk, option_map};
-ghost use Rattle.std.specs.Arc.{arc_value};
-ghost use Rattle.mapf_low.specs.Lookup.{IfKnown};
+ghost use Rattle.mapf_tree.specs.Prelude.{arc_value, IfKnown};
 
 use crate::tree::family::own_path;
 use crate::tree::side_query::SideQuery;
@@ -16,7 +15,7 @@ use std::sync::Arc;
 const MOST_DEAD_ENDS: usize = 1_000;
 
 impl<'p> SideQuery<'p> {
-    ghost use Rattle.mapf_tree.specs.SideQuery.{IsFoundBy};
+    ghost use Rattle.mapf_tree.specs.Prelude.{IsFoundBy};
 
     /// The own path that it asks for; none where there is none. It is looked for backwards first if there is a table of distances
     /// from the agent's start, until too many dead ends were met.

@@ -1,6 +1,6 @@
 use Rattle.std.proofs.Common.{ap, ◌∙◌}
 use Rattle.mapf_tree.proofs.Chains.{agents_of_root}
-use Rattle.mapf_tree.specs.declared.node.Body.{Body}
+use Rattle.mapf_tree.specs.Prelude.{Body}
 use Rattle.mapf_tree.proofs.node.Node.agents.Goals as goal
 
 pub returns-clause-agents : goal.returns-clause-agents

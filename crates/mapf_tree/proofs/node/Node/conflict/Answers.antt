@@ -1,6 +1,5 @@
 use Rattle.std.proofs.Common.{sym, subst}
-use Rattle.mapf_tree.specs.Nodes.{Node, IsConflictOf}
-use Rattle.mapf_tree.specs.declared.node.Body.{Body}
+use Rattle.mapf_tree.specs.Prelude.{Node, IsConflictOf, Body}
 use Rattle.mapf_tree.proofs.node.Node.conflict.Goals as goal
 
 pub returns-clause-first : goal.returns-clause-first

@@ -1,6 +1,6 @@
-use Rattle.std.proofs.lemmas.Result.{IfOk-weaker}
+use Rattle.mapf_tree.proofs.Prelude.{IfOk-weaker}
 use Rattle.mapf_tree.proofs.Chains.{sets_at}
-use Rattle.mapf_tree.specs.declared.node.Body.{Body}
+use Rattle.mapf_tree.specs.Prelude.{Body}
 use Rattle.mapf_tree.proofs.node.Node.constraints.Goals as goal
 use Rattle.std.proofs.Common.{ap}
 

@@ -1,6 +1,5 @@
 use Rattle.std.proofs.Common.{set, subst₂, ap, ◌∙◌}
-use Rattle.mapf_tree.specs.Nodes.{Node, IsConflictOf}
-use Rattle.mapf_tree.specs.declared.node.Body.{Body}
+use Rattle.mapf_tree.specs.Prelude.{Node, IsConflictOf, Body}
 use Rattle.mapf_tree.proofs.node.Node.first_conflict_with.Goals as goal
 
 pub returns : goal.returns

@@ -1,6 +1,5 @@
 use Rattle.std.proofs.Common.{◌≡◌, length, arith}
-use Rattle.std.proofs.lemmas.Bool.Decides.{nat_tests}
-use Rattle.std.proofs.lemmas.Grind.{common_steps}
+use Rattle.mapf_tree.proofs.Prelude.{nat_tests, common_steps}
 use Rattle.mapf_tree.proofs.Chains.{none_at_root}
 use Rattle.mapf_tree.proofs.node.Node.is_root.Goals as goal
 

@@ -1,9 +1,6 @@
 use Rattle.std.proofs.Common.{◌≡◌, ◌+◌, ◌-◌, ◌≤◌, set, [], ap, ◌∙◌, arith, Fits-le, Fits-lit}
-use Rattle.std.proofs.lemmas.List.Sums.{sum_by-set}
-use Rattle.mapf_plan.specs.Path.{cost}
-use Rattle.mapf_plan.specs.Plan.{path_of, plan_cost}
-use Rattle.mapf_tree.specs.Nodes.{Node}
-use Rattle.mapf_tree.specs.declared.node.Body.{Body}
+use Rattle.mapf_tree.proofs.Prelude.{sum_by-set}
+use Rattle.mapf_tree.specs.Prelude.{cost, path_of, plan_cost, Node, Body}
 use Rattle.mapf_tree.proofs.node.Node.key_with.Goals as goal
 
 pub overflow_add-result : goal.overflow_add-result

@@ -1,6 +1,5 @@
 use Rattle.std.proofs.Common.{◌≡◌, ◌+◌, length, sym, ap, ◌∙◌, arith}
-use Rattle.mapf_tree.specs.Nodes.{Changed}
-use Rattle.mapf_tree.specs.declared.node.Body.{Body}
+use Rattle.mapf_tree.specs.Prelude.{Changed, Body}
 use Rattle.mapf_tree.proofs.Chains.{last_at}
 use Rattle.mapf_tree.proofs.node.Node.last_path.Goals as goal
 

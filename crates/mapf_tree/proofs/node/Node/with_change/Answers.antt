@@ -1,8 +1,6 @@
 use Rattle.std.proofs.Common.{set, [], ◌∷◌, ◌++◌, ap, ap₂, ◌∙◌}
-use Rattle.std.proofs.lemmas.Result.{IfOk-weaker}
-use Rattle.mapf_plan.specs.Plan.{plan_cost}
-use Rattle.mapf_tree.specs.Nodes.{Changed, Node}
-use Rattle.mapf_tree.specs.declared.node.Body.{Body}
+use Rattle.mapf_tree.proofs.Prelude.{IfOk-weaker}
+use Rattle.mapf_tree.specs.Prelude.{plan_cost, Changed, Node, Body}
 use Rattle.mapf_tree.proofs.Chains.{plan_turned, sets_turned, agrees_turned}
 use Rattle.mapf_tree.proofs.node.Node.with_change.Goals as goal
 

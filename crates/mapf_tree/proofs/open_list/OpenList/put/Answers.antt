@@ -1,5 +1,5 @@
 use Rattle.std.proofs.Common.{sym, subst₂}
-use Rattle.mapf_tree.specs.OpenList.{IsPut}
+use Rattle.mapf_tree.specs.Prelude.{IsPut}
 use Rattle.mapf_tree.proofs.Rising.{sorted_rises, put_in}
 use Rattle.mapf_tree.proofs.open_list.OpenList.put.Goals.{in-Ok, in-Err}
 use Rattle.mapf_tree.proofs.open_list.OpenList.put.Goals as goal

@@ -1,6 +1,5 @@
 use Rattle.std.proofs.Common.{subst, ◌∙◌}
-use Rattle.mapf_tree.specs.declared.tree.side.Side.TheVariants.{Left, Right}
-use Rattle.mapf_tree.specs.Family.{IsChildOf}
+use Rattle.mapf_tree.specs.Prelude.{Left, Right, IsChildOf}
 use Rattle.mapf_tree.proofs.own_paths.OwnPaths.children.Goals as goal
 
 pub returns-clause-left : goal.returns-clause-left

@@ -1,5 +1,5 @@
 use Rattle.std.proofs.Common.{sym, subst}
-use Rattle.mapf_tree.specs.Family.{IsChildOf}
+use Rattle.mapf_tree.specs.Prelude.{IsChildOf}
 use Rattle.mapf_tree.proofs.own_paths.OwnPaths.learn.Goals as goal
 
 pub answer_in-requires-clause-child : goal.answer_in-requires-clause-child

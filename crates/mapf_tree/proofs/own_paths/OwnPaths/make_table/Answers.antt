@@ -1,8 +1,6 @@
 use Rattle.std.proofs.Common.{map, subst, sym}
-use Rattle.std.specs.Prelude.{option_map}
-use Rattle.std.specs.Arc.{arc_value}
-use Rattle.std.proofs.lemmas.List.{map-set}
-use Rattle.mapf_tree.specs.SideQuery.{AreFromStart, AreTables}
+use Rattle.mapf_tree.specs.Prelude.{option_map, arc_value, AreFromStart, AreTables}
+use Rattle.mapf_tree.proofs.Prelude.{map-set}
 use Rattle.mapf_tree.proofs.StartTables.{right_with_other}
 use Rattle.mapf_tree.proofs.own_paths.OwnPaths.make_table.Goals as goal
 

@@ -1,8 +1,6 @@
 use Rattle.std.proofs.Common.{map, None, subst, sym, ap, ◌∙◌}
-use Rattle.std.specs.Prelude.{option_map}
-use Rattle.std.specs.Arc.{arc_value}
-use Rattle.std.proofs.lemmas.List.{map_push}
-use Rattle.mapf_tree.specs.SideQuery.{AreFromStart, AreTables}
+use Rattle.mapf_tree.specs.Prelude.{option_map, arc_value, AreFromStart, AreTables}
+use Rattle.mapf_tree.proofs.Prelude.{map_push}
 use Rattle.mapf_tree.proofs.StartTables.{right_with_none}
 use Rattle.mapf_tree.proofs.own_paths.OwnPaths.new.Goals as goal
 

@@ -1,5 +1,5 @@
 use Rattle.std.proofs.Common.{◌≡◌}
-use Rattle.mapf_tree.specs.Search.{IsSearch}
+use Rattle.mapf_tree.specs.Prelude.{IsSearch}
 use Rattle.mapf_tree.proofs.Remaining.{remaining}
 use Rattle.mapf_tree.proofs.search.Search.finish.Given as goal
 

@@ -1,8 +1,6 @@
 use Rattle.std.proofs.Common.{◌≡◌, Ok, Some, None, rules, subst}
 use Rattle.std.specs.Option.{option_map}
-use Rattle.mapf_tree.specs.Tree.{key_rank}
-use Rattle.mapf_tree.specs.Search.{Searched, IsLawful}
-use Rattle.mapf_tree.specs.LowerBound.{IsBelowAll}
+use Rattle.mapf_tree.specs.Prelude.{key_rank, Searched, IsLawful, IsBelowAll}
 use Rattle.mapf_tree.proofs.LowerBounds.{known_is_below}
 use Rattle.mapf_tree.proofs.search.Search.lower_bound.Goals as goal
 

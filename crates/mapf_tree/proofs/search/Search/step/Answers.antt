@@ -1,9 +1,7 @@
 use Rattle.std.proofs.Common.{Ok, Some, inl, inr, refl, subst, ap, ◌∙◌}
 use Rattle.std.specs.Option.{option_map}
 use Rattle.mapf_plan.specs.declared.answer.Answer.TheVariants as answer
-use Rattle.mapf_tree.specs.Tree.{key_rank}
-use Rattle.mapf_tree.specs.Search.{Searched, IsLawful}
-use Rattle.mapf_tree.specs.Steps.{TakesOne, TakesLeast}
+use Rattle.mapf_tree.specs.Prelude.{key_rank, Searched, IsLawful, TakesOne, TakesLeast}
 use Rattle.mapf_tree.proofs.Expansions.{branched_lawful, counted_more, solved_lawful, empty_lawful, given_up_lawful}
 use Rattle.mapf_tree.proofs.search.Search.step.Goals as goal
 use Rattle.mapf_tree.proofs.search.Search.step.Goals.{In-Some, In-Ok-Branched, In-Ok-Solved, In-Ok-Empty}

@@ -1,5 +1,5 @@
 use Rattle.std.proofs.Common.{None, subst}
-use Rattle.mapf_tree.specs.Search.{Searched, TakesBetween}
+use Rattle.mapf_tree.specs.Prelude.{Searched, TakesBetween}
 use Rattle.mapf_tree.proofs.search.Search.taken_nodes.Goals as goal
 
 pub returns-clause-taken : goal.returns-clause-taken

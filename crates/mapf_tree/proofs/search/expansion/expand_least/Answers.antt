@@ -1,9 +1,5 @@
 use Rattle.std.proofs.Common.{◌≡◌, ◌∷◌, Some, subst, sym, ap, ◌∙◌}
-use Rattle.mapf_plan.specs.declared.conflict.Conflict.{Conflict}
-use Rattle.mapf_tree.specs.declared.tree.key.Key.{Key}
-use Rattle.mapf_tree.specs.Tree.{key_rank}
-use Rattle.mapf_tree.specs.Nodes.{Node}
-use Rattle.mapf_tree.specs.Family.{IsBranching}
+use Rattle.mapf_tree.specs.Prelude.{Conflict, Key, key_rank, Node, IsBranching}
 use Rattle.mapf_tree.proofs.Expansions.{solved_case, branches, branched_case, conflict_there, some_there, conflict_absent}
 use Rattle.mapf_tree.proofs.search.expansion.expand_least.Goals as goal
 

@@ -1,5 +1,5 @@
 use Rattle.std.proofs.Common.{[], refl, subst}
-use Rattle.mapf_tree.specs.Family.{IsOwn}
+use Rattle.mapf_tree.specs.Prelude.{IsOwn}
 use Rattle.mapf_tree.proofs.RootNodes.{own_more}
 use Rattle.mapf_tree.proofs.tree.family.root_paths.Goals as goal
 

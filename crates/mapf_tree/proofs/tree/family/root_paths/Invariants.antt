@@ -1,6 +1,5 @@
 use Rattle.std.proofs.Common.{◌≡◌, ℕ, ◌<◌, [], length, get_or}
-use Rattle.mapf_plan.specs.Plan.{path_of}
-use Rattle.mapf_low.specs.OwnPath.{IsOwnPath}
+use Rattle.mapf_tree.specs.Prelude.{path_of, IsOwnPath}
 use Rattle.mapf_tree.proofs.tree.family.root_paths.Given as goal
 
 abbrev pub invariant-loop-agent : goal.invariant-loop-agent

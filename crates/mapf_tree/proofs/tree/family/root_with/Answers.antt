@@ -1,6 +1,5 @@
 use Rattle.std.proofs.Common.{[], ap, ◌∙◌, subst₂, length, replicate, arith}
-use Rattle.mapf_plan.specs.Plan.{plan_cost}
-use Rattle.mapf_tree.specs.Nodes.{IsConflictOf}
+use Rattle.mapf_tree.specs.Prelude.{plan_cost, IsConflictOf}
 use Rattle.mapf_tree.proofs.RootNodes.{no_root, root_stands}
 use Rattle.mapf_tree.proofs.tree.family.root_with.Goals as goal
 

@@ -1,5 +1,5 @@
 use Rattle.std.proofs.Common.{◌≡◌, ◌-◌, ◌++◌}
-use Rattle.mapf_tree.specs.Names.{turns_of}
+use Rattle.mapf_tree.specs.Prelude.{turns_of}
 use Rattle.mapf_tree.proofs.tree.name.first_turns.Given as goal
 
 -- the turns so far and those of what is left

@@ -1,5 +1,5 @@
 use Rattle.std.proofs.Common.{◌≡◌, ℕ, ◌<◌, [], length, get_or}
-use Rattle.mapf_low.specs.Walk.{AreDistances}
+use Rattle.mapf_tree.specs.Prelude.{AreDistances}
 use Rattle.mapf_tree.proofs.tree.problem.distances_to_goals.Given as goal
 
 abbrev pub invariant-loop-agent : goal.invariant-loop-agent

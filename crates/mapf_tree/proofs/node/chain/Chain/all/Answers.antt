@@ -1,5 +1,5 @@
 use Rattle.std.proofs.Common.{◌++◌, map, ap, ap₂, ◌∙◌}
-use Rattle.std.specs.Arc.{arc_value}
+use Rattle.mapf_tree.specs.Prelude.{arc_value}
 use Rattle.mapf_tree.proofs.Chains.{map-clones}
 use Rattle.mapf_tree.proofs.node.chain.Chain.all.Goals as goal
 

@@ -1,7 +1,6 @@
 use Rattle.std.proofs.Common.{List, ◌<◌, [], take, take_all, replicate, get_or, subst, subst₂, sym, ap, ◌∙◌, arith}
-use Rattle.std.proofs.lemmas.List.{length-replicate}
-use Rattle.mapf_low.specs.declared.constraint.Constraint.{Constraint}
-use Rattle.mapf_tree.specs.Nodes.{Changed, IsSameSet, changed_sets}
+use Rattle.mapf_tree.proofs.Prelude.{length-replicate}
+use Rattle.mapf_tree.specs.Prelude.{Constraint, Changed, IsSameSet, changed_sets}
 use Rattle.mapf_tree.proofs.ConstraintSets.{IsWith}
 use Rattle.mapf_tree.proofs.Chains.{taken_more, sets_more}
 use Rattle.mapf_tree.proofs.node.chain.Chain.constraints.Goals.{then-change-agent+in_ok-constraints, else-change-agent}

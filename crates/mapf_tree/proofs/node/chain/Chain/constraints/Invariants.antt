@@ -1,5 +1,5 @@
 use Rattle.std.proofs.Common.{ℕ, ◌<◌, [], take, replicate, get_or}
-use Rattle.mapf_tree.specs.Nodes.{IsSameSet, changed_sets}
+use Rattle.mapf_tree.specs.Prelude.{IsSameSet, changed_sets}
 use Rattle.mapf_tree.proofs.node.chain.Chain.constraints.Given as goal
 
 abbrev pub invariant-loop-turn : goal.invariant-loop-turn

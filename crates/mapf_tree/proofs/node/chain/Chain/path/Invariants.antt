@@ -1,6 +1,5 @@
 use Rattle.std.proofs.Common.{◌≡◌, take}
-use Rattle.mapf_plan.specs.Plan.{path_of}
-use Rattle.mapf_tree.specs.Nodes.{changed_plan}
+use Rattle.mapf_tree.specs.Prelude.{path_of, changed_plan}
 use Rattle.mapf_tree.proofs.node.chain.Chain.path.Given as goal
 
 abbrev pub invariant-loop-turn : goal.invariant-loop-turn

@@ -1,5 +1,5 @@
 use Rattle.std.proofs.Common.{◌<◌, take, take_all, set, subst, sym, ap, ◌∙◌, length, arith}
-use Rattle.mapf_tree.specs.Nodes.{changed_plan}
+use Rattle.mapf_tree.specs.Prelude.{changed_plan}
 use Rattle.mapf_tree.proofs.Chains.{all_at, taken_more, changed_plan-push, length-changed_plan}
 use Rattle.mapf_tree.proofs.node.chain.Chain.paths.Goals as goal
 

@@ -1,5 +1,5 @@
 use Rattle.std.proofs.Common.{◌≡◌, take}
-use Rattle.mapf_tree.specs.Nodes.{changed_plan}
+use Rattle.mapf_tree.specs.Prelude.{changed_plan}
 use Rattle.mapf_tree.proofs.node.chain.Chain.paths.Given as goal
 
 abbrev pub invariant-loop-turn : goal.invariant-loop-turn

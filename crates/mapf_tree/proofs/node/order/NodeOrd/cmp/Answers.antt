@@ -1,5 +1,5 @@
 use Rattle.std.proofs.Common.{nat_cmp, ap₂, ◌∙◌}
-use Rattle.std.specs.Cmp.Lexicographic.{slice_cmp}
+use Rattle.mapf_tree.specs.Prelude.{slice_cmp}
 use Rattle.mapf_tree.proofs.node.order.NodeOrd.cmp.Goals as goal
 
 pub returns : goal.returns

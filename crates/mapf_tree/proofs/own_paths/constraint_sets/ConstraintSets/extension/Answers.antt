@@ -1,7 +1,6 @@
 use Rattle.std.proofs.Common.{◌≡◌, Some, refl, subst, subst₂}
-use Rattle.std.specs.Prelude.{slice_get}
-use Rattle.std.proofs.lemmas.Option.{slice_get_read}
-use Rattle.mapf_tree.specs.PathCache.{IsExtension, Extends}
+use Rattle.mapf_tree.proofs.Prelude.{slice_get_read}
+use Rattle.mapf_tree.specs.Prelude.{slice_get, IsExtension, Extends}
 use Rattle.mapf_tree.proofs.PathCaches.{extension_tells}
 use Rattle.mapf_tree.proofs.own_paths.constraint_sets.ConstraintSets.extension.Goals as goal
 

@@ -1,5 +1,5 @@
 use Rattle.std.proofs.Common.{sym, subst}
-use Rattle.mapf_tree.specs.PathCache.{AreExtensions}
+use Rattle.mapf_tree.specs.Prelude.{AreExtensions}
 use Rattle.mapf_tree.proofs.PathCaches.{extensions_kept}
 use Rattle.mapf_tree.proofs.own_paths.constraint_sets.ConstraintSets.push.Goals as goal
 

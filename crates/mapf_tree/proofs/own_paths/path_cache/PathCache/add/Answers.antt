@@ -1,14 +1,7 @@
 use Rattle.std.proofs.Common.{◌≡◌, ℕ, List, Option, Some, ◌∙◌}
-use Rattle.std.specs.Prelude.{slice_get}
-use Rattle.std.proofs.lemmas.Option.{IfSome_then}
-use Rattle.std.proofs.lemmas.Result.{IfOk-weaker}
-use Rattle.mapf_plan.specs.KnownPaths.{KnownPaths}
-use Rattle.mapf_plan.proofs.PlanNumbers.{known_stays}
-use Rattle.mapf_tree.specs.Problem.{Problem}
+use Rattle.mapf_tree.proofs.Prelude.{IfSome_then, IfOk-weaker, known_stays}
+use Rattle.mapf_tree.specs.Prelude.{slice_get, KnownPaths, Problem, ConstraintSet, Path, IsRemembered, IsTold, TellsUpTo}
 use Rattle.mapf_tree.specs.declared.own_paths.path_cache.node_numbers.NodeNumbers.{NodeNumbers}
-use Rattle.mapf_tree.specs.declared.own_paths.constraint_sets.ConstraintSet.{ConstraintSet}
-use Rattle.mapf_tree.specs.declared.own_paths.constraint_sets.CachedPath.TheVariants.{Path}
-use Rattle.mapf_tree.specs.PathCache.{IsRemembered, IsTold, TellsUpTo}
 use Rattle.mapf_tree.proofs.PathCaches.{known_kept}
 use Rattle.mapf_tree.proofs.own_paths.path_cache.PathCache.add.Goals as goal
 

@@ -1,9 +1,6 @@
 use Rattle.std.proofs.Common.{◌≡◌, ◌+◌, ◌∙◌, length, subst, subst₂, sym, ap, arith}
-use Rattle.std.specs.Prelude.{IfSome}
-use Rattle.std.proofs.lemmas.List.{length_push}
-use Rattle.mapf_plan.specs.KnownPaths.{AreNumbers, IsKnownPlan, plan_of}
-use Rattle.mapf_plan.proofs.PlanNumbers.{numbers_more, numbers_inside, plan_of_numbers}
-use Rattle.mapf_tree.specs.PathCache.{PathCache, IsRemembered, AreSetsOf, AreFirstPaths}
+use Rattle.mapf_tree.proofs.Prelude.{length_push, numbers_more, numbers_inside, plan_of_numbers}
+use Rattle.mapf_tree.specs.Prelude.{IfSome, AreNumbers, IsKnownPlan, plan_of, PathCache, IsRemembered, AreSetsOf, AreFirstPaths}
 use Rattle.mapf_tree.proofs.own_paths.path_cache.PathCache.all_numbers.Goals as goal
 
 pub loop-agent-preserved : goal.loop-agent-preserved

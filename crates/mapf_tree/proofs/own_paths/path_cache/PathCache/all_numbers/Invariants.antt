@@ -1,5 +1,5 @@
 use Rattle.std.proofs.Common.{◌≡◌, length}
-use Rattle.mapf_tree.specs.PathCache.{AreFirstPaths}
+use Rattle.mapf_tree.specs.Prelude.{AreFirstPaths}
 use Rattle.mapf_tree.proofs.own_paths.path_cache.PathCache.all_numbers.Given as goal
 
 abbrev pub invariant-loop-agent : goal.invariant-loop-agent

@@ -1,12 +1,6 @@
 use Rattle.std.proofs.Common.{◌≡◌, ◌<◌, ◌≤◌, [], length, subst, subst₂, sym, ap, ap₂, ◌∙◌, arith}
-use Rattle.std.specs.Prelude.{slice_set}
-use Rattle.std.proofs.lemmas.List.{length-map}
-use Rattle.std.proofs.lemmas.Option.{get_or_from_slice_get}
-use Rattle.mapf_plan.specs.Plan.{path_of}
-use Rattle.mapf_plan.specs.KnownPaths.{plan_of}
-use Rattle.mapf_plan.specs.declared.answer.TheConstants.{MOST_BOUND}
-use Rattle.mapf_tree.specs.Nodes.{Changed, IsConflictOf}
-use Rattle.mapf_tree.specs.PathCache.{PathCache}
+use Rattle.mapf_tree.proofs.Prelude.{length-map, get_or_from_slice_get}
+use Rattle.mapf_tree.specs.Prelude.{slice_set, path_of, plan_of, MOST_BOUND, Changed, IsConflictOf, PathCache}
 use Rattle.mapf_tree.proofs.PathCaches.{small_at, child_at}
 use Rattle.mapf_tree.proofs.own_paths.path_cache.PathCache.child_with.Goals as goal
 

@@ -1,7 +1,5 @@
 use Rattle.std.proofs.Common.{subst}
-use Rattle.std.specs.Prelude.{MatchOption}
-use Rattle.mapf_low.specs.Lookup.{IfKnown}
-use Rattle.mapf_tree.specs.PathCache.{HasNoTurnAt, IsTurnAt}
+use Rattle.mapf_tree.specs.Prelude.{MatchOption, IfKnown, HasNoTurnAt, IsTurnAt}
 use Rattle.mapf_tree.proofs.PathCaches.{none_at}
 use Rattle.mapf_tree.proofs.own_paths.path_cache.PathCache.find_child.Goals as goal
 

@@ -1,7 +1,5 @@
 use Rattle.std.proofs.Common.{◌≤◌, Some, refl, sym, subst, ap, arith}
-use Rattle.std.specs.Arc.{arc_value}
-use Rattle.mapf_plan.specs.Path.{cost}
-use Rattle.mapf_tree.specs.PathCache.{PathCache, HasPath, IsOwnIn}
+use Rattle.mapf_tree.specs.Prelude.{arc_value, cost, PathCache, HasPath, IsOwnIn}
 use Rattle.mapf_tree.proofs.PathCaches.{own_in_path}
 use Rattle.mapf_tree.proofs.own_paths.path_cache.PathCache.find_own_path.Goals as goal
 

@@ -1,8 +1,5 @@
 use Rattle.std.proofs.Common.{Some, subst, subst₂, sym, ap, ◌∙◌}
-use Rattle.std.specs.Arc.{arc_value}
-use Rattle.mapf_tree.specs.Family.{IsOwnWithin}
-use Rattle.mapf_tree.specs.Tree.{IsOwnPathOf}
-use Rattle.mapf_tree.specs.PathCache.{PathCache}
+use Rattle.mapf_tree.specs.Prelude.{arc_value, IsOwnWithin, IsOwnPathOf, PathCache}
 use Rattle.mapf_tree.proofs.PathCaches.{root_own}
 use Rattle.mapf_tree.proofs.own_paths.path_cache.PathCache.first_set.Goals as goal
 

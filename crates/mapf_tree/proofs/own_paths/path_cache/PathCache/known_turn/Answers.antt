@@ -1,9 +1,6 @@
 use Rattle.std.proofs.Common.{rules, ◌≡◌, ◌<◌, get_or, length, Some, option_map, subst, subst₂, sym, ◌∙◌, arith}
-use Rattle.std.proofs.lemmas.Grind.{get_or_default_zero}
-use Rattle.std.specs.Prelude.{IfSome}
-use Rattle.mapf_tree.specs.Family.{Leaves}
-use Rattle.mapf_tree.specs.Nodes.{Changed}
-use Rattle.mapf_tree.specs.PathCache.{PathCache, IsExtended, IsOwnIn, IsNumberOf, IsTurnAt, GivesOwn, AreKnown}
+use Rattle.mapf_tree.proofs.Prelude.{get_or_default_zero}
+use Rattle.mapf_tree.specs.Prelude.{IfSome, Leaves, Changed, PathCache, IsExtended, IsOwnIn, IsNumberOf, IsTurnAt, GivesOwn, AreKnown}
 use Rattle.mapf_tree.proofs.PathCaches.{turn_at, no_turn_at}
 use Rattle.mapf_tree.proofs.own_paths.path_cache.PathCache.known_turn.Goals as goal
 

@@ -1,8 +1,6 @@
 use Rattle.std.proofs.Common.{◌≡◌, ◌<◌, ◌∙◌, [], get_or, length, subst, subst₂, sym, ap, arith}
-use Rattle.std.specs.Prelude.{IfSome}
-use Rattle.std.proofs.lemmas.Grind.{get_or_default_zero}
-use Rattle.mapf_tree.specs.Problem.{Problem}
-use Rattle.mapf_tree.specs.PathCache.{IsRemembered, PathCache, HasSet, AreSetsOf, IsExtension}
+use Rattle.mapf_tree.proofs.Prelude.{get_or_default_zero}
+use Rattle.mapf_tree.specs.Prelude.{IfSome, Problem, IsRemembered, PathCache, HasSet, AreSetsOf, IsExtension}
 use Rattle.mapf_tree.proofs.ConstraintSets.{IsWith, with_same}
 use Rattle.mapf_tree.proofs.own_paths.path_cache.PathCache.learn.Goals as goal
 

@@ -1,7 +1,5 @@
 use Rattle.std.proofs.Common.{◌≡◌, ℕ, ◌<◌, [], length, inr, subst, sym, ap, ◌∙◌, arith}
-use Rattle.std.specs.Prelude.{slice_index}
-use Rattle.mapf_tree.specs.Problem.{Problem}
-use Rattle.mapf_tree.specs.PathCache.{PathCache, HasSet}
+use Rattle.mapf_tree.specs.Prelude.{slice_index, Problem, PathCache, HasSet}
 use Rattle.mapf_tree.proofs.PathCaches.{each_more, sets_begun, agents_at_node}
 use Rattle.mapf_tree.proofs.own_paths.path_cache.PathCache.number_first_sets.Goals as goal
 

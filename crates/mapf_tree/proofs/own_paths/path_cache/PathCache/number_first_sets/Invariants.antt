@@ -1,6 +1,5 @@
 use Rattle.std.proofs.Common.{◌≡◌, [], ℕ, ◌<◌, length}
-use Rattle.std.specs.Prelude.{slice_index}
-use Rattle.mapf_tree.specs.PathCache.{HasSet}
+use Rattle.mapf_tree.specs.Prelude.{slice_index, HasSet}
 use Rattle.mapf_tree.proofs.own_paths.path_cache.PathCache.number_first_sets.Given as goal
 
 abbrev pub invariant-loop-agent : goal.invariant-loop-agent

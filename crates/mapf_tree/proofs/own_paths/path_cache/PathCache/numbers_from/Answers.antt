@@ -1,7 +1,6 @@
 use Rattle.std.proofs.Common.{◌≡◌, length, subst, arith}
-use Rattle.std.specs.Prelude.{IfSome}
-use Rattle.mapf_plan.proofs.PlanNumbers.{plan_of_numbers}
-use Rattle.mapf_tree.specs.PathCache.{AreSetsOf, AreFirstPaths}
+use Rattle.mapf_tree.proofs.Prelude.{plan_of_numbers}
+use Rattle.mapf_tree.specs.Prelude.{IfSome, AreSetsOf, AreFirstPaths}
 use Rattle.mapf_tree.proofs.own_paths.path_cache.PathCache.numbers_from.Goals as goal
 
 pub returns-clause-numbers : goal.returns-clause-numbers

@@ -1,9 +1,5 @@
 use Rattle.std.proofs.Common.{◌≡◌, Some, subst, sym, refl}
-use Rattle.std.specs.Prelude.{slice_get}
-use Rattle.std.specs.Arc.{arc_value}
-use Rattle.mapf_plan.specs.Plan.{path_of}
-use Rattle.mapf_tree.specs.Family.{IsBranching}
-use Rattle.mapf_tree.specs.PathCache.{PathCache, AreSetsOf, HasPath}
+use Rattle.mapf_tree.specs.Prelude.{slice_get, arc_value, path_of, IsBranching, PathCache, AreSetsOf, HasPath}
 use Rattle.mapf_tree.proofs.PathCaches.{path_at_node}
 use Rattle.mapf_tree.proofs.own_paths.path_cache.PathCache.path_at.Goals as goal
 

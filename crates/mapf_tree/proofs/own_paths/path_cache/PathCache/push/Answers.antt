@@ -1,7 +1,5 @@
 use Rattle.std.proofs.Common.{ℕ, List, subst, sym}
-use Rattle.mapf_low.specs.declared.constraint.Constraint.{Constraint}
-use Rattle.mapf_tree.specs.declared.own_paths.constraint_sets.ConstraintSet.{ConstraintSet}
-use Rattle.mapf_tree.specs.PathCache.{IsRemembered, PathCache, HasSet, IsCachedPath}
+use Rattle.mapf_tree.specs.Prelude.{Constraint, ConstraintSet, IsRemembered, PathCache, HasSet, IsCachedPath}
 use Rattle.mapf_tree.proofs.PathCaches.{known_more, firsts_kept, set_kept, set_added}
 use Rattle.mapf_tree.proofs.own_paths.path_cache.PathCache.push.Goals as goal
 

@@ -1,7 +1,6 @@
 use Rattle.std.proofs.Common.{◌≡◌, ◌<◌, [], ◌∷◌, length, get_or, set, subst, ◌∙◌, arith}
-use Rattle.std.proofs.lemmas.Grind.{get_or_default_zero}
-use Rattle.mapf_tree.specs.Nodes.{Changed}
-use Rattle.mapf_tree.specs.PathCache.{IsExtended, AreSetsOf}
+use Rattle.mapf_tree.proofs.Prelude.{get_or_default_zero}
+use Rattle.mapf_tree.specs.Prelude.{Changed, IsExtended, AreSetsOf}
 use Rattle.mapf_tree.proofs.PathCaches.{sets_turned_on}
 use Rattle.mapf_tree.proofs.own_paths.path_cache.node_numbers.extend_set.Goals as goal
 

@@ -1,6 +1,5 @@
 use Rattle.std.proofs.Common.{take, take_all, subst, sym, ◌∙◌, ap, arith}
-use Rattle.mapf_tree.specs.Nodes.{changed_sets}
-use Rattle.mapf_tree.specs.PathCache.{AreSetsOf}
+use Rattle.mapf_tree.specs.Prelude.{changed_sets, AreSetsOf}
 use Rattle.mapf_tree.proofs.Chains.{taken_more, changed_sets-push}
 use Rattle.mapf_tree.proofs.own_paths.path_cache.node_numbers.extend_sets.Goals as goal
 

@@ -1,7 +1,5 @@
 use Rattle.std.proofs.Common.{List, take}
-use Rattle.mapf_low.specs.declared.constraint.Constraint.{Constraint}
-use Rattle.mapf_tree.specs.Nodes.{changed_sets}
-use Rattle.mapf_tree.specs.PathCache.{AreSetsOf}
+use Rattle.mapf_tree.specs.Prelude.{Constraint, changed_sets, AreSetsOf}
 use Rattle.mapf_tree.proofs.own_paths.path_cache.node_numbers.extend_sets.Given as goal
 
 abbrev pub invariant-loop-turn : goal.invariant-loop-turn

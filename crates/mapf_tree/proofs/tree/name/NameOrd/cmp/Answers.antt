@@ -1,7 +1,5 @@
 use Rattle.std.proofs.Common.{◌≡◌, map, Ordering, Less, Equal, Greater, nat_cmp, refl, sym, ap, ap₂, ◌∙◌}
-use Rattle.std.specs.Ordering.{ordering_then}
-use Rattle.std.specs.Cmp.Lexicographic.{slice_cmp}
-use Rattle.mapf_tree.specs.Names.{turn}
+use Rattle.mapf_tree.specs.Prelude.{ordering_then, slice_cmp, turn}
 use Rattle.mapf_tree.proofs.NameOrder.{name_order, compared_turns}
 use Rattle.mapf_tree.proofs.tree.name.NameOrd.cmp.Goals as goal
 

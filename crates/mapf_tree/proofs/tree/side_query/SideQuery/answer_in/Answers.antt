@@ -1,7 +1,5 @@
 use Rattle.std.proofs.Common.{Some, None, subst, sym, ap, ◌∙◌}
-use Rattle.mapf_plan.specs.Plan.{path_of}
-use Rattle.mapf_tree.specs.Family.{IsChildOf}
-use Rattle.mapf_tree.specs.SideQuery.{SideQuery, IsFoundBy}
+use Rattle.mapf_tree.specs.Prelude.{path_of, IsChildOf, SideQuery, IsFoundBy}
 use Rattle.mapf_tree.proofs.Queries.{found_of_child}
 use Rattle.mapf_tree.proofs.tree.side_query.SideQuery.answer_in.Goals as goal
 

@@ -1,9 +1,5 @@
 use Rattle.std.proofs.Common.{◌≡◌, ◌<◌, length, set, Some, option_map, subst, subst₂, sym, ap, ◌∙◌, arith}
-use Rattle.std.specs.Arc.{arc_value}
-use Rattle.mapf_plan.specs.Plan.{plan_cost}
-use Rattle.mapf_tree.specs.Family.{IsChildOf}
-use Rattle.mapf_tree.specs.Nodes.{Changed}
-use Rattle.mapf_tree.specs.SideQuery.{SideQuery, IsQueryOf, IsFoundBy}
+use Rattle.mapf_tree.specs.Prelude.{arc_value, plan_cost, IsChildOf, Changed, SideQuery, IsQueryOf, IsFoundBy}
 use Rattle.mapf_tree.proofs.SideNodes.{within_bound}
 use Rattle.mapf_tree.proofs.Queries.{is_child, no_child}
 use Rattle.mapf_tree.proofs.tree.side_query.SideQuery.child.Goals as goal

@@ -1,7 +1,5 @@
 use Rattle.std.proofs.Common.{rules, ◌≡◌, ◌<◌, ◌≤◌, [], get_or, length, subst, sym, ap, ◌∙◌}
-use Rattle.mapf_plan.specs.Path.{cost}
-use Rattle.mapf_plan.specs.declared.conflict.Conflict.{Conflict}
-use Rattle.mapf_tree.specs.Tree.{agent_on, constraint_on}
+use Rattle.mapf_tree.specs.Prelude.{cost, Conflict, agent_on, constraint_on}
 use Rattle.mapf_tree.proofs.ConstraintSets.{with_same}
 use Rattle.mapf_tree.proofs.LeastCosts.{costs_no_less}
 use Rattle.mapf_tree.proofs.tree.side_query.SideQuery.of.Goals as goal
