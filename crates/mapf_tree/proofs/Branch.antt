@@ -1,6 +1,5 @@
 -- A valid plan that obeys a node obeys one of its sides.
-use Rattle.std.proofs.Common.{◌≡◌, ℕ, ◌<◌, List, [], ◌∷◌, length, inl, inr, subst, sym, ◌∙◌, arith}
-use Rattle.mapf_tree.proofs.Prelude.{by_cases, set_cases, dec_breaks}
+use Rattle.mapf_tree.proofs.Prelude.{◌≡◌, ℕ, ◌<◌, List, [], ◌∷◌, length, inl, inr, subst, sym, ◌∙◌, arith, by_cases, set_cases, dec_breaks}
 use Rattle.mapf_tree.specs.Prelude.{Conflict, Rule, IsConflict, path_of, Obeys, Breaks, Problem, Side, Left, Right, TreeNode, side_of, constraints_of, constraint_on, agent_on, ObeysNode, ObeysOneSide}
 use Rattle.mapf_plan.specs.declared.conflict.Conflict.TheVariants.{Vertex, Swapping, Following}
 use Rattle.mapf_tree.proofs.Followers.{of_parts}

@@ -1,8 +1,7 @@
 -- One change more at the end of a chain.
-use Rattle.std.proofs.Common.{◌≡◌, ◌≢◌, ◌↔◌, ℕ, ◌+◌, ◌<◌, List, [], ◌∷◌, ◌++◌, length, take, take_all, map, get_or, set, All, Option, Some, replicate, ap₂, refl, sym, ap, ◌∙◌, subst, subst₂, arith, Contains, get_or-set_same}
+use Rattle.mapf_tree.proofs.Prelude.{◌≡◌, ◌≢◌, ◌↔◌, ℕ, ◌+◌, ◌<◌, List, [], ◌∷◌, ◌++◌, length, take, take_all, map, get_or, set, All, Option, Some, replicate, ap₂, refl, sym, ap, ◌∙◌, subst, subst₂, arith, Contains, get_or-set_same, slice_get_within, get_or_from_slice_get, All-push, set_cases}
 use Rattle.std.specs.List.{AllZip, AppendsClones, slice_get}
 use Rattle.std.proofs.lemmas.List.{length-set, length_push, map-append, take_more}
-use Rattle.mapf_tree.proofs.Prelude.{slice_get_within, get_or_from_slice_get, All-push, set_cases}
 use Rattle.mapf_tree.specs.Prelude.{Constraint, path_of, plan_cost, Conflict, Rule, Side, Node, node_of, IsConflictOf, IsSameSet, AgreesWith, Changed, changed_plan, changed_sets}
 use Rattle.mapf_tree.proofs.ConstraintSets.{IsWith, IsWith-cons}
 

@@ -1,6 +1,5 @@
 -- Sets of constraints, with one constraint more.
-use Rattle.std.proofs.Common.{◌≡◌, ◌⊎◌, ◌↔◌, List, ◌∷◌, inl, inr, sym, ⊎_elim, Contains}
-use Rattle.mapf_tree.proofs.Prelude.{here, there, here_or_there}
+use Rattle.mapf_tree.proofs.Prelude.{◌≡◌, ◌⊎◌, ◌↔◌, List, ◌∷◌, inl, inr, sym, ⊎_elim, Contains, here, there, here_or_there}
 use Rattle.mapf_tree.specs.Prelude.{Constraint, IsSameSet}
 
 -- what one set more holds

@@ -1,6 +1,5 @@
 -- From a valid plan down the tree to a solution that costs no more: so the answer is an optimum.
-use Rattle.std.proofs.Common.{◌⊎◌, ℕ, zero, suc, ◌<◌, ◌≤◌, ◌+◌, List, [], ◌∷◌, map, length, inl, inr, subst, sym, ◌∙◌, ⊎_elim, arith, length-append}
-use Rattle.mapf_tree.proofs.Prelude.{get_or-replicate, get_or-le-sum_by, cases_lt, first_le, first_conflict, own_path_costs}
+use Rattle.mapf_tree.proofs.Prelude.{◌⊎◌, ℕ, zero, suc, ◌<◌, ◌≤◌, ◌+◌, List, [], ◌∷◌, map, length, inl, inr, subst, sym, ◌∙◌, ⊎_elim, arith, length-append, get_or-replicate, get_or-le-sum_by, cases_lt, first_le, first_conflict, own_path_costs}
 use Rattle.mapf_grid.proofs.Lists.{build, sum_by-le}
 use Rattle.mapf_tree.specs.Prelude.{cost, Conflict, IsFirstConflict, HasNoConflict, IsValid, path_of, plan_cost, Obeys, Problem, Side, Left, Right, turn, TreeNode, HasPlan, InTree, root, side, side_of, root_of, IsSolution, PlannedNode, ObeyedIsInCost, ObeysNode, DepthIsBounded, AnswerIsOptimum, NoneIsNone}
 use Rattle.mapf_tree.proofs.Branch.{obeys_one_side}

@@ -1,6 +1,5 @@
 -- Lists in which no element stands twice are no longer than the lists that they lie in.
-use Rattle.std.proofs.Common.{◌≡◌, ◌⊎◌, suc, ◌≤◌, List, [], ◌∷◌, length, inl, inr, subst, sym, refl, ap, ◌∙◌, ⊎_elim, arith, Contains}
-use Rattle.mapf_tree.proofs.Prelude.{nowhere, here, there, here_or_there}
+use Rattle.mapf_tree.proofs.Prelude.{◌≡◌, ◌⊎◌, suc, ◌≤◌, List, [], ◌∷◌, length, inl, inr, subst, sym, refl, ap, ◌∙◌, ⊎_elim, arith, Contains, nowhere, here, there, here_or_there}
 
 -- no element stands twice
 abbrev pub Distinct : {X : Type 0} → List X → Type 0

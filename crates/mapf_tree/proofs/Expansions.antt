@@ -1,11 +1,10 @@
 -- One step of a search over nodes.
-use Rattle.std.proofs.Common.{◌≡◌, ◌⊎◌, ℕ, ◌+◌, ◌<◌, ◌≤◌, min, List, [], ◌∷◌, Bool, true, false, Option, Some, None, is_some, IsSome, not, Result, Ok, inl, inr, subst, sym, refl, ap, ◌∙◌, ⊎_elim, arith, Contains}
+use Rattle.mapf_tree.proofs.Prelude.{◌≡◌, ◌⊎◌, ℕ, ◌+◌, ◌<◌, ◌≤◌, min, List, [], ◌∷◌, Bool, true, false, Option, Some, None, is_some, IsSome, not, Result, Ok, inl, inr, subst, sym, refl, ap, ◌∙◌, ⊎_elim, arith, Contains, nowhere, here}
 use Rattle.mapf_tree.specs.Prelude.{NoMemory, IsLeast, plan_cost, HasNoConflict, IsValid, Conflict, Key, Left, Right}
 use Rattle.mapf_tree.specs.declared.search.expansion.Expansion.TheVariants as variant
 use Rattle.mapf_tree.specs.Prelude.{key_rank, root_of, key, IsAnswer, PlannedNode, IsMember, IsRoot, IsBranching, IsChildOf, IsRising, IsAddedIfSome, Answer}
 use Rattle.mapf_plan.specs.declared.answer.Answer.TheVariants as answer
 use Rattle.mapf_tree.specs.Prelude.{Problem, IsLimit, IsReached, IsWaiting, IsTakenTo, NoneSolves, IsLawful, IsCounted, TakesBetween, most_counted, IsSearchAt, ExpandsLeast, TakesLeast, IsGivenUp, GoesUpTo, TakesOne, Node, node_key, AllStand, HasNodeFor}
-use Rattle.mapf_tree.proofs.Prelude.{nowhere, here}
 use Rattle.mapf_tree.proofs.SearchLaws.{reached_now, reached_then, next_waits, ends_at_first, ends_at_none, starts}
 use Rattle.mapf_tree.proofs.Limits.{least_is_below, is_cut, solved_before, empty_before, as_stated, as_given_up}
 use Rattle.mapf_tree.proofs.GoingOn.{takes_none, takes_more}

@@ -1,6 +1,5 @@
 -- A following conflict by its follower and its leader, and by its sides, of which the smaller agent is the left one.
-use Rattle.std.proofs.Common.{◌≡◌, ◌≢◌, ℕ, ◌-◌, ◌≤◌, ◌==◌, if◌then◌else◌, List, Bool, true, false, min, max, subst, sym, refl, ap, arith}
-use Rattle.mapf_tree.proofs.Prelude.{eq-eqb, ne_eqb, both_of, of_both}
+use Rattle.mapf_tree.proofs.Prelude.{◌≡◌, ◌≢◌, ℕ, ◌-◌, ◌≤◌, ◌==◌, if◌then◌else◌, List, Bool, true, false, min, max, subst, sym, refl, ap, arith, eq-eqb, ne_eqb, both_of, of_both}
 use Rattle.mapf_tree.specs.Prelude.{place}
 
 -- agent k's part where agent i follows: the follower is on the cell at that time, and the leader was one time step before

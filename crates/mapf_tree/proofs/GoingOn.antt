@@ -1,7 +1,6 @@
 -- A search over many steps, and its answer.
-use Rattle.std.proofs.Common.{◌≡◌, ◌⊎◌, ℕ, ◌+◌, ◌<◌, ◌≤◌, List, [], ◌∷◌, Option, Some, None, Result, Ok, Err, IfOk, inl, inr, subst, sym, refl, ◌∙◌, ⊎_elim, arith, Contains}
+use Rattle.mapf_tree.proofs.Prelude.{◌≡◌, ◌⊎◌, ℕ, ◌+◌, ◌<◌, ◌≤◌, List, [], ◌∷◌, Option, Some, None, Result, Ok, Err, IfOk, inl, inr, subst, sym, refl, ◌∙◌, ⊎_elim, arith, Contains, nowhere, here, there, here_or_there}
 use Rattle.mapf_tree.specs.Prelude.{ok_or, NoMemory, Answer, Working, Finished, Problem, PlannedNode, IsMember, IsReached, Searched, IsSearch, IsLawful, IsEnded, TakesBetween, answer_of, IsStated, IsAnswerUpTo, IsAnswerOf, IsBestAnswer, TakesOne, IsStep}
-use Rattle.mapf_tree.proofs.Prelude.{nowhere, here, there, here_or_there}
 use Rattle.mapf_tree.specs.declared.search.progress.Progress.{Progress}
 use Rattle.mapf_tree.proofs.Descent.{answer_is_optimum, none_is_none}
 use Rattle.mapf_tree.proofs.Limits.{cut_is_below}

@@ -1,7 +1,6 @@
 -- The order of keys is that of their ranks.
-use Rattle.std.proofs.Common.{◌≡◌, ◌⊎◌, ◌↔◌, ℕ, ◌<◌, List, [], ◌∷◌, Less, Equal, Greater, nat_cmp, inl, inr, refl, sym, ap, ◌∙◌, arith}
+use Rattle.mapf_tree.proofs.Prelude.{◌≡◌, ◌⊎◌, ◌↔◌, ℕ, ◌<◌, List, [], ◌∷◌, Less, Equal, Greater, nat_cmp, inl, inr, refl, sym, ap, ◌∙◌, arith, cases_order, nat_tests}
 use Rattle.mapf_tree.specs.Prelude.{ordering_then, slice_cmp, Precedes}
-use Rattle.mapf_tree.proofs.Prelude.{cases_order, nat_tests}
 
 -- std compares numbers by their order
 pub cmp_less : (a b : ℕ) → a < b → nat_cmp a b ≡ Less

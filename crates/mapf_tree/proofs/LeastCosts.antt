@@ -1,6 +1,5 @@
 -- An agent's path costs no less where the agent is forbidden more.
-use Rattle.std.proofs.Common.{ℕ, ◌<◌, ◌≤◌, List, [], length, get_or, inr, subst, sym, ap, ◌∙◌, arith}
-use Rattle.mapf_tree.proofs.Prelude.{get_or-le-sum_by, first_le, AllByRecursion-fewer}
+use Rattle.mapf_tree.proofs.Prelude.{ℕ, ◌<◌, ◌≤◌, List, [], length, get_or, inr, subst, sym, ap, ◌∙◌, arith, get_or-le-sum_by, first_le, AllByRecursion-fewer}
 use Rattle.mapf_tree.specs.Prelude.{cost, path_of, Constraint, Breaks, Problem, IsAllowedFor, IsOwnPathOf, PlannedNode, constraints_of, Node, StandsFor, Leaves}
 use Rattle.mapf_tree.proofs.ConstraintSets.{IsWith}
 

@@ -1,6 +1,5 @@
 -- The limit on nodes: where a search gives up, and where it doesn't.
-use Rattle.std.proofs.Common.{◌≡◌, ℕ, ◌<◌, ◌≤◌, List, ◌∷◌, length, map, Option, Some, None, inl, inr, subst, sym, refl, ap, ◌∙◌, ⊎_elim, arith, Contains}
-use Rattle.mapf_tree.proofs.Prelude.{cases_lt, by_cases, here_or_there, by_compare, irreflexive, asymmetric, transitive, before_le, first_le}
+use Rattle.mapf_tree.proofs.Prelude.{◌≡◌, ℕ, ◌<◌, ◌≤◌, List, ◌∷◌, length, map, Option, Some, None, inl, inr, subst, sym, refl, ap, ◌∙◌, ⊎_elim, arith, Contains, cases_lt, by_cases, here_or_there, by_compare, irreflexive, asymmetric, transitive, before_le, first_le}
 use Rattle.mapf_tree.specs.Prelude.{Precedes, IsLeast, plan_cost, HasNoConflict, IsValid, Answer}
 use Rattle.mapf_plan.specs.declared.answer.Answer.TheVariants as answer
 use Rattle.mapf_tree.proofs.Prelude.{first_conflict}

@@ -1,6 +1,5 @@
 -- What a search knows of the cost of each plan without conflict holds of all of them.
-use Rattle.std.proofs.Common.{◌≡◌, ℕ, ◌+◌, ◌≤◌, List, [], ◌∷◌, take, Option, Some, None, Result, Ok, Err, inl, inr, subst, sym, refl, ap, ◌∙◌, ⊎_elim, arith, Contains}
-use Rattle.mapf_tree.proofs.Prelude.{cases_lt, here}
+use Rattle.mapf_tree.proofs.Prelude.{◌≡◌, ℕ, ◌+◌, ◌≤◌, List, [], ◌∷◌, take, Option, Some, None, Result, Ok, Err, inl, inr, subst, sym, refl, ap, ◌∙◌, ⊎_elim, arith, Contains, cases_lt, here}
 use Rattle.mapf_tree.specs.Prelude.{NoMemory, IsLeast, plan_cost, Answer}
 use Rattle.mapf_plan.specs.declared.answer.Answer.TheVariants as answer
 use Rattle.mapf_tree.specs.Prelude.{Problem, Key, key, key_rank, Node, node_key, AllStand, HasNodeFor, IsBestAnswer, IsRising, IsLawful, IsLeastCost, IsLowerBound, IsBelowAll, least_stated}

@@ -1,7 +1,6 @@
 -- Each side's constraint is new, and there are so many constraints at most: so no name is long.
-use Rattle.std.proofs.Common.{◌≡◌, ◌≢◌, ℕ, ◌<◌, ◌≤◌, ◌+◌, ◌-◌, ◌*◌, List, [], ◌∷◌, length, get_or, subst, subst₂, sym, ◌∙◌, arith, length-set, length-append, All, Contains}
+use Rattle.mapf_tree.proofs.Prelude.{◌≡◌, ◌≢◌, ℕ, ◌<◌, ◌≤◌, ◌+◌, ◌-◌, ◌*◌, List, [], ◌∷◌, length, get_or, subst, subst₂, sym, ◌∙◌, arith, length-set, length-append, All, Contains, length-replicate, get_or-replicate, All-nil, All-cons, All-contains, All-from_recursion, All-from_get_or, set_cases, first_early}
 use Rattle.mapf_tree.specs.Prelude.{sum_by, IsFree, Next, IsPath, Conflict, Rule, IsConflict, IsFirstConflict, path_of, place, conflict_time, Constraint, Breaks, Obeys, Problem, Side, Left, Right, TreeNode, HasPlan, InTree, root, side, side_of, constraints_of, constraint_on, agent_on, root_of, ConstraintIsNew, ConstraintIsEarly, HoldsGrid}
-use Rattle.mapf_tree.proofs.Prelude.{length-replicate, get_or-replicate, All-nil, All-cons, All-contains, All-from_recursion, All-from_get_or, set_cases, first_early}
 use Rattle.std.proofs.lemmas.List.Sums.{sum_by-set, sum_by-le}
 use Rattle.std.proofs.lemmas.List.Folds.{sum_by-replicate}
 use Rattle.mapf_plan.specs.declared.conflict.Conflict.TheVariants.{Vertex, Swapping, Following}

@@ -1,7 +1,6 @@
 -- Names are in the order of their turns: by their numbers, then by how many turns these keep, and then by what is behind them.
-use Rattle.std.proofs.Common.{◌≡◌, ℕ, zero, suc, ◌+◌, ◌*◌, ◌^◌, ◌<◌, ◌≤◌, List, [], ◌∷◌, ◌++◌, length, map, Ordering, Less, Equal, Greater, nat_cmp, refl, sym, ap, ap₂, ◌∙◌, arith}
+use Rattle.mapf_tree.proofs.Prelude.{◌≡◌, ℕ, zero, suc, ◌+◌, ◌*◌, ◌^◌, ◌<◌, ◌≤◌, List, [], ◌∷◌, ◌++◌, length, map, Ordering, Less, Equal, Greater, nat_cmp, refl, sym, ap, ap₂, ◌∙◌, arith, nat_tests}
 use Rattle.mapf_tree.specs.Prelude.{ordering_then, slice_cmp, Side, Left, Right, turn, number_of, turns_of, IsKept}
-use Rattle.mapf_tree.proofs.Prelude.{nat_tests}
 use Rattle.mapf_tree.proofs.Keyed.{cmp_less, cmp_greater}
 use Rattle.mapf_tree.proofs.NameTurns.{number_below, length_turns}
 

@@ -1,6 +1,5 @@
 -- The answer for one agent.
-use Rattle.std.proofs.Common.{◌≡◌, ℕ, zero, suc, ◌<◌, List, [], ◌∷◌, length, subst, sym, refl, ◌∙◌, arith, Some, None}
-use Rattle.mapf_tree.proofs.Prelude.{sum_by-cons, irreflexive}
+use Rattle.mapf_tree.proofs.Prelude.{◌≡◌, ℕ, zero, suc, ◌<◌, List, [], ◌∷◌, length, subst, sym, refl, ◌∙◌, arith, Some, None, sum_by-cons, irreflexive}
 use Rattle.mapf_tree.specs.Prelude.{Precedes, cost, Rule, HasNoConflict, path_of, Problem, IsAllowedFor, IsOwnPathOf, TreeNode, HasPlan, InTree, root, side, root_of, constraints_of, key, IsSolution, IsAnswer, OneAgentsAnswer}
 use Rattle.mapf_plan.specs.declared.conflict.Conflict.TheVariants.{Vertex, Swapping, Following}
 use Rattle.mapf_tree.proofs.Plans.{same_plan}

@@ -1,6 +1,5 @@
 -- Which nodes of the tree a list of nodes stands for, when a node is taken out or put in.
-use Rattle.std.proofs.Common.{◌≡◌, ◌≢◌, ◌⊎◌, ◌↔◌, ℕ, List, ◌∷◌, length, map, Option, Some, None, inl, inr, subst, sym, refl, ap, ap₂, ◌∙◌, ⊎_elim, Contains}
-use Rattle.mapf_tree.proofs.Prelude.{All-contains, All-from_recursion, here, there, here_or_there, irreflexive, asymmetric, same_first}
+use Rattle.mapf_tree.proofs.Prelude.{◌≡◌, ◌≢◌, ◌⊎◌, ◌↔◌, ℕ, List, ◌∷◌, length, map, Option, Some, None, inl, inr, subst, sym, refl, ap, ap₂, ◌∙◌, ⊎_elim, Contains, All-contains, All-from_recursion, here, there, here_or_there, irreflexive, asymmetric, same_first}
 use Rattle.mapf_tree.specs.Prelude.{Precedes, IsLeast, Conflict, plan_cost, HasNoConflict, IsFirstConflict, Side, Left, Right, Problem, turn, TreeNode, HasPlan, root_of, side_of, key, PlannedNode, IsMember, IsChild, Node, node_key, StandsFor, IsConflictOf, AllStand, HasNodeFor, IsRoot, IsSide, IsRising, IsPut, IsAddedIfSome, ExpandsLeast}
 use Rattle.mapf_tree.proofs.Plans.{same_plan}
 use Rattle.mapf_tree.proofs.Unique.{same_member}

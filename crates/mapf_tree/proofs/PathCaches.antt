@@ -1,7 +1,6 @@
 -- What a path cache remembers.
-use Rattle.std.proofs.Common.{◌≡◌, ◌⊎◌, ℕ, zero, suc, ◌+◌, ◌<◌, ◌≤◌, List, [], ◌∷◌, ◌++◌, length, get_or, set, replicate, Option, Some, None, IsSome, subst, subst₂, sym, refl, ap, ◌∙◌, inl, inr, ⊎_elim, arith, get_or-set_same, get_or-set_other}
+use Rattle.mapf_tree.proofs.Prelude.{◌≡◌, ◌⊎◌, ℕ, zero, suc, ◌+◌, ◌<◌, ◌≤◌, List, [], ◌∷◌, ◌++◌, length, get_or, set, replicate, Option, Some, None, IsSome, subst, subst₂, sym, refl, ap, ◌∙◌, inl, inr, ⊎_elim, arith, get_or-set_same, get_or-set_other, get_or-le-sum_by, get_or_from_slice_get, slice_get_within, slice_get-get_or, IfSome_then, below_more, set_cases, own_path_costs, same_own, own_set}
 use Rattle.std.proofs.lemmas.List.{length-set, length_push, length-append, length-replicate, get_or-replicate, get_or_append_left, get_or_push}
-use Rattle.mapf_tree.proofs.Prelude.{get_or-le-sum_by, get_or_from_slice_get, slice_get_within, slice_get-get_or, IfSome_then, below_more, set_cases, own_path_costs, same_own, own_set}
 use Rattle.mapf_tree.specs.Prelude.{slice_get, slice_index, option_map, cost, path_of, plan_cost, Conflict, Constraint, Side, Path, NoneWithin, ConstraintSet, Problem, Changed, Node, IsSameSet, IsConflictOf, IsBranching, IsChildOf, IsOwnWithin, Leaves, SideQuery, IsQueryOf, IsFoundBy, IsAllowedFor, IsOwnPathOf, agent_on, constraint_on, constraints_of, PathCache, HasSet, IsExtension, AreExtensions, IsExtended, AreKnown, IsCachedPath, IsOwnIn, IsNumberOf, IsAskedAt, IsTurnAt, HasNoTurnAt, GivesOwn, HasPath, AreFirst, AreFirstPaths, AreSetsOf}
 use Rattle.mapf_tree.specs.declared.own_paths.constraint_sets.Extension.{Extension}
 use Rattle.mapf_tree.specs.declared.own_paths.constraint_sets.CachedPath.{CachedPath}

@@ -1,7 +1,6 @@
 -- The plan of a node: there is one at most, and whether there is one can be decided.
-use Rattle.std.proofs.Common.{◌≡◌, ◌⊎◌, ℕ, ◌<◌, ◌≤◌, List, [], length, get_or, inl, inr, subst, sym, ap, ◌∙◌, ext_get_or, ⊎_elim, arith}
+use Rattle.mapf_tree.proofs.Prelude.{◌≡◌, ◌⊎◌, ℕ, ◌<◌, ◌≤◌, List, [], length, get_or, inl, inr, subst, sym, ap, ◌∙◌, ext_get_or, ⊎_elim, arith, dec_map, build_or, own_path, same_own}
 use native.Mathlib.Decide.{dec_le}
-use Rattle.mapf_tree.proofs.Prelude.{dec_map, build_or, own_path, same_own}
 use Rattle.mapf_tree.specs.Prelude.{cost, path_of, plan_cost, Problem, IsAllowedFor, IsOwnPathOf, TreeNode, HasPlan, constraints_of}
 
 -- a path that agent i may take under a node

@@ -1,6 +1,5 @@
 -- How many nodes of the tree are not taken yet: the measure of a search.
-use Rattle.std.proofs.Common.{◌≡◌, ◌↔◌, ℕ, ◌+◌, ◌<◌, ◌≤◌, List, [], ◌∷◌, length, Option, Some, None, subst, sym, refl, ⊎_elim, arith, Contains}
-use Rattle.mapf_tree.proofs.Prelude.{here, nowhere, here_or_there, transitive, le_before}
+use Rattle.mapf_tree.proofs.Prelude.{◌≡◌, ◌↔◌, ℕ, ◌+◌, ◌<◌, ◌≤◌, List, [], ◌∷◌, length, Option, Some, None, subst, sym, refl, ⊎_elim, arith, Contains, here, nowhere, here_or_there, transitive, le_before}
 use Rattle.mapf_tree.specs.Prelude.{Problem, key, PlannedNode, IsMember, IsReached, TakesBetween}
 use Rattle.mapf_tree.proofs.Finite.{members}
 use Rattle.mapf_tree.proofs.SearchLaws.{dec_reached}

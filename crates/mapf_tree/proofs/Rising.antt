@@ -1,9 +1,8 @@
--- Nodes in strict order by key, and a list of them with one node put in.
-use Rattle.std.proofs.Common.{◌≡◌, ℕ, List, [], ◌∷◌, Less, Equal, Greater, Ordering, nat_cmp, inl, inr, refl, subst, sym, ap, ◌∙◌, ⊎_elim, Contains}
+-- Nodes in strict order by key, and a list of them with one node put in. std keeps them backwards.
+use Rattle.mapf_tree.proofs.Prelude.{◌≡◌, ℕ, List, [], ◌∷◌, ◌++◌, reverse, Less, Equal, Greater, Ordering, nat_cmp, inl, inr, refl, subst, sym, ap, ◌∙◌, ⊎_elim, Contains, All-push, Contains-append_left, Contains-append_right, recursion_from_All, reverse-append, reverse-reverse, All-contains, All-from_recursion, nowhere, here, there, here_or_there, by_compare, before_is_other, transitive}
 use Rattle.std.specs.BTreeSet.{insert_key}
-use Rattle.mapf_tree.specs.Prelude.{IsTotalOrder, nat_cmp_total, tied_itself, slice_cmp, lists_total, AllByRecursion, ordering_reverse, match_ordering, Precedes, Node, node_key, by_key, IsRising, IsPut}
 use Rattle.std.specs.List.Sorted.{IsStrictlySortedBy}
-use Rattle.mapf_tree.proofs.Prelude.{All-contains, All-from_recursion, nowhere, here, there, here_or_there, by_compare, before_is_other, transitive}
+use Rattle.mapf_tree.specs.Prelude.{IsTotalOrder, nat_cmp_total, tied_itself, slice_cmp, lists_total, ordering_reverse, match_ordering, Precedes, Node, node_key, by_key, IsRising, IsPut}
 use Rattle.mapf_tree.proofs.Keyed.{Precedes-slice_cmp}
 
 -- ranks are in a total order
@@ -20,40 +19,56 @@ lesser_rank p q h = (Precedes-slice_cmp p q).1 h
 greater_rank : (p q : List ℕ) → Precedes q p → slice_cmp nat_cmp p q ≡ Greater
 greater_rank p q h = total.antisymm p q ∙ ap ordering_reverse (lesser_rank q p h)
 
--- nodes that std keeps in order rise
-pub sorted_rises : (ns : List Node) → IsStrictlySortedBy by_key ns → IsRising ns
+-- the elements of a list stand in it backwards, too
+in_reverse : (ns : List Node) (m : Node) → Contains ns m → Contains (reverse ns) m
+in_reverse [] m i = absurd (nowhere i)
+in_reverse (n ∷ ns) m i =
+    subst (λ l. Contains l m) (sym (reverse-append (n ∷ []) ns))
+    (⊎_elim (λ e. Contains-append_right (reverse ns) (n ∷ []) m (here [] e)) (λ j. Contains-append_left (reverse ns) (n ∷ []) m (in_reverse ns m j)) (here_or_there ns i))
+
+of_reverse : (ns : List Node) (m : Node) → Contains (reverse ns) m → Contains ns m
+of_reverse ns m i = subst (λ l. Contains l m) (reverse-reverse ns) (in_reverse (reverse ns) m i)
+
+-- the first that std keeps comes after all others
+last_of_all : (n : Node) (ns : List Node) → IsStrictlySortedBy by_key (n ∷ ns) → (m : Node) → Contains ns m → Precedes (node_key m) (node_key n)
+unfolding IsStrictlySortedBy
+last_of_all n ns s m i =
+    (Precedes-slice_cmp (node_key m) (node_key n)).0 (All-contains (λ k. by_key n k ≡ Less) ns m (All-from_recursion (λ k. by_key n k ≡ Less) ns s.0) i)
+
+-- a rising list and a node that comes after all of it
+rises_push : (ns : List Node) (n : Node) → IsRising ns → ((m : Node) → Contains ns m → Precedes (node_key m) (node_key n)) → IsRising (ns ++ n ∷ [])
+rises_push [] n r h = (tt, tt)
+rises_push (k ∷ ns) n r h =
+    let P : Node → Type 0 = λ m. Precedes (node_key k) (node_key m) in
+    (recursion_from_All P (ns ++ n ∷ []) (All-push P ns n (All-from_recursion P ns r.0) (h k (here ns refl))), rises_push ns n r.1 (λ m i. h m (there ns i)))
+
+-- nodes that std keeps in order rise backwards
+pub sorted_rises : (ns : List Node) → IsStrictlySortedBy by_key ns → IsRising (reverse ns)
 unfolding IsStrictlySortedBy
 sorted_rises [] h = tt
-sorted_rises (n ∷ ns) h = (before ns h.0, sorted_rises ns h.1)
-  where
-    before : (ms : List Node) → AllByRecursion (λ m. by_key n m ≡ Less) ms → AllByRecursion (λ m. Precedes (node_key n) (node_key m)) ms
-    before [] a = tt
-    before (m ∷ ms) a = ((Precedes-slice_cmp (node_key n) (node_key m)).0 a.0, before ms a.1)
+sorted_rises (n ∷ ns) h =
+    subst IsRising (sym (reverse-append (n ∷ []) ns)) (rises_push (reverse ns) n (sorted_rises ns h.1) (λ m i. last_of_all n ns h m (of_reverse ns m i)))
 
--- the first of a rising list comes before all others
-first_before : (n : Node) (ns : List Node) → IsRising (n ∷ ns) → (m : Node) → Contains ns m → Precedes (node_key n) (node_key m)
-first_before n ns r m = All-contains (λ k. Precedes (node_key n) (node_key k)) ns m (All-from_recursion (λ k. Precedes (node_key n) (node_key k)) ns r.0)
-
-module _ (x node : Node) (xs later : List Node) (rising : IsRising (x ∷ xs)) where
+module _ (x node : Node) (xs later : List Node) (sorted : IsStrictlySortedBy by_key (x ∷ xs)) where
   -- the first has its key
   over : node_key node ≡ node_key x → IsPut (x ∷ xs) node (x ∷ xs)
   over e = inl ((x, here xs refl, sym e), refl)
 
-  -- it stands before all
-  ahead : Precedes (node_key node) (node_key x) → IsPut (x ∷ xs) node (node ∷ x ∷ xs)
+  -- it comes after all
+  ahead : Precedes (node_key x) (node_key node) → IsPut (x ∷ xs) node (node ∷ x ∷ xs)
   ahead h = inr (
-    (λ k i e. before_is_other (node_key node) (node_key k) (before k i) (sym e)),
+    (λ k i e. before_is_other (node_key k) (node_key node) (before k i) e),
     λ n. ((λ c. ⊎_elim (λ f. inl (sym f)) inr (here_or_there (x ∷ xs) c)), ⊎_elim (λ f. here (x ∷ xs) (sym f)) (there (x ∷ xs))),
   )
     where
-      before : (k : Node) → Contains (x ∷ xs) k → Precedes (node_key node) (node_key k)
-      before k i = ⊎_elim (λ f. subst (λ m. Precedes (node_key node) (node_key m)) f h) (λ j. transitive (node_key node) (node_key x) (node_key k) h (first_before x xs rising k j)) (here_or_there xs i)
+      before : (k : Node) → Contains (x ∷ xs) k → Precedes (node_key k) (node_key node)
+      before k i = ⊎_elim (λ f. subst (λ m. Precedes (node_key m) (node_key node)) f h) (λ j. transitive (node_key k) (node_key x) (node_key node) (last_of_all x xs sorted k j) h) (here_or_there xs i)
 
-  -- it stands behind the first
-  behind : Precedes (node_key x) (node_key node) → IsPut xs node later → IsPut (x ∷ xs) node (x ∷ later)
+  -- it comes before the first
+  behind : Precedes (node_key node) (node_key x) → IsPut xs node later → IsPut (x ∷ xs) node (x ∷ later)
   behind h (inl (other, same)) = inl ((other.0, there xs other.1, other.2), ap (λ l. x ∷ l) same)
   behind h (inr (none, puts)) = inr (
-    (λ k i e. ⊎_elim (λ f. before_is_other (node_key x) (node_key node) h (ap node_key f ∙ e)) (λ j. none k j e) (here_or_there xs i)),
+    (λ k i e. ⊎_elim (λ f. before_is_other (node_key node) (node_key x) h (sym (ap node_key f ∙ e))) (λ j. none k j e) (here_or_there xs i)),
     λ n. (
       (λ c. ⊎_elim (λ f. inr (here xs f)) (λ i. ⊎_elim inl (λ j. inr (there xs j)) ((puts n).0 i)) (here_or_there later c)),
       ⊎_elim (λ f. there later ((puts n).1 (inl f))) (λ i. ⊎_elim (here later) (λ j. there later ((puts n).1 (inr j))) (here_or_there xs i)),
@@ -62,13 +77,28 @@ module _ (x node : Node) (xs later : List Node) (rising : IsRising (x ∷ xs)) w
 
   put_at : IsPut xs node later → IsPut (x ∷ xs) node (match_ordering (by_key node x) (node ∷ x ∷ xs) (x ∷ xs) (x ∷ later))
   put_at others =
-      by_compare (node_key node) (node_key x) (λ e. by (equal_ranks (node_key node) (node_key x) e) (over e)) (λ h. by (lesser_rank (node_key node) (node_key x) h) (ahead h))
-      (λ h. by (greater_rank (node_key node) (node_key x) h) (behind h others))
+      by_compare (node_key node) (node_key x) (λ e. by (equal_ranks (node_key x) (node_key node) (sym e)) (over e)) (λ h. by (greater_rank (node_key x) (node_key node) h) (behind h others))
+      (λ h. by (lesser_rank (node_key x) (node_key node) h) (ahead h))
     where
       by : {o : Ordering} → by_key node x ≡ o → IsPut (x ∷ xs) node (match_ordering o (node ∷ x ∷ xs) (x ∷ xs) (x ∷ later)) → IsPut (x ∷ xs) node (match_ordering (by_key node x) (node ∷ x ∷ xs) (x ∷ xs) (x ∷ later))
       by e is = subst (λ o. IsPut (x ∷ xs) node (match_ordering o (node ∷ x ∷ xs) (x ∷ xs) (x ∷ later))) (sym e) is
 
 -- a node at its place, unless one has its key
-pub put_in : (old : List Node) (node : Node) → IsRising old → IsPut old node (insert_key by_key old node)
-put_in [] node r = inr ((λ k i e. nowhere i), λ n. ((λ c. ⊎_elim (λ e. inl (sym e)) (λ i. absurd (nowhere i)) (here_or_there [] c)), ⊎_elim (λ e. here [] (sym e)) (λ i. absurd (nowhere i))))
-put_in (x ∷ xs) node r = put_at x node xs (insert_key by_key xs node) r (put_in xs node r.1)
+put_in : (old : List Node) (node : Node) → IsStrictlySortedBy by_key old → IsPut old node (insert_key by_key old node)
+unfolding IsStrictlySortedBy
+put_in [] node s = inr ((λ k i e. nowhere i), λ n. ((λ c. ⊎_elim (λ e. inl (sym e)) (λ i. absurd (nowhere i)) (here_or_there [] c)), ⊎_elim (λ e. here [] (sym e)) (λ i. absurd (nowhere i))))
+put_in (x ∷ xs) node s = put_at x node xs (insert_key by_key xs node) s (put_in xs node s.1)
+
+-- and so it is backwards
+pub put_back : (old : List Node) (node : Node) → IsStrictlySortedBy by_key old → IsPut (reverse old) node (reverse (insert_key by_key old node))
+put_back old node s = back (put_in old node s)
+  where
+    back : IsPut old node (insert_key by_key old node) → IsPut (reverse old) node (reverse (insert_key by_key old node))
+    back (inl (k, same)) = inl ((k.0, in_reverse old k.0 k.1, k.2), ap reverse same)
+    back (inr (none, puts)) = inr (
+      (λ k i. none k (of_reverse old k i)),
+      λ n. (
+        (λ c. ⊎_elim inl (λ i. inr (in_reverse old n i)) ((puts n).0 (of_reverse (insert_key by_key old node) n c))),
+        λ c. in_reverse (insert_key by_key old node) n ((puts n).1 (⊎_elim inl (λ i. inr (of_reverse old n i)) c)),
+      ),
+    )

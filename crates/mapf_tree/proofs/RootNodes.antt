@@ -1,6 +1,5 @@
 -- From the own paths of all agents to the root of the tree.
-use Rattle.std.proofs.Common.{◌≡◌, ◌↔◌, ℕ, ◌<◌, ◌≤◌, ◌+◌, List, [], ◌∷◌, ◌++◌, length, get_or, replicate, Some, None, subst, sym, ap, ◌∙◌, arith, Contains}
-use Rattle.mapf_tree.proofs.Prelude.{get_or-replicate, length-replicate, length_push, get_or_append_left, get_or_push, below_more}
+use Rattle.mapf_tree.proofs.Prelude.{◌≡◌, ◌↔◌, ℕ, ◌<◌, ◌≤◌, ◌+◌, List, [], ◌∷◌, ◌++◌, length, get_or, replicate, Some, None, subst, sym, ap, ◌∙◌, arith, Contains, get_or-replicate, length-replicate, length_push, get_or_append_left, get_or_push, below_more}
 use Rattle.mapf_tree.specs.Prelude.{path_of, plan_cost, Constraint, Problem, IsOwnPathOf, HasPlan, root, root_of, constraints_of, AreChanges, unchanged, Node, IsConflictOf, IsRoot, IsOwn, AreRootPaths}
 use Rattle.mapf_tree.proofs.Plans.{OwnAt, dear_plan}
 

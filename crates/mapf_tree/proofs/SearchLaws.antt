@@ -1,6 +1,5 @@
 -- The steps of a search.
-use Rattle.std.proofs.Common.{◌≡◌, ◌≢◌, ◌⊎◌, ◌↔◌, ℕ, zero, suc, ◌<◌, ◌≤◌, List, [], ◌∷◌, length, get_or, set, Option, Some, None, inl, inr, subst, sym, refl, ap, ◌∙◌, ⊎_elim, arith, length-append, Contains}
-use Rattle.mapf_tree.proofs.Prelude.{cases_lt, by_compare, irreflexive, transitive, dec_precedes, le_before, by_cases, dec_not, own_path_costs}
+use Rattle.mapf_tree.proofs.Prelude.{◌≡◌, ◌≢◌, ◌⊎◌, ◌↔◌, ℕ, zero, suc, ◌<◌, ◌≤◌, List, [], ◌∷◌, length, get_or, set, Option, Some, None, inl, inr, subst, sym, refl, ap, ◌∙◌, ⊎_elim, arith, length-append, Contains, cases_lt, by_compare, irreflexive, transitive, dec_precedes, le_before, by_cases, dec_not, own_path_costs}
 use Rattle.mapf_tree.specs.Prelude.{Precedes, IsLeast, cost, Conflict, HasNoConflict, path_of, plan_cost, Constraint, Obeys, Problem, Side, TreeNode, HasPlan, InTree, root, side, side_of, constraint_on, agent_on, root_of, key, IsFirstSolution, IsAnswer, PlannedNode, IsMember, IsReached, IsChild, IsWaiting, IsSearchAt, Expands, TakesNext, EndsAtAnswer, SearchStarts}
 use Rattle.mapf_grid.proofs.Lists.{sum_by-le}
 use Rattle.mapf_tree.proofs.Plans.{AllowedAt}

@@ -1,7 +1,6 @@
 -- From a search for the agent of one side of a node's conflict to that side of the tree.
-use Rattle.std.proofs.Common.{◌≡◌, ℕ, ◌+◌, ◌<◌, ◌≤◌, List, [], ◌∷◌, ◌++◌, length, get_or, set, Option, Some, None, option_map, subst, subst₂, sym, ap, ◌∙◌, ⊎_elim, arith, get_or-set_same, get_or-set_other}
+use Rattle.mapf_tree.proofs.Prelude.{◌≡◌, ℕ, ◌+◌, ◌<◌, ◌≤◌, List, [], ◌∷◌, ◌++◌, length, get_or, set, Option, Some, None, option_map, subst, subst₂, sym, ap, ◌∙◌, ⊎_elim, arith, get_or-set_same, get_or-set_other, sum_by-set, get_or-le-sum_by, own_path, own_set, none_set, set_cases}
 use Rattle.std.proofs.lemmas.List.{length-set}
-use Rattle.mapf_tree.proofs.Prelude.{sum_by-set, get_or-le-sum_by, own_path, own_set, none_set, set_cases}
 use Rattle.mapf_tree.specs.Prelude.{Grid, Conflict, cost, IsFirstConflict, path_of, plan_cost, Constraint, IsOwnPath, Side, Problem, IsOwnPathOf, TreeNode, HasPlan, side, side_of, agent_on, constraint_on, constraints_of, PlannedNode, AreChanges, turned, Node, StandsFor, IsConflictOf, IsSameSet, IsSide, IsOwn, IsOwnWithin, Leaves, NoneIsDearer}
 use Rattle.mapf_low.proofs.HigherBounds.{own_by_bound}
 use Rattle.mapf_tree.proofs.Branch.{agent_below}

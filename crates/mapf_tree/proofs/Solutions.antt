@@ -1,6 +1,5 @@
 -- The tree's nodes are a list, so it has a least solution or none.
-use Rattle.std.proofs.Common.{Some, None, ⊎_elim}
-use Rattle.mapf_tree.proofs.Prelude.{least_by, first_conflict}
+use Rattle.mapf_tree.proofs.Prelude.{Some, None, ⊎_elim, least_by, first_conflict}
 use Rattle.mapf_tree.specs.Prelude.{Problem, key, IsSolution, PlannedNode, IsMember, AnswerExists}
 use Rattle.mapf_tree.proofs.Finite.{members}
 

@@ -1,6 +1,5 @@
 -- Each agent's table of distances.
-use Rattle.std.proofs.Common.{◌≡◌, ℕ, ◌<◌, List, [], length, get_or, slice_index, Option, subst, sym, ◌∙◌, arith}
-use Rattle.mapf_tree.proofs.Prelude.{get_or_default}
+use Rattle.mapf_tree.proofs.Prelude.{◌≡◌, ℕ, ◌<◌, List, [], length, get_or, slice_index, Option, subst, sym, ◌∙◌, arith, get_or_default}
 use Rattle.mapf_tree.specs.Prelude.{AreDistances, Problem, IsReady}
 
 -- the table at an agent's place has the distances of the agent's goal

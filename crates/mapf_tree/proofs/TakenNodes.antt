@@ -1,6 +1,5 @@
 -- How many nodes a search can take.
-use Rattle.std.proofs.Common.{List, [], ◌∷◌, length}
-use Rattle.mapf_tree.proofs.Prelude.{All-from_recursion, All-contains}
+use Rattle.mapf_tree.proofs.Prelude.{List, [], ◌∷◌, length, All-from_recursion, All-contains}
 use Rattle.mapf_tree.specs.Prelude.{PlannedNode, IsMember, EachOnce, TakenAreBounded}
 use Rattle.mapf_tree.proofs.Distinct.{Distinct, distinct_le}
 use Rattle.mapf_tree.proofs.Finite.{members}

@@ -1,6 +1,5 @@
 -- Pairs of the tree are determined by their names, and the answer by the instance.
-use Rattle.std.proofs.Common.{◌≡◌, List, [], ◌∷◌, map, length, Some, None, subst, refl, ap, ap₂, ◌∙◌, arith, length-append}
-use Rattle.mapf_tree.proofs.Prelude.{same_from_push, same_rank, same_first}
+use Rattle.mapf_tree.proofs.Prelude.{◌≡◌, List, [], ◌∷◌, map, length, Some, None, subst, refl, ap, ap₂, ◌∙◌, arith, length-append, same_from_push, same_rank, same_first}
 use Rattle.mapf_tree.specs.Prelude.{IsFirstConflict, Problem, Side, Left, Right, turn, TreeNode, HasPlan, InTree, root, side, side_of, key, IsSolution, PlannedNode, IsMember, AnswerIsUnique}
 use Rattle.mapf_tree.proofs.Plans.{same_plan}
 

@@ -1,7 +1,6 @@
 -- The constraints that a tree can have are so many at most.
-use Rattle.std.proofs.Common.{◌≡◌, ◌≢◌, ℕ, zero, suc, ◌≤◌, ◌+◌, ◌*◌, List, [], ◌∷◌, ◌++◌, map, length, true, refl, ap, ap₂, ◌∙◌, arith, length-append, Contains}
+use Rattle.mapf_tree.proofs.Prelude.{◌≡◌, ◌≢◌, ℕ, zero, suc, ◌≤◌, ◌+◌, ◌*◌, List, [], ◌∷◌, ◌++◌, map, length, true, refl, ap, ap₂, ◌∙◌, arith, length-append, Contains, length-map, Contains-append_left, Contains-append_right, slice_get_within, below, Contains-below, Contains-map, Contains-flat_map}
 use Rattle.mapf_tree.specs.Prelude.{flat_map, Grid, IsFree, Next, Constraint, HoldsGrid}
-use Rattle.mapf_tree.proofs.Prelude.{length-map, Contains-append_left, Contains-append_right, slice_get_within, below, Contains-below, Contains-map, Contains-flat_map}
 use Rattle.mapf_low.specs.declared.constraint.Constraint.TheVariants.{Vertex, Edge}
 use Rattle.mapf_low.specs.Times.{time_of}
 

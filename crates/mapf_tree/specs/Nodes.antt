@@ -1,9 +1,9 @@
 -- A node as contracts see it: as a chain of changes from the root, and which node of the tree it stands for (Sharon et al. 2015:
 -- a child has one constraint more for one agent, and that agent's new path).
 use Rattle.std.specs.Prelude.{◌≡◌, ℕ, ◌<◌, ◌↔◌, List, [], ◌∷◌, ◌++◌, length, replicate, slice_set, slice_index_or, All, Option, MatchOption, Contains}
-use Rattle.std.specs.Cmp.{IsTotalOrder, on_total, nat_cmp_total}
+use Rattle.std.specs.Cmp.{IsTotalOrder, back_total, on_total, nat_cmp_total}
 use Rattle.std.specs.Cmp.Lexicographic.{slice_cmp, lists_total}
-use Rattle.std.specs.Ordering.{on, nat_cmp}
+use Rattle.std.specs.Ordering.{flip_args, on, nat_cmp}
 use Rattle.std.specs.declared.cmp.Ordering.{Ordering}
 use Rattle.mapf_plan.specs.declared.conflict.Conflict.{Conflict}
 use Rattle.mapf_plan.specs.declared.rule.Rule.{Rule}
@@ -53,13 +53,13 @@ node_of name root changes rule conflict = record {
 abbrev pub node_key : Node → List ℕ
 node_key n = rank (plan_cost n.plan) (length n.name) n.name
 
--- nodes are compared by their keys
+-- nodes are compared by their keys, the greatest first
 abbrev pub by_key : Node → Node → Ordering
-by_key = on node_key (slice_cmp nat_cmp)
+by_key = flip_args (on node_key (slice_cmp nat_cmp))
 
 -- it is an order
 pub by_key_total : IsTotalOrder by_key
-by_key_total = on_total node_key (lists_total nat_cmp_total)
+by_key_total = back_total (on_total node_key (lists_total nat_cmp_total))
 
 -- the plan's first conflict by the rule, or none where it has no conflict
 abbrev pub IsConflictOf : Rule → List (List ℕ) → Option Conflict → Type 0

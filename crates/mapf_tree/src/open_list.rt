@@ -10,18 +10,20 @@ use std::marker::Model;
 /// The nodes that wait, in the order of their keys; no two have one key.
 #[derive(Drop)]
 pub struct OpenList {
+    /// The greatest first.
     nodes: BTreeSet<Node>,
 }
 
 impl Model for OpenList {
-    ghost use Rattle.std.specs.Prelude.{List};
-    ghost use Rattle.mapf_tree.specs.Prelude.{Node, IsRising};
+    ghost use Rattle.std.specs.Prelude.{List, reverse};
+    ghost use Rattle.mapf_tree.specs.Prelude.{Node, by_key};
+    ghost use Rattle.std.specs.List.Sorted.{IsStrictlySortedBy};
 
     ghost Value = { List Node };
 
-    ghost view = { λ l. l.nodes.keys };
+    ghost view = { λ l. reverse l.nodes.keys };
 
-    ghost invariant = { λ l. IsRising l.nodes.keys };
+    ghost invariant = { λ l. IsStrictlySortedBy by_key l.nodes.keys };
 }
 
 impl OpenList {
@@ -63,7 +65,7 @@ impl OpenList {
         ensures taken { IsTaken self.old result self.new }
         ensures rising { IsRising self.old }
     {
-        self.nodes.pop_first()
+        self.nodes.pop_last()
     }
 
     /// The first so many of the nodes, in the order of their keys.
@@ -86,12 +88,12 @@ pub struct First<'a> {
 }
 
 impl<'a> Model for First<'a> {
-    ghost use Rattle.std.specs.Prelude.{List, take};
+    ghost use Rattle.std.specs.Prelude.{List, reverse, take};
     ghost use Rattle.mapf_tree.specs.Prelude.{Node};
 
     ghost Value = { List Node };
 
-    ghost view = { λ f. take f.left f.nodes };
+    ghost view = { λ f. take f.left (reverse f.nodes) };
 }
 
 impl<'a> Iterator for First<'a> {
@@ -106,6 +108,6 @@ impl<'a> Iterator for First<'a> {
             return None;
         }
         self.left -= 1;
-        self.nodes.next()
+        self.nodes.next_back()
     }
 }

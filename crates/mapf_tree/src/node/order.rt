@@ -1,4 +1,4 @@
-//! The order of nodes: that of their keys.
+//! The order of nodes: that of their keys, the greatest first.
 
 ghost use Rattle.mapf_tree.specs.Prelude.{eq_by_cmp_equiv, partial_equiv_from_equiv, partial_order_from_total, eq_by_cmp, as_partial_cmp, by_key, by_key_total};
 ghost use Rattle.std.proofs.Common.{rules};
@@ -31,7 +31,8 @@ impl PartialOrd for Node {
     }
 }
 
-/// Nodes are compared by their keys, by which each is told from all others of its tree.
+/// Nodes are compared by their keys, by which each is told from all others of its tree, the greatest first: std looks through a row of
+/// nodes from the front, and a child's key is greater than most.
 impl Ord for Node {
     ghost cmp = { by_key };
 
@@ -42,6 +43,6 @@ impl Ord for Node {
     ghost matches_eq = { Prim.search (comparing, rules) };
 
     fn cmp(&self, other: &Node) -> Ordering {
-        self.key().cmp(other.key())
+        other.key().cmp(self.key())
     }
 }

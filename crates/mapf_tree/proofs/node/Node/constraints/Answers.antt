@@ -1,8 +1,7 @@
-use Rattle.mapf_tree.proofs.Prelude.{IfOk-weaker}
 use Rattle.mapf_tree.proofs.Chains.{sets_at}
 use Rattle.mapf_tree.specs.Prelude.{Body}
 use Rattle.mapf_tree.proofs.node.Node.constraints.Goals as goal
-use Rattle.std.proofs.Common.{ap}
+use Rattle.mapf_tree.proofs.Prelude.{ap, IfOk-weaker}
 
 pub returns : goal.returns
 returns c =

@@ -1,5 +1,4 @@
-use Rattle.std.proofs.Common.{◌≡◌, length, arith}
-use Rattle.mapf_tree.proofs.Prelude.{nat_tests, common_steps}
+use Rattle.mapf_tree.proofs.Prelude.{◌≡◌, length, arith, nat_tests, common_steps}
 use Rattle.mapf_tree.proofs.Chains.{none_at_root}
 use Rattle.mapf_tree.proofs.node.Node.is_root.Goals as goal
 

@@ -1,5 +1,4 @@
-use Rattle.std.proofs.Common.{◌≡◌, ◌+◌, ◌-◌, ◌≤◌, set, [], ap, ◌∙◌, arith, Fits-le, Fits-lit}
-use Rattle.mapf_tree.proofs.Prelude.{sum_by-set}
+use Rattle.mapf_tree.proofs.Prelude.{◌≡◌, ◌+◌, ◌-◌, ◌≤◌, set, [], ap, ◌∙◌, arith, Fits-le, Fits-lit, sum_by-set}
 use Rattle.mapf_tree.specs.Prelude.{cost, path_of, plan_cost, Node, Body}
 use Rattle.mapf_tree.proofs.node.Node.key_with.Goals as goal
 

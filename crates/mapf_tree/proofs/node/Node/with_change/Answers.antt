@@ -1,5 +1,4 @@
-use Rattle.std.proofs.Common.{set, [], ◌∷◌, ◌++◌, ap, ap₂, ◌∙◌}
-use Rattle.mapf_tree.proofs.Prelude.{IfOk-weaker}
+use Rattle.mapf_tree.proofs.Prelude.{set, [], ◌∷◌, ◌++◌, ap, ap₂, ◌∙◌, IfOk-weaker}
 use Rattle.mapf_tree.specs.Prelude.{plan_cost, Changed, Node, Body}
 use Rattle.mapf_tree.proofs.Chains.{plan_turned, sets_turned, agrees_turned}
 use Rattle.mapf_tree.proofs.node.Node.with_change.Goals as goal

@@ -1,6 +1,5 @@
-use Rattle.std.proofs.Common.{map, None, subst, sym, ap, ◌∙◌}
+use Rattle.mapf_tree.proofs.Prelude.{map, None, subst, sym, ap, ◌∙◌, map_push}
 use Rattle.mapf_tree.specs.Prelude.{option_map, arc_value, AreFromStart, AreTables}
-use Rattle.mapf_tree.proofs.Prelude.{map_push}
 use Rattle.mapf_tree.proofs.StartTables.{right_with_none}
 use Rattle.mapf_tree.proofs.own_paths.OwnPaths.new.Goals as goal
 

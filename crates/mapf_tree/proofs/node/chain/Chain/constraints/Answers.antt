@@ -1,5 +1,4 @@
-use Rattle.std.proofs.Common.{List, ◌<◌, [], take, take_all, replicate, get_or, subst, subst₂, sym, ap, ◌∙◌, arith}
-use Rattle.mapf_tree.proofs.Prelude.{length-replicate}
+use Rattle.mapf_tree.proofs.Prelude.{List, ◌<◌, [], take, take_all, replicate, get_or, subst, subst₂, sym, ap, ◌∙◌, arith, length-replicate}
 use Rattle.mapf_tree.specs.Prelude.{Constraint, Changed, IsSameSet, changed_sets}
 use Rattle.mapf_tree.proofs.ConstraintSets.{IsWith}
 use Rattle.mapf_tree.proofs.Chains.{taken_more, sets_more}

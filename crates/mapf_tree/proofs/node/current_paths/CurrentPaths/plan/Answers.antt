@@ -1,5 +1,4 @@
-use Rattle.std.proofs.Common.{◌≡◌, ◌<◌, [], ◌∷◌, ◌++◌, length, map, subst, sym, ap, ◌∙◌, arith}
-use Rattle.mapf_tree.proofs.Prelude.{length-map, get_or-map, slice_get_read}
+use Rattle.mapf_tree.proofs.Prelude.{◌≡◌, ◌<◌, [], ◌∷◌, ◌++◌, length, map, subst, sym, ap, ◌∙◌, arith, length-map, get_or-map, slice_get_read}
 use Rattle.mapf_tree.proofs.Chains.{taken_more}
 use Rattle.mapf_tree.proofs.node.current_paths.CurrentPaths.plan.Goals as goal
 

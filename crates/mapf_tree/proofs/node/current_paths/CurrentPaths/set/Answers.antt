@@ -1,5 +1,4 @@
-use Rattle.std.proofs.Common.{set, ap, ◌∙◌}
-use Rattle.mapf_tree.proofs.Prelude.{map-set}
+use Rattle.mapf_tree.proofs.Prelude.{set, ap, ◌∙◌, map-set}
 use Rattle.mapf_tree.proofs.node.current_paths.CurrentPaths.set.Goals as goal
 
 pub returns : goal.returns

@@ -1,5 +1,4 @@
-use Rattle.std.proofs.Common.{◌≡◌, ℕ, List, Option, Some, ◌∙◌}
-use Rattle.mapf_tree.proofs.Prelude.{IfSome_then, IfOk-weaker, known_stays}
+use Rattle.mapf_tree.proofs.Prelude.{◌≡◌, ℕ, List, Option, Some, ◌∙◌, IfSome_then, IfOk-weaker, known_stays}
 use Rattle.mapf_tree.specs.Prelude.{slice_get, KnownPaths, Problem, ConstraintSet, Path, IsRemembered, IsTold, TellsUpTo}
 use Rattle.mapf_tree.specs.declared.own_paths.path_cache.node_numbers.NodeNumbers.{NodeNumbers}
 use Rattle.mapf_tree.proofs.PathCaches.{known_kept}

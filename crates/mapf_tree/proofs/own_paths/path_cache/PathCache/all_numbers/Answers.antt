@@ -1,5 +1,4 @@
-use Rattle.std.proofs.Common.{◌≡◌, ◌+◌, ◌∙◌, length, subst, subst₂, sym, ap, arith}
-use Rattle.mapf_tree.proofs.Prelude.{length_push, numbers_more, numbers_inside, plan_of_numbers}
+use Rattle.mapf_tree.proofs.Prelude.{◌≡◌, ◌+◌, ◌∙◌, length, subst, subst₂, sym, ap, arith, length_push, numbers_more, numbers_inside, plan_of_numbers}
 use Rattle.mapf_tree.specs.Prelude.{IfSome, AreNumbers, IsKnownPlan, plan_of, PathCache, IsRemembered, AreSetsOf, AreFirstPaths}
 use Rattle.mapf_tree.proofs.own_paths.path_cache.PathCache.all_numbers.Goals as goal
 

@@ -1,5 +1,4 @@
-use Rattle.std.proofs.Common.{◌≡◌, ◌<◌, ◌≤◌, [], length, subst, subst₂, sym, ap, ap₂, ◌∙◌, arith}
-use Rattle.mapf_tree.proofs.Prelude.{length-map, get_or_from_slice_get}
+use Rattle.mapf_tree.proofs.Prelude.{◌≡◌, ◌<◌, ◌≤◌, [], length, subst, subst₂, sym, ap, ap₂, ◌∙◌, arith, length-map, get_or_from_slice_get}
 use Rattle.mapf_tree.specs.Prelude.{slice_set, path_of, plan_of, MOST_BOUND, Changed, IsConflictOf, PathCache}
 use Rattle.mapf_tree.proofs.PathCaches.{small_at, child_at}
 use Rattle.mapf_tree.proofs.own_paths.path_cache.PathCache.child_with.Goals as goal

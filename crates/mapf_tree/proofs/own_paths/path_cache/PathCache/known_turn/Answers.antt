@@ -1,5 +1,4 @@
-use Rattle.std.proofs.Common.{rules, ◌≡◌, ◌<◌, get_or, length, Some, option_map, subst, subst₂, sym, ◌∙◌, arith}
-use Rattle.mapf_tree.proofs.Prelude.{get_or_default_zero}
+use Rattle.mapf_tree.proofs.Prelude.{rules, ◌≡◌, ◌<◌, get_or, length, Some, option_map, subst, subst₂, sym, ◌∙◌, arith, get_or_default_zero}
 use Rattle.mapf_tree.specs.Prelude.{IfSome, Leaves, Changed, PathCache, IsExtended, IsOwnIn, IsNumberOf, IsTurnAt, GivesOwn, AreKnown}
 use Rattle.mapf_tree.proofs.PathCaches.{turn_at, no_turn_at}
 use Rattle.mapf_tree.proofs.own_paths.path_cache.PathCache.known_turn.Goals as goal

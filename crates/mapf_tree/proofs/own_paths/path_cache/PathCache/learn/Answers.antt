@@ -1,5 +1,4 @@
-use Rattle.std.proofs.Common.{◌≡◌, ◌<◌, ◌∙◌, [], get_or, length, subst, subst₂, sym, ap, arith}
-use Rattle.mapf_tree.proofs.Prelude.{get_or_default_zero}
+use Rattle.mapf_tree.proofs.Prelude.{◌≡◌, ◌<◌, ◌∙◌, [], get_or, length, subst, subst₂, sym, ap, arith, get_or_default_zero}
 use Rattle.mapf_tree.specs.Prelude.{IfSome, Problem, IsRemembered, PathCache, HasSet, AreSetsOf, IsExtension}
 use Rattle.mapf_tree.proofs.ConstraintSets.{IsWith, with_same}
 use Rattle.mapf_tree.proofs.own_paths.path_cache.PathCache.learn.Goals as goal

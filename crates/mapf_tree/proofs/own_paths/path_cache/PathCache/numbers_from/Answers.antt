@@ -1,5 +1,4 @@
-use Rattle.std.proofs.Common.{◌≡◌, length, subst, arith}
-use Rattle.mapf_tree.proofs.Prelude.{plan_of_numbers}
+use Rattle.mapf_tree.proofs.Prelude.{◌≡◌, length, subst, arith, plan_of_numbers}
 use Rattle.mapf_tree.specs.Prelude.{IfSome, AreSetsOf, AreFirstPaths}
 use Rattle.mapf_tree.proofs.own_paths.path_cache.PathCache.numbers_from.Goals as goal
 

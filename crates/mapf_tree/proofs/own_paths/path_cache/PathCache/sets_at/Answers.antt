@@ -1,5 +1,4 @@
-use Rattle.std.proofs.Common.{◌≡◌, ◌<◌, [], ◌++◌, length, replicate, subst, subst₂, sym, ap, ap₂, ◌∙◌, arith}
-use Rattle.mapf_tree.proofs.Prelude.{nat_tests, common_steps}
+use Rattle.mapf_tree.proofs.Prelude.{◌≡◌, ◌<◌, [], ◌++◌, length, replicate, subst, subst₂, sym, ap, ap₂, ◌∙◌, arith, nat_tests, common_steps}
 use Rattle.mapf_tree.specs.Prelude.{changed_sets, PathCache, AreSetsOf}
 use Rattle.mapf_tree.proofs.PathCaches.{agents_at_node, sets_at_first}
 use Rattle.mapf_tree.proofs.own_paths.path_cache.PathCache.sets_at.Goals as goal

@@ -1,5 +1,4 @@
-use Rattle.std.proofs.Common.{◌≡◌, ◌<◌, [], ◌∷◌, length, get_or, set, subst, ◌∙◌, arith}
-use Rattle.mapf_tree.proofs.Prelude.{get_or_default_zero}
+use Rattle.mapf_tree.proofs.Prelude.{◌≡◌, ◌<◌, [], ◌∷◌, length, get_or, set, subst, ◌∙◌, arith, get_or_default_zero}
 use Rattle.mapf_tree.specs.Prelude.{Changed, IsExtended, AreSetsOf}
 use Rattle.mapf_tree.proofs.PathCaches.{sets_turned_on}
 use Rattle.mapf_tree.proofs.own_paths.path_cache.node_numbers.extend_set.Goals as goal
