@@ -13,7 +13,7 @@ use mapf_cli::{CheckFault, call, check_run};
 use mapf_grid::{NoMemory, instance_of};
 use mapf_plan::{Counted, DeviceFault, Rule};
 use mapf_solve::{Ask, Refusal, answer, answer_any};
-use mapf_tree::{Node, OpenList, OwnPaths, Problem, Progress, Search, Side, child, root};
+use mapf_tree::{Children, Node, OpenList, Problem, Progress, Search, Side, child, root};
 use std::alloc::Global;
 use std::rt::Files;
 use std::thread::Threads;
@@ -300,6 +300,28 @@ fn filled(alloc: Global, shift: u64) -> Option<bool> {
     (0..REFUSED).find_map(|_| fill(alloc, &mut nodes, same.as_slice()))
 }
 
+/// Children as they are needed, each worked out alone.
+#[derive(Drop)]
+struct ByChild {
+    alloc: Global,
+}
+
+impl Children for ByChild {
+    ghost serves = { λ _ _. Unit {0} };
+
+    fn both(
+        &mut self,
+        problem: &Problem,
+        node: &Node,
+    ) -> Result<(Option<Node>, Option<Node>), NoMemory> {
+        let left = child(self.alloc, problem, node, Side::Left)?;
+        let right = child(self.alloc, problem, node, Side::Right)?;
+        Ok((left, right))
+    }
+
+    fn ahead(&mut self, _problem: &Problem, _waiting: &OpenList) {}
+}
+
 /// A search of two turns, which answers that memory ran out also from then on.
 fn searched(alloc: Global, place: u64) -> Outcome {
     let Some(problem) = problem_of(alloc, &CROSSING) else {
@@ -308,9 +330,7 @@ fn searched(alloc: Global, place: u64) -> Outcome {
     let Ok(mut search) = Search::new(alloc, &problem) else {
         return Outcome::Wrong;
     };
-    let Ok(mut children) = OwnPaths::new(alloc, &problem) else {
-        return Outcome::Wrong;
-    };
+    let mut children = ByChild { alloc };
     let _ = is_refused(alloc, REFUSED - place);
     match search.go(&mut children, 2) {
         Ok(Progress::Finished) if search.answer().is_some() => Outcome::Right,
@@ -320,7 +340,7 @@ fn searched(alloc: Global, place: u64) -> Outcome {
 }
 
 /// Whether the search answers that memory ran out, and no answer.
-fn is_out_of_memory(search: &mut Search<'_>, children: &mut OwnPaths<'_>) -> bool {
+fn is_out_of_memory(search: &mut Search<'_>, children: &mut ByChild) -> bool {
     search.go(children, 2).is_err() && search.answer().is_none()
 }
 
