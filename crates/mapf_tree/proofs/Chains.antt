@@ -2,7 +2,7 @@
 use Rattle.mapf_tree.proofs.Prelude.{◌≡◌, ◌≢◌, ◌↔◌, ℕ, ◌+◌, ◌<◌, List, [], ◌∷◌, ◌++◌, length, take, take_all, map, get_or, set, All, Option, Some, replicate, ap₂, refl, sym, ap, ◌∙◌, subst, subst₂, arith, Contains, get_or-set_same, slice_get_within, get_or_from_slice_get, All-push, set_cases}
 use Rattle.std.specs.List.{AllZip, AppendsClones, slice_get}
 use Rattle.std.proofs.lemmas.List.{length-set, length_push, map-append, take_more}
-use Rattle.mapf_tree.specs.Prelude.{Constraint, path_of, plan_cost, Conflict, Rule, Side, Node, node_of, IsConflictOf, IsSameSet, AgreesWith, Changed, changed_plan, changed_sets}
+use Rattle.mapf_tree.specs.Prelude.{Constraint, path_of, plan_cost, Conflict, Side, Chain, Node, node_of, IsConflictOf, IsSameSet, AgreesWith, Changed, changed_plan, changed_sets, with_one}
 use Rattle.mapf_tree.proofs.ConstraintSets.{IsWith, IsWith-cons}
 
 -- the last change is made last
@@ -60,77 +60,85 @@ sets_more sets xs x agent old new inside is own other =
     (λ e. IsWith-cons x.constraint (get_or now x.agent []) old new (subst (λ a. IsSameSet old (get_or now a [])) (sym e) is) (own e))
     (λ n. subst (λ s. IsSameSet s (get_or now agent [])) (sym (other n)) is))
 
-module _ (name : List Side) (root : List (List ℕ)) (xs : List Changed) (rule : Rule) (conflict : Option Conflict) (node : Node) (is : node_of name root xs rule conflict ≡ node) where
+module _ (name : List Side) (chain : Chain) (conflict : Option Conflict) (node : Node) (is : node_of name chain conflict ≡ node) where
   -- an agent of a node is one of the root
-  pub at_root : (agent : ℕ) (plan : List (List ℕ)) → plan ≡ root → agent < length node.plan → agent < length plan
-  at_root agent plan e inside = omega (arith, subst (λ (n : Node). agent < length n.plan) (sym is) inside, length-changed_plan root xs, ap length e)
+  pub at_root : (agent : ℕ) (chain' : Chain) → chain' ≡ chain → agent < length node.plan → agent < length chain'.root
+  at_root agent chain' e inside =
+      omega (arith, subst (λ (n : Node). agent < length n.plan) (sym is) inside, length-changed_plan chain.root chain.changes, ap (λ (l : Chain). length l.root) e)
 
   -- and it has as many
-  pub agents_of_root : (plan : List (List ℕ)) → plan ≡ root → length plan ≡ length node.plan
-  agents_of_root plan e = ap length e ∙ sym (length-changed_plan root xs) ∙ ap (λ (n : Node). length n.plan) is
+  pub agents_of_root : (chain' : Chain) → chain' ≡ chain → length chain'.root ≡ length node.plan
+  agents_of_root chain' e =
+      ap (λ (l : Chain). length l.root) e ∙ sym (length-changed_plan chain.root chain.changes) ∙ ap (λ (n : Node). length n.plan) is
 
   -- and so are those of its changes
-  pub all_at_root : (plan : List (List ℕ)) (changes : List Changed) → plan ≡ root → changes ≡ xs → All (λ x. x.agent < length (changed_plan root xs)) xs → All (λ x. x.agent < length plan) changes
-  all_at_root plan changes e f all =
-      subst (λ l. All (λ x. x.agent < length plan) l) (sym f)
-      (subst (λ n. All (λ x. x.agent < n) xs) (length-changed_plan root xs ∙ sym (ap length e)) all)
+  pub all_at_root : (chain' : Chain) → chain' ≡ chain → All (λ x. x.agent < length (changed_plan chain.root chain.changes)) chain.changes → All (λ x. x.agent < length chain'.root) chain'.changes
+  all_at_root chain' e all =
+      subst (λ (l : Chain). All (λ x. x.agent < length l.root) l.changes) (sym e)
+      (subst (λ n. All (λ x. x.agent < n) chain.changes) (length-changed_plan chain.root chain.changes) all)
 
   -- a node's constraints are those of its changes
   pub sets_of_changes : node.constraints ≡ changed_sets (replicate (length node.plan) []) node.changes
   sets_of_changes =
-      sym (ap (λ (n : Node). n.constraints) is) ∙ ap (λ n. changed_sets (replicate n []) xs) (sym (length-changed_plan root xs))
+      sym (ap (λ (n : Node). n.constraints) is) ∙ ap (λ n. changed_sets (replicate n []) chain.changes) (sym (length-changed_plan chain.root chain.changes))
       ∙ ap (λ (n : Node). changed_sets (replicate (length n.plan) []) n.changes) is
 
   -- without a turn no agent has a constraint
-  pub none_at_root : length xs ≡ 0 → node.constraints ≡ replicate (length node.plan) []
-  none_at_root none = sets_of_changes ∙ ap (λ l. changed_sets (replicate (length node.plan) []) l) (ap (λ (n : Node). n.changes) (sym is) ∙ no_change xs none)
+  pub none_at_root : length chain.changes ≡ 0 → node.constraints ≡ replicate (length node.plan) []
+  none_at_root none =
+      sets_of_changes ∙ ap (λ l. changed_sets (replicate (length node.plan) []) l) (ap (λ (n : Node). n.changes) (sym is) ∙ no_change chain.changes none)
     where
       no_change : (l : List Changed) → length l ≡ 0 → l ≡ []
       no_change [] e = refl
       no_change (x ∷ l) e = absurd (omega (arith, e))
 
   -- the last change's path is its agent's
-  pub last_at : (agent n : ℕ) (x : Changed) (changes : List Changed) → changes ≡ xs → slice_get changes n ≡ Some x → length changes ≡ n + 1 → x.agent ≡ agent → agent < length node.plan → x.path ≡ path_of node.plan agent
-  last_at agent n x changes e at last own inside =
-      let ps = changed_plan root (take n changes) in
+  pub last_at : (agent n : ℕ) (x : Changed) (chain' : Chain) → chain' ≡ chain → slice_get chain'.changes n ≡ Some x → length chain'.changes ≡ n + 1 → x.agent ≡ agent → agent < length node.plan → x.path ≡ path_of node.plan agent
+  last_at agent n x chain' e at last own inside =
+      let ps = changed_plan chain'.root (take n chain'.changes) in
       let same : node.plan ≡ set ps x.agent x.path =
-      sym (ap (λ (n : Node). n.plan) is) ∙ ap (changed_plan root) (sym e ∙ sym (take_all (n + 1) changes (omega arith)) ∙ taken_more changes n x at) ∙ changed_plan-push root (take n changes) x in
+      sym (ap (λ (n : Node). n.plan) is)
+      ∙ ap (λ (l : Chain). changed_plan l.root l.changes) (sym e)
+      ∙ ap (changed_plan chain'.root) (sym (take_all (n + 1) chain'.changes (omega arith)) ∙ taken_more chain'.changes n x at)
+      ∙ changed_plan-push chain'.root (take n chain'.changes) x in
       sym (ap (λ l. path_of l agent) same ∙ subst (λ a. path_of (set ps a x.path) agent ≡ x.path) (sym own)
-      (get_or-set_same ps agent x.path [] (omega (arith, at_root agent root refl inside, length-changed_plan root (take n changes)))))
+      (get_or-set_same ps agent x.path [] (omega (arith, at_root agent chain' e inside, length-changed_plan chain'.root (take n chain'.changes)))))
 
   -- an agent's constraints, as they are gathered from the changes
-  pub sets_at : (agent : ℕ) (set : List Constraint) (changes : List Changed) → changes ≡ xs → agent < length node.plan →
-      ((agents : ℕ) → agent < agents → (x : Constraint) → Contains set x ↔ Contains (get_or (changed_sets (replicate agents []) changes) agent []) x) →
+  pub sets_at : (agent : ℕ) (set : List Constraint) (chain' : Chain) → chain' ≡ chain → agent < length node.plan →
+      ((agents : ℕ) → agent < agents → (x : Constraint) → Contains set x ↔ Contains (get_or (changed_sets (replicate agents []) chain'.changes) agent []) x) →
       (x : Constraint) → Contains set x ↔ Contains (get_or node.constraints agent []) x
-  sets_at agent set changes f inside gathered x =
+  sets_at agent set chain' e inside gathered x =
       subst (λ (n : Node). Contains set x ↔ Contains (get_or n.constraints agent []) x) is
-      (subst (λ l. Contains set x ↔ Contains (get_or (changed_sets (replicate (length root) []) l) agent []) x) f (gathered (length root) (at_root agent root refl inside) x))
+      (subst (λ (l : Chain). Contains set x ↔ Contains (get_or (changed_sets (replicate (length chain.root) []) l.changes) agent []) x) e
+      (gathered (length chain.root) (at_root agent chain refl inside) x))
 
-  module _ (root' : List (List ℕ)) (xs' : List Changed) (x : Changed) (e : root' ≡ root) (f : xs' ≡ xs ++ x ∷ []) where
+  module _ (x : Changed) (chain' : Chain) (e : chain' ≡ with_one chain x) where
     -- with one change more the plan has another path for its agent
-    pub plan_turned : changed_plan root' xs' ≡ set node.plan x.agent x.path
-    plan_turned = ap₂ (λ plan l. changed_plan plan l) e f ∙ changed_plan-push root xs x ∙ ap (λ (n : Node). set n.plan x.agent x.path) is
+    pub plan_turned : changed_plan chain'.root chain'.changes ≡ set node.plan x.agent x.path
+    plan_turned =
+        ap (λ (l : Chain). changed_plan l.root l.changes) e ∙ changed_plan-push chain.root chain.changes x ∙ ap (λ (n : Node). set n.plan x.agent x.path) is
 
     -- and the agent one constraint more
-    pub sets_turned : changed_sets (replicate (length root') []) xs' ≡ set node.constraints x.agent (x.constraint ∷ get_or node.constraints x.agent [])
+    pub sets_turned : changed_sets (replicate (length chain'.root) []) chain'.changes ≡ set node.constraints x.agent (x.constraint ∷ get_or node.constraints x.agent [])
     sets_turned =
-        ap₂ (λ plan l. changed_sets (replicate (length plan) []) l) e f ∙ changed_sets-push (replicate (length root) []) xs x
+        ap (λ (l : Chain). changed_sets (replicate (length l.root) []) l.changes) e ∙ changed_sets-push (replicate (length chain.root) []) chain.changes x
         ∙ ap (λ (n : Node). set n.constraints x.agent (x.constraint ∷ get_or n.constraints x.agent [])) is
 
     -- what is always so of a node is so of the one after it
-    pub agrees_turned : (sum turns sum' turns' : ℕ) (name' : List Side) (s : Side) (rule' : Rule) (conflict' : Option Conflict) → AgreesWith sum turns (node_of name root xs rule conflict) → x.agent < length node.plan → rule' ≡ node.rule →
+    pub agrees_turned : (sum turns sum' turns' : ℕ) (name' : List Side) (s : Side) (conflict' : Option Conflict) → AgreesWith sum turns (node_of name chain conflict) → x.agent < length node.plan →
         sum' ≡ plan_cost (set node.plan x.agent x.path) → turns' ≡ length node.name + 1 → name' ≡ node.name ++ s ∷ [] → IsConflictOf node.rule (set node.plan x.agent x.path) conflict' →
-        AgreesWith sum' turns' (node_of name' root' xs' rule' conflict')
-    agrees_turned sum turns sum' turns' name' s rule' conflict' agrees inside ruled costs deep named first = record {
+        AgreesWith sum' turns' (node_of name' chain' conflict')
+    agrees_turned sum turns sum' turns' name' s conflict' agrees inside costs deep named first = record {
       cost = costs ∙ ap plan_cost (sym plan_turned);
       depth = deep ∙ sym (ap length named ∙ length_push node.name s);
-      conflict = subst₂ (λ r plan. IsConflictOf r plan conflict') (sym ruled) (sym plan_turned) first;
-      turned = ap length f ∙ length_push xs x ∙ ap (λ n. n + 1) (agrees.turned ∙ ap (λ (n : Node). length n.name) is) ∙ sym (ap length named ∙ length_push node.name s);
-      agents = subst (λ n. All (λ y. y.agent < n) xs') (sym many) (subst (All (λ y. y.agent < length node.plan)) (sym f) (All-push (λ y. y.agent < length node.plan) xs x old inside));
+      conflict = subst₂ (λ r plan. IsConflictOf r plan conflict') (sym (ap (λ (l : Chain). l.rule) e ∙ ap (λ (n : Node). n.rule) is)) (sym plan_turned) first;
+      turned = ap (λ (l : Chain). length l.changes) e ∙ length_push chain.changes x ∙ ap (λ n. n + 1) (agrees.turned ∙ ap (λ (n : Node). length n.name) is) ∙ sym (ap length named ∙ length_push node.name s);
+      agents = subst (λ n. All (λ y. y.agent < n) chain'.changes) (sym many) (subst (All (λ y. y.agent < length node.plan)) (sym (ap (λ (l : Chain). l.changes) e)) (All-push (λ y. y.agent < length node.plan) chain.changes x old inside));
     }
       where
-        many : length (changed_plan root' xs') ≡ length node.plan
+        many : length (changed_plan chain'.root chain'.changes) ≡ length node.plan
         many = ap length plan_turned ∙ length-set node.plan x.agent x.path
 
-        old : All (λ y. y.agent < length node.plan) xs
-        old = subst (λ (n : Node). All (λ y. y.agent < length n.plan) xs) is agrees.agents
+        old : All (λ y. y.agent < length node.plan) chain.changes
+        old = subst (λ (n : Node). All (λ y. y.agent < length n.plan) chain.changes) is agrees.agents

@@ -19,6 +19,16 @@ pub record Changed : Type 0 where
   pub constraint : Constraint
   pub path : List ℕ
 
+-- what leads to a node: the root's plan, the rule of the tree, and what each turn changed
+pub record Chain : Type 0 where
+  pub root : List (List ℕ)
+  pub rule : Rule
+  pub changes : List Changed
+
+-- with one change more
+abbrev pub with_one : Chain → Changed → Chain
+with_one chain x = record { root = chain.root; rule = chain.rule; changes = chain.changes ++ x ∷ [] }
+
 -- each agent has the path of its last change, or that of the root
 abbrev pub changed_plan : List (List ℕ) → List Changed → List (List ℕ)
 changed_plan plan [] = plan
@@ -39,14 +49,14 @@ pub record Node : Type 0 where
   pub rule : Rule
   pub conflict : Option Conflict
 
--- a node of this name that has changed a root's plan
-abbrev pub node_of : List Side → List (List ℕ) → List Changed → Rule → Option Conflict → Node
-node_of name root changes rule conflict = record {
+-- the node of this name and chain
+abbrev pub node_of : List Side → Chain → Option Conflict → Node
+node_of name chain conflict = record {
   name = name;
-  changes = changes;
-  constraints = changed_sets (replicate (length root) []) changes;
-  plan = changed_plan root changes;
-  rule = rule;
+  changes = chain.changes;
+  constraints = changed_sets (replicate (length chain.root) []) chain.changes;
+  plan = changed_plan chain.root chain.changes;
+  rule = chain.rule;
   conflict = conflict;
 }
 

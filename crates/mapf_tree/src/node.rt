@@ -29,15 +29,11 @@ pub struct Node {
 }
 
 /// What a node is.
-///
-/// The small fields stand last, as fields lie in their order and each node that waits has a body.
 #[derive(Drop)]
 struct Body {
     key: Key,
-    root: Arc<Plan>,
-    changes: Chain,
+    chain: Chain,
     conflict: Option<Conflict>,
-    rule: Rule,
 }
 
 // By hand, so that a proof about what holds a node sees a call where it is dropped, and not what a node consists of.
@@ -52,12 +48,10 @@ impl Model for Node {
 
     ghost Value = { Node };
 
-    ghost view = { λ n. node_of n.body.value.key.name n.body.value.root.value n.body.value.changes n.body.value.rule
-        n.body.value.conflict };
+    ghost view = { λ n. node_of n.body.value.key.name n.body.value.chain n.body.value.conflict };
 
     ghost invariant = { λ n. AgreesWith n.body.value.key.cost n.body.value.key.depth
-        (node_of n.body.value.key.name n.body.value.root.value n.body.value.changes n.body.value.rule
-        n.body.value.conflict) };
+        (node_of n.body.value.key.name n.body.value.chain n.body.value.conflict) };
 }
 
 impl Node {
@@ -74,28 +68,15 @@ impl Node {
         ensures conflict { IfOk result (λ n. IsConflictOf rule plan n.conflict) }
     {
         let conflict = plan.first_conflict_by(rule);
-        let key = Key {
-            cost: plan.cost(),
-            depth: 0,
-            name: Name::root(),
-        };
         let body = Body {
-            key,
-            rule,
-            root: Arc::new(alloc, plan)?,
-            changes: Chain::new(alloc)?,
+            key: Key {
+                cost: plan.cost(),
+                depth: 0,
+                name: Name::root(),
+            },
+            chain: Chain::new(alloc, plan, rule)?,
             conflict,
         };
-        Node::of(alloc, body)
-    }
-
-    /// The node of this body.
-    #[inline(always)]
-    fn of(alloc: Global, body: Body) -> Result<Node, NoMemory>
-        requires { AgreesWith body.key.cost body.key.depth
-            (node_of body.key.name body.root.value body.changes body.rule body.conflict) }
-        ensures { IfOk result (λ n. n ≡ node_of body.key.name body.root.value body.changes body.rule body.conflict) }
-    {
         Ok(Node {
             body: Arc::new(alloc, body)?,
         })
@@ -107,7 +88,7 @@ impl Node {
     {
         let Node { mut body } = self;
         if let Some(own) = Arc::get_mut(&mut body) {
-            own.changes.share();
+            own.chain.share();
         }
         Node { body }
     }
@@ -137,21 +118,21 @@ impl Node {
             ≡ Some (record { agent = found.0; constraint = found.1; path = found.2.now })) }
         ensures turns { length self.now.changes ≡ length self.now.name }
     {
-        let changes = &self.body.changes;
-        if turn >= changes.len() {
+        let chain = &self.body.chain;
+        if turn >= chain.len() {
             return None;
         }
-        let change = changes.at(turn);
+        let change = chain.at(turn);
         Some((change.agent, change.constraint, &change.path))
     }
 
     /// What the turns of its name changed.
-    pub(crate) fn changes(&self) -> &Chain
-        ensures changes { result.now ≡ self.now.changes }
+    pub(crate) fn chain(&self) -> &Chain
+        ensures changes { result.now.changes ≡ self.now.changes }
         ensures constraints { self.now.constraints
             ≡ changed_sets (replicate (length self.now.plan) []) self.now.changes }
     {
-        &self.body.changes
+        &self.body.chain
     }
 
     /// Whether it is the node of no turn.
@@ -163,7 +144,7 @@ impl Node {
 
     /// Where the node's memory is from.
     pub(crate) fn allocator(&self) -> Global {
-        self.body.changes.allocator()
+        self.body.chain.allocator()
     }
 
     /// An equal node, which shares all with this one. An error is that it can't be shared more often.

@@ -18,7 +18,7 @@ impl Node {
         ensures some { 0 < result }
         ensures few { result ≤ MOST_AGENTS }
     {
-        self.body.root.agents()
+        self.body.chain.root().plan.agents()
     }
 
     /// An agent's path: that of its last change, or the root's.
@@ -26,7 +26,7 @@ impl Node {
         requires { agent < length self.now.plan }
         ensures { result.now ≡ path_of self.now.plan agent }
     {
-        self.body.changes.path(&self.body.root, agent)
+        self.body.chain.path(agent)
     }
 
     /// An agent's path where the last turn of the name gave it; else none.
@@ -34,8 +34,8 @@ impl Node {
         requires { agent < length self.now.plan }
         ensures { IfSome result (λ path. arc_value path.now ≡ path_of self.now.plan agent) }
     {
-        let changes = &self.body.changes;
-        let change = changes.at(changes.len().checked_sub(1)?);
+        let chain = &self.body.chain;
+        let change = chain.at(chain.len().checked_sub(1)?);
         if change.agent == agent {
             Some(&change.path)
         } else {
@@ -47,7 +47,7 @@ impl Node {
     pub fn paths(&self, alloc: Global) -> Result<CurrentPaths<'_>, NoMemory>
         ensures { IfOk result (λ paths. paths ≡ self.now.plan) }
     {
-        self.body.changes.paths(alloc, &self.body.root)
+        self.body.chain.paths(alloc)
     }
 
     /// What an agent is forbidden.
@@ -56,7 +56,7 @@ impl Node {
         ensures { IfOk result (λ set. (c : _)
             → Contains set c ↔ Contains (slice_index_or self.now.constraints agent []) c) }
     {
-        self.body.changes.constraints(alloc, agent)
+        self.body.chain.constraints(alloc, agent)
     }
 
     /// A copy of the node's plan.

@@ -41,12 +41,12 @@ impl Node {
         let key = self.key_with(alloc, side, change.agent, old, &change.path)?;
         let body = Body {
             key,
-            rule: self.body.rule,
-            root: Arc::try_clone(&self.body.root)?,
-            changes: self.body.changes.with(alloc, change)?,
+            chain: self.body.chain.with(alloc, change)?,
             conflict,
         };
-        Node::of(alloc, body)
+        Ok(Node {
+            body: Arc::new(alloc, body)?,
+        })
     }
 
     /// The key one turn further, where an agent has another path; the old one's cost is given.
@@ -85,8 +85,7 @@ impl Node {
         requires conflict { IsSome self.now.conflict }
         ensures { IfOk result (IsConflictOf self.now.rule (slice_set self.now.plan agent path.now)) }
     {
-        let paths = self.paths(alloc)?;
-        Ok(self.first_conflict_with(paths, agent, path))
+        Ok(self.first_conflict_with(self.paths(alloc)?, agent, path))
     }
 
     /// The first conflict where an agent's path is another: no two agents have one before the time of this node's as long as
@@ -106,6 +105,6 @@ impl Node {
         let time = self.body.conflict.unwrap().time();
         let from = path.shared_steps(paths.path(agent)).min(time);
         paths.set(agent, path);
-        first_conflict_of_changed(&paths, self.body.rule, agent, from, time)
+        first_conflict_of_changed(&paths, self.body.chain.root().rule, agent, from, time)
     }
 }

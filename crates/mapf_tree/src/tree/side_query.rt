@@ -92,16 +92,10 @@ impl<'p> SideQuery<'p> {
         requires { AreFromStart self.problem self.agent (Some (arc_value distances)) }
         ensures { result ≡ self.entry }
     {
-        let mut query = self;
-        query.from_start = Some(distances);
-        query
-    }
-
-    /// The side.
-    pub fn side(&self) -> Side
-        ensures { result ≡ self.now.side }
-    {
-        self.side
+        SideQuery {
+            from_start: Some(distances),
+            ..self
+        }
     }
 
     /// The agent.

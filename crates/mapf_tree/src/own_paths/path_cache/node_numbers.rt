@@ -154,7 +154,7 @@ impl<'p> PathCache<'p> {
         let mut sets = spare;
         sets.clear();
         sets.extend_from_slice(&self.firsts)?;
-        if !extend_sets(&self.sets, &mut sets, node.changes()) {
+        if !extend_sets(&self.sets, &mut sets, node.chain()) {
             return Ok(None);
         }
         Ok(Some(sets))
@@ -162,12 +162,12 @@ impl<'p> PathCache<'p> {
 }
 
 /// Each agent's set after some changes more; false where one isn't known.
-fn extend_sets(known: &ConstraintSets, sets: &mut Vec<usize>, changes: &Chain) -> bool
+fn extend_sets(known: &ConstraintSets, sets: &mut Vec<usize>, chain: &Chain) -> bool
     ensures { IsTrue result → (cs : List (List Constraint)) → AreSetsOf known.now sets.old.items cs
-        → AreSetsOf known.now sets.new.items (changed_sets cs changes.now) }
+        → AreSetsOf known.now sets.new.items (changed_sets cs chain.now.changes) }
 {
-    for turn in 0..changes.len() {
-        if !extend_set(known, sets, changes.at(turn)) {
+    for turn in 0..chain.len() {
+        if !extend_set(known, sets, chain.at(turn)) {
             return false;
         }
     }

@@ -5,5 +5,5 @@ use Rattle.mapf_tree.proofs.node.Node.is_root.Goals as goal
 pub returns : goal.returns
 returns c told =
     let turns = c.self.invariant.turned in let depth = c.self.invariant.depth in
-    let none : length c.self.inside.body.value.changes ≡ 0 = grind (arith, common_steps, nat_tests) in
-    none_at_root _ _ _ _ _ c.args.self.now c.self.view_is none
+    let none : length c.self.inside.body.value.chain.changes ≡ 0 = grind (arith, common_steps, nat_tests) in
+    none_at_root _ _ _ c.args.self.now c.self.view_is none

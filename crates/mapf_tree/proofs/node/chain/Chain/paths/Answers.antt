@@ -5,14 +5,14 @@ use Rattle.mapf_tree.proofs.node.chain.Chain.paths.Goals as goal
 
 pub change-requires : goal.change-requires
 change-requires c =
-    subst (λ n. c.at.result.now.agent < n) (sym (ap length c.loop-turn.invariant ∙ length-changed_plan c.args.root.now (take c.loop-turn.turn c.args.self.now)))
-    (all_at (λ x. x.agent < length c.args.root.now) c.args.self.now c.loop-turn.turn c.at.result.now c.at.ensures c.requires)
+    subst (λ n. c.at.result.now.agent < n) (sym (ap length c.loop-turn.invariant ∙ length-changed_plan c.args.self.now.root (take c.loop-turn.turn c.args.self.now.changes)))
+    (all_at (λ x. x.agent < length c.args.self.now.root) c.args.self.now.changes c.loop-turn.turn c.at.result.now c.at.ensures c.requires)
 
 pub loop-turn-preserved : goal.loop-turn-preserved
 loop-turn-preserved c =
     c.change.ensures ∙ ap (λ plan. set plan c.at.result.now.agent c.at.result.now.path) c.loop-turn.invariant
-    ∙ sym (changed_plan-push c.args.root.now (take c.loop-turn.turn c.args.self.now) c.at.result.now)
-    ∙ ap (changed_plan c.args.root.now) (sym (taken_more c.args.self.now c.loop-turn.turn c.at.result.now c.at.ensures))
+    ∙ sym (changed_plan-push c.args.self.now.root (take c.loop-turn.turn c.args.self.now.changes) c.at.result.now)
+    ∙ ap (changed_plan c.args.self.now.root) (sym (taken_more c.args.self.now.changes c.loop-turn.turn c.at.result.now c.at.ensures))
 
 pub returns : goal.returns
-returns c = c.loop-turn.invariant ∙ ap (changed_plan c.args.root.now) (take_all c.loop-turn.turn c.args.self.now (omega arith))
+returns c = c.loop-turn.invariant ∙ ap (changed_plan c.args.self.now.root) (take_all c.loop-turn.turn c.args.self.now.changes (omega arith))

@@ -3,4 +3,4 @@ use Rattle.mapf_tree.specs.Prelude.{changed_plan}
 use Rattle.mapf_tree.proofs.node.chain.Chain.paths.Given as goal
 
 abbrev pub invariant-loop-turn : goal.invariant-loop-turn
-invariant-loop-turn l = l.paths ≡ changed_plan l.root (take l.turn l.self)
+invariant-loop-turn l = l.paths ≡ changed_plan l.self.root (take l.turn l.self.changes)

@@ -1,5 +1,0 @@
-use Rattle.mapf_tree.proofs.Chains.{sets_of_changes}
-use Rattle.mapf_tree.proofs.node.Node.changes.Goals as goal
-
-pub returns-clause-constraints : goal.returns-clause-constraints
-returns-clause-constraints c = sets_of_changes _ _ _ _ _ c.args.self.now c.self.view_is
