@@ -12,7 +12,7 @@ use Rattle.mapf_bounds.specs.declared.bound.Bound.{Bound}
 use Rattle.mapf_bounds.specs.Below.{IsBelow}
 use Rattle.mapf_bounds.specs.Bounds.{IsOfTree}
 use Rattle.mapf_bounds.specs.Pairs.{AreKnownAt}
-use Rattle.mapf_bounds.specs.Waiting.{Waiting, IsKeyOf, HasEntryFor, IsCovering, IsAdmittedOwn, IsMoving, bound_key}
+use Rattle.mapf_bounds.specs.Waiting.{Waiting, IsKeyOf, HasEntryFor, IsAdmittedOwn, IsMoving, bound_key}
 use Rattle.mapf_bounds.proofs.Subtrees.{least_key_of}
 use Rattle.mapf_bounds.proofs.Covers.{waiting_cover}
 use Rattle.mapf_bounds.proofs.Entries.{admitted_keyed, admitted_keeps, admitted_puts}
@@ -59,10 +59,3 @@ module _ (problem : Problem) (most least : ℕ) (below_all : IsBelowAll problem 
           (λ e. inr (admitted_puts problem most before after (record { cost = max (plan_cost n.plan) least; depth = length n.name }) admitted.entry moving.keyed of key_of known admitted.puts m s
           (subst (λ k. StandsFor problem k m) (sym admitted.is) (subst (λ k. StandsFor problem k m) (sym e) has.2)) solution within below))
           (λ c. inl (has.0, c, has.2)) (here_or_there new (subst (λ ns. Contains ns has.0) is has.1))
-
--- at the end all wait by bounds
-pub moved_all : (problem : Problem) (most : ℕ) (old : List Node) (waiting : List (Key × Waiting)) → IsMoving problem most old waiting → old ≡ [] → IsCovering problem most waiting
-moved_all problem most old waiting moving empty = record {
-  keyed = moving.keyed;
-  covers = λ s solution within. let w = moving.covers s solution within in (w.0, ⊎_elim (λ has. absurd (nowhere (subst (λ ns. Contains ns has.0) empty has.1))) (λ e. e) w.1, w.2);
-}

@@ -1,35 +1,13 @@
 -- Lists that get more, item by item of another list.
-use Rattle.std.proofs.Common.{◌≡◌, ◌⊎◌, ℕ, ◌+◌, ◌<◌, Bool, true, false, eqb, ◌&&◌, List, [], ◌∷◌, ◌++◌, length, take, get_or, if◌then◌else◌, Contains, inl, inr, subst, sym, ap, ◌∙◌, arith}
-use Rattle.std.specs.List.{list_any}
-use Rattle.std.proofs.lemmas.Bool.{and_parts, eqb-true}
+use Rattle.std.proofs.Common.{◌≡◌, ◌⊎◌, ℕ, ◌+◌, ◌<◌, List, [], ◌∷◌, ◌++◌, length, take, get_or, Contains, inl, inr, subst, sym, ap, ◌∙◌, arith}
 use Rattle.std.proofs.Math.Seq.{take-length}
 use Rattle.std.proofs.lemmas.List.{take_more}
-use Rattle.std.proofs.lemmas.List.Elements.{Contains-append_left, Contains-push, Contains-push_cases}
-use Rattle.indexmap.specs.IndexSet.{insert_key}
-use Rattle.indexmap.proofs.CallerLemmas.{Contains-insert_key}
+use Rattle.std.proofs.lemmas.List.Elements.{Contains-push_cases}
 use Rattle.mapf_optimum.specs.Steps.{Adds}
 
 -- nothing more, where all is there
 pub adds_none : {X : Type 0} (E : X → Type 0) (xs : List X) → ((x : X) → E x → Contains xs x) → Adds E xs xs
 adds_none E xs there = record { keeps = λ x i. i; adds = there }
-
--- one more item behind the others
-pub adds_push : {X : Type 0} (E : X → Type 0) (old new : List X) (x : X) → new ≡ old ++ x ∷ [] → ((y : X) → E y → x ≡ y) → Adds E old new
-adds_push E old new x is one = record {
-  keeps = λ y i. subst (λ xs. Contains xs y) (sym is) (Contains-append_left old (x ∷ []) y i);
-  adds = λ y e. subst (λ xs. Contains xs y) (sym is) (subst (λ z. Contains (old ++ x ∷ []) z) (one y e) (Contains-push old x));
-}
-
--- one more key of a set
-pub adds_key : {X : Type 0} (eq : X → X → Bool) → ((x y : X) → eq x y ≡ true → x ≡ y) → (old new : List X) (x : X) → new ≡ insert_key eq old x → Adds (λ y. x ≡ y) old new
-adds_key eq same old new x is = record {
-  keeps = λ y i. subst (λ xs. Contains xs y) (sym is) (stays y i (list_any (eq x) old));
-  adds = λ y e. subst (λ xs. Contains xs y) (sym is) (subst (λ z. Contains (insert_key eq old x) z) e (Contains-insert_key eq same old x));
-}
-  where
-    stays : (y : _) → Contains old y → (b : Bool) → Contains (if b then old else old ++ x ∷ []) y
-    stays y i true = i
-    stays y i false = Contains-append_left old (x ∷ []) y i
 
 -- said of less
 pub adds_less : {X : Type 0} (E F : X → Type 0) (old new : List X) → ((x : X) → F x → E x) → Adds E old new → Adds F old new
@@ -70,7 +48,3 @@ module _ {A X : Type 0} (R : A → X → Type 0) where
 
   pub some_all : (items : List A) (old new : List X) (k : ℕ) → k ≡ length items → Adds (FromSome R (take k items)) old new → Adds (FromSome R items) old new
   some_all items old new k e h = subst (λ xs. Adds (FromSome R xs) old new) (ap (λ n. take n items) e ∙ take-length items) h
-
--- what the test of pairs tells
-pub same_pair : (x y : ℕ × ℕ) → (eqb x.0 y.0 && eqb x.1 y.1) ≡ true → x ≡ y
-same_pair x y e = let h = and_parts (eqb x.0 y.0) (eqb x.1 y.1) e in λ i. (eqb-true x.0 y.0 h.0 i, eqb-true x.1 y.1 h.1 i)

@@ -35,10 +35,6 @@ set_at sets a set is h = is ∙ get_or_default sets a set [] h
 pub path_cost_at : (plan inside : List (List ℕ)) (i k : ℕ) (p : List ℕ) → k ≡ cost p → p ≡ get_or inside i p → inside ≡ plan → i < length plan → k ≡ cost (path_of plan i)
 path_cost_at plan inside i k p ek here same h = ek ∙ ap cost (subst (λ l. p ≡ get_or l i p) same here ∙ get_or_default plan i p [] h)
 
--- what was settled twice is settled
-pub settled_again : (problem : Problem) (sets : List (List Constraint)) (one two three : List (List ℕ)) → AreSettled problem sets one two → AreSettled problem sets two three → AreSettled problem sets one three
-settled_again problem sets one two three h k = (k.0, k.1 ∙ h.1)
-
 module _ (problem : Problem) (old : FreeNode) (plan : List (List ℕ)) (is : IsFreeNode problem old) (settled : AreSettled problem old.sets old.plan plan) where
   -- the sum of plan and surplus is a lower bound, and so is less than it
   raised : (pairs : List _) (sum k : ℕ) → AllByRecursion (IsPairBound problem old.sets) pairs → HaveSurplus plan pairs sum → k ≤ plan_cost plan + sum → IsLowerBoundOf problem old.sets k

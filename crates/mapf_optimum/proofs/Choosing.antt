@@ -1,5 +1,5 @@
 -- Disjoint pairs that are chosen one after the other, each if both its agents are free.
-use Rattle.std.proofs.Common.{◌≡◌, ◌≢◌, ℕ, ◌+◌, ◌<◌, Bool, true, false, true≢false, List, [], ◌∷◌, ◌++◌, length, get_or, set, get_or-set_other, Contains, subst, sym, ap, ◌∙◌, refl, arith, length-set}
+use Rattle.std.proofs.Common.{◌≡◌, ◌≢◌, ℕ, ◌+◌, ◌<◌, Bool, true, false, true≢false, List, [], ◌∷◌, ◌++◌, length, get_or, set, get_or-set_other, Contains, subst, sym, ap, ◌∙◌, arith, length-set}
 use Rattle.std.specs.List.{AllByRecursion}
 use Rattle.std.proofs.lemmas.List.{get_or-set_same}
 use Rattle.std.proofs.lemmas.List.Sums.{sum_by-cons}
@@ -22,9 +22,6 @@ all_map P Q f (x ∷ xs) all = (f x all.0, all_map P Q f xs all.1)
 -- what holds of all holds of one
 pub all_contains : {X : Type 0} (P : X → Type 0) (xs : List X) → AllByRecursion P xs → (x : X) → Contains xs x → P x
 all_contains P xs all x i = All-contains P xs x (All-from_recursion P xs all) i
-
-pub none_chosen : (agents : ℕ) (P : PairBound → Type 0) (weight : PairBound → ℕ) (taken : List Bool) → length taken ≡ agents → AreChosenBy agents P weight taken 0
-none_chosen agents P weight taken n = record { chosen = []; few = n; disjoint = tt; sums = refl; within = tt; marked = tt }
 
 -- a mark that is set leaves the others
 marked_more : (taken : List Bool) (i k : ℕ) → i < length taken → get_or taken k false ≡ true → get_or (set taken i true) k false ≡ true

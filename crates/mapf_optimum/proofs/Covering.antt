@@ -11,7 +11,7 @@ use Rattle.mapf_low.specs.declared.constraint.Constraint.{Constraint}
 use Rattle.mapf_tree.specs.declared.tree.side.Side.{Side}
 use Rattle.mapf_tree.specs.declared.tree.side.Side.TheVariants.{Left, Right}
 use Rattle.mapf_tree.specs.Problem.{Problem}
-use Rattle.mapf_optimum.specs.FreeTree.{FreeNode, IsFreeNode, IsCandidate, IsLowerBoundOf}
+use Rattle.mapf_optimum.specs.FreeTree.{FreeNode, IsFreeNode, IsCandidate}
 use Rattle.mapf_optimum.specs.FreeSearch.{AreSideSets, IsSideOf, IsBounded, IsTaken, Expands}
 use Rattle.mapf_optimum.specs.TwoAgents.{IsUnderWayFrom}
 use Rattle.mapf_optimum.specs.Laws.{ExpansionCovers, BoundingCovers, LeastIsOptimum, LeastLabelIsBelow, NothingWaits}
@@ -100,16 +100,6 @@ bounding_covers problem old new way e = record {
         ⊎_elim (λ same. let f = at_found e.found e.bounded plan (subst (λ n. IsCandidate problem n.sets plan) (sym same) w.2) in (f.0, Contains-permutation _ new f.0 e.put (Contains-append_left (option_to_list e.found) e.rest f.0 f.1), f.2))
         (λ i. (w.0, Contains-permutation _ new w.0 e.put (Contains-append_right (option_to_list e.found) e.rest w.0 i), w.2))
         (here_or_there e.rest (Contains-permutation old (e.node ∷ e.rest) w.0 e.taken.0 w.1))
-
--- no candidate costs less than the least label
-pub least_label_from : (problem : Problem) (sets : List (List Constraint)) (waiting rest : List FreeNode) (x : FreeNode) → IsUnderWayFrom problem sets waiting → IsTaken waiting (Some x) rest → IsLowerBoundOf problem sets x.label
-least_label_from problem sets waiting rest x way taken plan candidate =
-    let w = way.covers plan candidate in
-    omega (arith, All-contains (λ y. x.label ≤ y.label) waiting w.0 taken.1 w.1, (All-contains (IsFreeNode problem) waiting w.0 way.free w.1).below plan w.2)
-
--- where nothing waits there is no candidate, and each number is a lower bound
-pub none_waits_from : (problem : Problem) (sets : List (List Constraint)) (k : ℕ) → IsUnderWayFrom problem sets [] → IsLowerBoundOf problem sets k
-none_waits_from problem sets k way plan candidate = absurd (nowhere (way.covers plan candidate).1)
 
 -- a node that waits is a node
 pub free_from : (problem : Problem) (sets : List (List Constraint)) (waiting rest : List FreeNode) (x : FreeNode) → IsUnderWayFrom problem sets waiting → IsTaken waiting (Some x) rest → IsFreeNode problem x

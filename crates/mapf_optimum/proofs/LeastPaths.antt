@@ -1,5 +1,5 @@
 -- What least paths cost is a lower bound on each candidate.
-use Rattle.std.proofs.Common.{ℕ, ◌<◌, ◌≤◌, List, [], length, get_or, Option, Some, None, subst, sym, ◌∙◌, ⊎_elim, arith}
+use Rattle.std.proofs.Common.{ℕ, ◌<◌, ◌≤◌, List, [], length, get_or, subst, sym, ◌∙◌, ⊎_elim, arith}
 use Rattle.std.proofs.lemmas.Bool.{cases_lt}
 use Rattle.std.proofs.lemmas.List.Sums.{get_or-le-sum_by}
 use Rattle.mapf_grid.proofs.Lists.{sum_by-le}
@@ -9,9 +9,7 @@ use Rattle.mapf_low.specs.declared.constraint.Constraint.{Constraint}
 use Rattle.mapf_low.proofs.OwnPaths.{own_path_costs}
 use Rattle.mapf_tree.specs.Problem.{Problem}
 use Rattle.mapf_tree.specs.Tree.{IsAllowedFor, IsOwnPathOf}
-use Rattle.mapf_tree.specs.Family.{IsOwnWithin}
 use Rattle.mapf_optimum.specs.FreeTree.{IsCandidate, IsLeastPathOf, HaveLeastPaths, IsLowerBoundOf}
-use Rattle.mapf_optimum.specs.FreeSearch.{IsLeastWithin}
 
 -- each agent's path in a candidate is one that it may take
 pub takes_allowed : (problem : Problem) (sets : List (List Constraint)) (other : List (List ℕ)) → IsCandidate problem sets other → (i : ℕ) → i < length problem.inst.starts →
@@ -35,11 +33,6 @@ least_paths_are_below problem sets plan has other candidate =
 -- an own path is a least one
 pub own_is_least : (problem : Problem) (i : ℕ) (cs : List Constraint) (path : List ℕ) → IsOwnPathOf problem i cs path → IsLeastPathOf problem i cs path
 own_is_least problem i cs path own = record { allowed = own.member; least = λ other allowed. own_path_costs _ _ _ _ _ _ _ own allowed }
-
--- what is found as an own path is a least one
-pub found_is_least : (problem : Problem) (bound i : ℕ) (cs : List Constraint) (found : Option (List ℕ)) → IsOwnWithin problem bound i cs found → IsLeastWithin problem bound i cs found
-found_is_least problem bound i cs None none = none
-found_is_least problem bound i cs (Some path) own = own_is_least (record problem { bound = bound }) i cs path own
 
 -- a least path within a bound is one within a higher bound
 pub least_by_bound : (problem : Problem) (lower i : ℕ) (cs : List Constraint) (path : List ℕ) → lower ≤ problem.bound → IsLeastPathOf (record problem { bound = lower }) i cs path → IsLeastPathOf problem i cs path

@@ -71,11 +71,3 @@ module _ (problem : Problem) (sets new : List (List Constraint)) (c : Conflict) 
   pub obeys_old : (plan : List (List ℕ)) → length sets ≡ length problem.inst.starts → ObeysNode problem (unnamed new) plan → ObeysNode problem (unnamed sets) plan
   obeys_old plan n obeys i lt =
       AllByRecursion-fewer (λ k. ¬ Breaks (path_of plan i) k) (get_or new i []) (get_or sets i []) (side_more i (omega (arith, n, lt))) (obeys i lt)
-
--- what obeys one list of a side's sets obeys every other
-pub obeys_again : (problem : Problem) (sets one other : List (List Constraint)) (c : Conflict) (s : Side) → AreSideSets sets c s one → AreSideSets sets c s other → agent_on c s < length sets →
-    (plan : List (List ℕ)) → length sets ≡ length problem.inst.starts → ObeysNode problem (unnamed one) plan → ObeysNode problem (unnamed other) plan
-obeys_again problem sets one other c s are are' inside plan n obeys i lt =
-    obeys_set (get_or one i []) (get_or other i []) (path_of plan i)
-    (λ x. let a = same_there problem sets one c s are inside i (omega (arith, n, lt)) x in let b = same_there problem sets other c s are' inside i (omega (arith, n, lt)) x in ((λ h. b.0 (a.1 h)), (λ h. a.0 (b.1 h))))
-    (obeys i lt)

@@ -52,7 +52,7 @@ stated_is_any problem given (Some plan, first, e) = subst (IsAnyAnswer problem) 
 stated_is_any problem given (None, never, e) = subst (IsAnyAnswer problem) (sym e) (refl, (none_is_none problem).0 never)
 
 -- and what is stated at the limit costs no more than any valid plan
-pub first_is_any : (problem : Problem) (given : Answer) → IsAnswerOf problem given → IsAnyAnswer problem given
+first_is_any : (problem : Problem) (given : Answer) → IsAnswerOf problem given → IsAnyAnswer problem given
 first_is_any problem given = go problem.nodes refl
   where
     go : (o : Option ℕ) → problem.nodes ≡ o → IsAnswerUpTo o problem given → IsAnyAnswer problem given
@@ -60,6 +60,11 @@ first_is_any problem given = go problem.nodes refl
     go (Some n) at (inl (m, cut, e)) =
         subst (IsAnyAnswer problem) (sym e) (at, cut.0.member.plan.within, cut_is_below problem n m cut)
     go (Some n) at (inr (never, is)) = stated_is_any problem given is
+
+-- so is an answer that was found, if one was
+pub found_is_any : {E : Type 0} (problem : Problem) (found : Result Answer E) → IfOk found (IsAnswerOf problem) → IfOk found (IsAnyAnswer problem)
+found_is_any problem (Ok given) is = first_is_any problem given is
+found_is_any problem (Err e) is = tt
 
 -- so the text of the first solution is that of any optimum
 text_is_any : (map scen : List ℕ) (ask : Ask) (bytes : List ℕ) → IsText map scen ask bytes → IsAnyText map scen ask bytes

@@ -6,11 +6,12 @@ ghost use Rattle.mapf_plan.specs.declared.answer.TheConstants.{MOST_BOUND};
 ghost use Rattle.mapf_plan.specs.Text.{text};
 ghost use Rattle.mapf_tree.specs.Problem.{IsLimit};
 ghost use Rattle.mapf_optimum.specs.AnyAnswer.{IsAnyAnswer};
-ghost use Rattle.mapf_solve.specs.Out.{AreNumbers, IsRefusal, IsProblemOf, IsOut, IsBest, KeepsLimit, IsOnlyOut, IsWorkers, problem_of};
+ghost use Rattle.mapf_solve.specs.Wanted.{IsWanted};
+ghost use Rattle.mapf_solve.specs.Out.{AreNumbers, IsRefusal, IsProblemOf, IsTextBy, IsOut, IsBest, KeepsLimit, IsOnlyOut, IsWorkers, problem_of};
 
 use crate::means::Means;
 use crate::rounds::tables;
-use crate::solving::solve_from;
+use crate::wanted::{Wanted, solve_wanted};
 use crate::{Ask, NoWatch, Pace, Refusal, Watch};
 use mapf_board::{AlwaysGrants, Gate, MOST_WORKERS};
 use mapf_grid::{Instance, NoMemory, instance_of};
@@ -52,7 +53,7 @@ pub fn answer<R: Threads + Sync, G: Gate>(
         (λ fault. fault ≢ Refusal.NoMemory → IsWorkers ask → IsOnlyOut map.now scen.now ask (Err fault)) }
 {
     let means = Means::new(rt, alloc, Pace::LONGEST, gate);
-    text_or_fault(means, map, scen, ask, &mut NoWatch)
+    text_or_fault(means, map, scen, ask, Wanted::FirstSolution, &mut NoWatch)
 }
 
 /// What [`answer`] gives, and a watch is told how far the search has come: first of the root, if that is in the tree, then after each
@@ -76,29 +77,30 @@ pub fn answer_watched<R: Threads + Sync, G: Gate, W: Watch>(
         (λ fault. fault ≢ Refusal.NoMemory → IsWorkers ask → IsOnlyOut map.now scen.now ask (Err fault)) }
 {
     let means = Means::new(rt, alloc, Pace::WATCHED, gate);
-    text_or_fault(means, map, scen, ask, watch)
+    text_or_fault(means, map, scen, ask, Wanted::FirstSolution, watch)
 }
 
-/// The same by the ask's number of workers, where nothing is said of other plans and other numbers of workers.
+/// The text of the answer that is wanted, by the ask's number of workers, or the first fault, where nothing is said of other plans and
+/// other numbers of workers.
 pub(crate) fn text_or_fault<R: Threads + Sync, G: Gate, W: Watch>(
     mut means: Means<'_, R, G, AlwaysGrants>,
     map: &[u8],
     scen: &[u8],
     ask: Ask,
+    wanted: Wanted,
     watch: &mut W,
 ) -> Result<Vec<u8>, Refusal>
-    ensures text { IfOk result (λ bytes. IsOut map.now scen.now ask (Ok bytes.items)) }
-    ensures fault { IfErr result (λ fault. fault ≢ Refusal.NoMemory → IsOut map.now scen.now ask (Err fault)) }
+    ensures text { IfOk result (λ bytes. IsTextBy (IsWanted wanted) map.now scen.now ask bytes.items) }
+    ensures fault { IfErr result (λ fault. fault ≢ Refusal.NoMemory → IsRefusal map.now scen.now ask fault) }
 {
     let problem = problem_by_rounds(&mut means, map, scen, ask)?;
-    let goals = problem.instance().agents() as u64;
-    let answer = solve_from(&means, &problem, goals, watch)?;
+    let answer = solve_wanted(&means, &problem, wanted, watch)?;
     Ok(spell(means.alloc, &problem, &answer)?)
 }
 
 /// The problem that is asked for, or else the first fault. Its tables are the jobs of a round, and from then on there are as many
 /// workers as the ask has.
-pub(crate) fn problem_by_rounds<R: Threads + Sync, G: Gate>(
+fn problem_by_rounds<R: Threads + Sync, G: Gate>(
     means: &mut Means<'_, R, G, AlwaysGrants>,
     map: &[u8],
     scen: &[u8],

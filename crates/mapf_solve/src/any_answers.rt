@@ -5,13 +5,12 @@ ghost use Rattle.mapf_solve.specs.Out.{IsRefusal, IsBest};
 ghost use Rattle.mapf_solve.specs.AnyOut.{IsAnyText, KeepsAnyLimit};
 
 use crate::alone::problem_alone;
-use crate::answers::{problem_by_rounds, spell};
+use crate::answers::{spell, text_or_fault};
 use crate::means::Means;
-use crate::rounds::root_paths;
+use crate::wanted::Wanted;
 use crate::{Ask, NoWatch, Pace, Refusal, Watch};
-use mapf_board::{AlwaysGrants, Gate};
-use mapf_optimum::{solve_any, solve_any_from};
-use mapf_tree::Problem;
+use mapf_board::Gate;
+use mapf_optimum::solve_any;
 use std::alloc::Global;
 use std::thread::Threads;
 
@@ -58,13 +57,8 @@ pub fn answer_any_watched<R: Threads + Sync, G: Gate, W: Watch>(
     ensures limit { IfOk result (λ bytes. (n : ℕ) → ask.nodes ≡ Some n
         → KeepsAnyLimit map.now scen.now ask n bytes.items) }
 {
-    any_text_or_fault(
-        Means::new(rt, alloc, Pace::LONGEST, gate),
-        map,
-        scen,
-        ask,
-        watch,
-    )
+    let means = Means::new(rt, alloc, Pace::LONGEST, gate);
+    text_or_fault(means, map, scen, ask, Wanted::AnyOptimum, watch)
 }
 
 /// The text of any optimum, or the first fault, as [`answer_any`] gives it: no thread is started, whatever number of workers is asked
@@ -84,26 +78,7 @@ pub fn answer_any_alone(
     any_text_or_fault_alone(alloc, map, scen, ask)
 }
 
-/// The same by the ask's number of workers, where nothing is said of other plans. The tables and the paths of the root are the jobs of
-/// rounds; the search goes on alone.
-pub(crate) fn any_text_or_fault<R: Threads + Sync, G: Gate, W: Watch>(
-    mut means: Means<'_, R, G, AlwaysGrants>,
-    map: &[u8],
-    scen: &[u8],
-    ask: Ask,
-    watch: &mut W,
-) -> Result<Vec<u8>, Refusal>
-    ensures text { IfOk result (λ bytes. IsAnyText map.now scen.now ask bytes.items) }
-    ensures fault { IfErr result (λ fault. fault ≢ Refusal.NoMemory → IsRefusal map.now scen.now ask fault) }
-{
-    let problem = problem_by_rounds(&mut means, map, scen, ask)?;
-    let goals = problem.instance().agents() as u64;
-    let paths = root_paths(&means, &problem, goals)?;
-    let answer = solve_any_from(means.alloc, &problem, paths, watch)?;
-    Ok(spell(means.alloc, &problem, &answer)?)
-}
-
-/// The same on this thread.
+/// The same, where nothing is said of other plans.
 fn any_text_or_fault_alone(
     alloc: Global,
     map: &[u8],

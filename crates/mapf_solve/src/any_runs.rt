@@ -5,11 +5,12 @@ ghost use Rattle.mapf_plan.specs.Device.{Counts};
 ghost use Rattle.mapf_plan.specs.Files.{is_read_failure, is_write_failure, AreWithin};
 ghost use Rattle.mapf_solve.specs.Run.{end_of, files, LeavesAnyText, LeavesBest, LeavesAnyLimit};
 
-use crate::any_answers::any_text_or_fault;
 use crate::means::Means;
+use crate::runs::write_text_or_fault;
+use crate::wanted::Wanted;
 use crate::{Ask, NoWatch, Pace, RunFault, Watch};
-use mapf_board::{AlwaysGrants, NoGate};
-use mapf_plan::{DeviceFault, FileName, Sink, Source, read_file, write_text};
+use mapf_board::NoGate;
+use mapf_plan::{DeviceFault, FileName, Sink, Source};
 use std::alloc::Global;
 use std::thread::Threads;
 
@@ -83,32 +84,5 @@ pub fn run_any_watched<R: Threads + Sync, M: Source, S: Source, O: Sink, W: Watc
     ensures memory { IfErr result (λ fault. fault ≢ RunFault.Device DeviceFault.NoMemory) }
 {
     let means = Means::new(rt, alloc, Pace::LONGEST, &NoGate);
-    write_any_text_or_fault(means, map, scen, out, ask, watch)
-}
-
-/// The same, where nothing is said of other plans.
-fn write_any_text_or_fault<R: Threads + Sync, M: Source, S: Source, O: Sink, W: Watch>(
-    means: Means<'_, R, NoGate, AlwaysGrants>,
-    map: &mut M,
-    scen: &mut S,
-    out: &mut O,
-    ask: Ask,
-    watch: &mut W,
-) -> Result<(), RunFault>
-    requires map { M.failures map.old < u64.MAX }
-    requires scen { S.failures scen.old < u64.MAX }
-    requires out { O.failures out.old < u64.MAX }
-    ensures map { Counts (is_read_failure FileName.Map (end_of result)) (M.failures map.old) (M.failures map.new) }
-    ensures scen { Counts (is_read_failure FileName.Scenario (end_of result))
-        (S.failures scen.old) (S.failures scen.new) }
-    ensures out { Counts (is_write_failure (end_of result)) (O.failures out.old) (O.failures out.new) }
-    ensures within { AreWithin (files (M.remaining map.old) (S.remaining scen.old)) (end_of result) }
-    ensures text { LeavesAnyText (M.remaining map.old) (S.remaining scen.old) ask
-        (O.contents out.old) (O.contents out.new) result }
-    ensures memory { IfErr result (λ fault. fault ≢ RunFault.Device DeviceFault.NoMemory) }
-{
-    let map = read_file(means.alloc, map, FileName::Map)?;
-    let scen = read_file(means.alloc, scen, FileName::Scenario)?;
-    let text = any_text_or_fault(means, &map, &scen, ask, watch)?;
-    Ok(write_text(out, &text)?)
+    write_text_or_fault(means, map, scen, out, ask, Wanted::AnyOptimum, watch)
 }

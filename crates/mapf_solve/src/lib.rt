@@ -16,6 +16,7 @@ mod runs;
 mod sessions;
 mod sessions_alone;
 mod solving;
+mod wanted;
 mod watch;
 
 pub use alone::answer_alone;

@@ -3,10 +3,12 @@
 ghost use Rattle.std.specs.Prelude.{◌≡◌, ◌≢◌, ℕ, ◌<◌, IfErr, Some, None};
 ghost use Rattle.mapf_plan.specs.Device.{Counts};
 ghost use Rattle.mapf_plan.specs.Files.{is_read_failure, is_write_failure, AreWithin};
-ghost use Rattle.mapf_solve.specs.Run.{end_of, files, LeavesText, LeavesBest, LeavesLimit, LeavesOnly};
+ghost use Rattle.mapf_solve.specs.Wanted.{IsWanted};
+ghost use Rattle.mapf_solve.specs.Run.{end_of, files, LeavesTextBy, LeavesText, LeavesBest, LeavesLimit, LeavesOnly};
 
 use crate::answers::text_or_fault;
 use crate::means::Means;
+use crate::wanted::Wanted;
 use crate::{Ask, NoWatch, Pace, RunFault, Watch};
 use mapf_board::{AlwaysGrants, NoGate};
 use mapf_plan::{DeviceFault, FileName, Sink, Source, read_file, write_text};
@@ -60,7 +62,15 @@ pub fn run<R: Threads + Sync, M: Source, S: Source, O: Sink>(
     ensures memory { IfErr result (λ fault. fault ≢ RunFault.Device DeviceFault.NoMemory) }
 {
     let means = Means::new(rt, alloc, Pace::LONGEST, &NoGate);
-    write_text_or_fault(means, map, scen, out, ask, &mut NoWatch)
+    write_text_or_fault(
+        means,
+        map,
+        scen,
+        out,
+        ask,
+        Wanted::FirstSolution,
+        &mut NoWatch,
+    )
 }
 
 /// What [`run`] does, and a watch is told how far the search has come, as by [`answer_watched`](crate::answer_watched).
@@ -93,16 +103,17 @@ pub fn run_watched<R: Threads + Sync, M: Source, S: Source, O: Sink, W: Watch>(
     ensures memory { IfErr result (λ fault. fault ≢ RunFault.Device DeviceFault.NoMemory) }
 {
     let means = Means::new(rt, alloc, Pace::WATCHED, &NoGate);
-    write_text_or_fault(means, map, scen, out, ask, watch)
+    write_text_or_fault(means, map, scen, out, ask, Wanted::FirstSolution, watch)
 }
 
-/// The same, where nothing is said of other plans and other numbers of workers.
-fn write_text_or_fault<R: Threads + Sync, M: Source, S: Source, O: Sink, W: Watch>(
+/// The same with the answer that is wanted, where nothing is said of other plans and other numbers of workers.
+pub(crate) fn write_text_or_fault<R: Threads + Sync, M: Source, S: Source, O: Sink, W: Watch>(
     means: Means<'_, R, NoGate, AlwaysGrants>,
     map: &mut M,
     scen: &mut S,
     out: &mut O,
     ask: Ask,
+    wanted: Wanted,
     watch: &mut W,
 ) -> Result<(), RunFault>
     requires map { M.failures map.old < u64.MAX }
@@ -113,12 +124,12 @@ fn write_text_or_fault<R: Threads + Sync, M: Source, S: Source, O: Sink, W: Watc
         (S.failures scen.old) (S.failures scen.new) }
     ensures out { Counts (is_write_failure (end_of result)) (O.failures out.old) (O.failures out.new) }
     ensures within { AreWithin (files (M.remaining map.old) (S.remaining scen.old)) (end_of result) }
-    ensures text { LeavesText (M.remaining map.old) (S.remaining scen.old) ask
+    ensures text { LeavesTextBy (IsWanted wanted) (M.remaining map.old) (S.remaining scen.old) ask
         (O.contents out.old) (O.contents out.new) result }
     ensures memory { IfErr result (λ fault. fault ≢ RunFault.Device DeviceFault.NoMemory) }
 {
     let map = read_file(means.alloc, map, FileName::Map)?;
     let scen = read_file(means.alloc, scen, FileName::Scenario)?;
-    let text = text_or_fault(means, &map, &scen, ask, watch)?;
+    let text = text_or_fault(means, &map, &scen, ask, wanted, watch)?;
     Ok(write_text(out, &text)?)
 }

@@ -1,7 +1,6 @@
 //! Sessions: a search takes nodes with a source whose owner works ahead, and workers beside it work out children of nodes that wait.
 
 mod brands;
-mod child;
 mod desk;
 mod lookahead;
 mod session;

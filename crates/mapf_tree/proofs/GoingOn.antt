@@ -17,11 +17,6 @@ pub record GoesOn (p : Problem) (from : Option (List ℕ)) (now : Searched) (n :
 pub takes_none : (p : Problem) (last : Option (List ℕ)) → TakesBetween p last last 0
 takes_none p last = ([], tt, refl, λ m. ((λ c. absurd (nowhere c)), (λ k. absurd (k.2 k.1))))
 
--- at first none
-pub goes_first : (s : Searched) → IsSearch s → s.outcome ≡ Ok None → GoesOn s.problem s.last s 0
-goes_first s h e =
-    record { same = refl; going = e; search = h; further = λ m i r. r; took = takes_none s.problem s.last }
-
 -- one node more
 pub takes_more : (p : Problem) (from now new : Option (List ℕ)) (n : ℕ) → ((m : PlannedNode) → IsMember p m → IsReached from m → IsReached now m)
     → TakesBetween p from now n → TakesOne p now new → TakesBetween p from new (n + 1)

@@ -1,7 +1,7 @@
 -- What a path cache remembers.
-use Rattle.mapf_tree.proofs.Prelude.{◌≡◌, ◌⊎◌, ℕ, zero, suc, ◌+◌, ◌<◌, ◌≤◌, List, [], ◌∷◌, ◌++◌, length, get_or, set, replicate, Option, Some, None, IsSome, subst, subst₂, sym, refl, ap, ◌∙◌, inl, inr, ⊎_elim, arith, get_or-set_same, get_or-set_other, get_or-le-sum_by, get_or_from_slice_get, slice_get_within, slice_get-get_or, IfSome_then, below_more, set_cases, own_path_costs, same_own, own_set}
+use Rattle.mapf_tree.proofs.Prelude.{◌≡◌, ◌⊎◌, ℕ, zero, suc, ◌+◌, ◌<◌, ◌≤◌, List, [], ◌∷◌, ◌++◌, length, get_or, set, replicate, Option, Some, None, IsSome, subst, subst₂, sym, refl, ap, ◌∙◌, inl, inr, ⊎_elim, arith, get_or-set_same, get_or-set_other, get_or_from_slice_get, slice_get_within, slice_get-get_or, IfSome_then, below_more, set_cases, same_own, own_set}
 use Rattle.std.proofs.lemmas.List.{length-set, length_push, length-append, length-replicate, get_or-replicate, get_or_append_left, get_or_push}
-use Rattle.mapf_tree.specs.Prelude.{slice_get, slice_index, option_map, cost, path_of, plan_cost, Conflict, Constraint, Side, Path, NoneWithin, ConstraintSet, Problem, Changed, Node, IsSameSet, IsConflictOf, IsBranching, IsChildOf, IsOwnWithin, Leaves, SideQuery, IsQueryOf, IsFoundBy, IsAllowedFor, IsOwnPathOf, agent_on, constraint_on, constraints_of, PathCache, HasSet, IsExtension, AreExtensions, IsExtended, AreKnown, IsCachedPath, IsOwnIn, IsNumberOf, IsAskedAt, IsTurnAt, HasNoTurnAt, GivesOwn, HasPath, AreFirst, AreFirstPaths, AreSetsOf}
+use Rattle.mapf_tree.specs.Prelude.{slice_get, slice_index, option_map, cost, path_of, plan_cost, Conflict, Constraint, Side, Path, NoneWithin, ConstraintSet, Problem, Changed, Node, IsSameSet, IsConflictOf, IsBranching, IsChildOf, IsOwnWithin, Leaves, SideQuery, IsQueryOf, IsFoundBy, IsOwnPathOf, agent_on, constraint_on, constraints_of, PathCache, HasSet, IsExtension, AreExtensions, IsExtended, AreKnown, IsCachedPath, IsOwnIn, IsNumberOf, IsAskedAt, IsTurnAt, HasNoTurnAt, GivesOwn, HasPath, AreFirst, AreSetsOf}
 use Rattle.mapf_tree.specs.declared.own_paths.constraint_sets.Extension.{Extension}
 use Rattle.mapf_tree.specs.declared.own_paths.constraint_sets.CachedPath.{CachedPath}
 use Rattle.mapf_tree.proofs.ConstraintSets.{with_same, IsWith, IsWith-cons}
@@ -187,13 +187,6 @@ path_at_node cache node sets agent number s path branching are l is at own =
     same_own _ _ _ _ _ _ _ (own_set _ _ _ _ set.0 (constraints_of branching.of.0 agent) path all known.1) (branching.stands.member.plan.own agent inside) in
     known.0 ∙ ap Some (one ∙ ap (λ plan. path_of plan agent) (sym branching.stands.plan))
 
--- one agent more, whose path has this number
-pub first_more : (paths : List (List ℕ)) (old new : List ℕ) (plan : List (List ℕ)) (n number : ℕ) → ((k : ℕ) → k < n → slice_index new k ≡ slice_index old k) → slice_index new n ≡ number →
-    AreFirstPaths paths old plan n → slice_get paths number ≡ Some (path_of plan n) → AreFirstPaths paths new plan (n + 1)
-first_more paths old new plan n number kept here are one =
-    below_more (λ k. slice_get paths (slice_index new k) ≡ Some (path_of plan k)) n (λ k l. subst (λ m. slice_get paths m ≡ Some (path_of plan k)) (sym (kept k l)) (are k l))
-    (subst (λ m. slice_get paths m ≡ Some (path_of plan n)) (sym here) one)
-
 -- the agent of a query of a node's side is one of the agents
 pub query_inside : (node : Node) (q : SideQuery) → IsBranching q.problem node → IsQueryOf node q → q.agent < length node.plan
 query_inside node q branching is = told node.conflict refl branching.conflict
@@ -216,40 +209,13 @@ root_own problem node agent branching none inside =
 pub sets_at_first : (problem : Problem) (sets : List ConstraintSet) (numbers : List ℕ) → AreFirst problem sets numbers → 0 < length numbers → AreSetsOf sets numbers (replicate (length problem.inst.starts) [])
 sets_at_first problem sets numbers are some = ⊎_elim (λ e. absurd (omega (arith, some, ap length e))) (λ h. h) are
 
--- what the others leave of the bound is at most the bound
-pub bound_within : (problem : Problem) (node : Node) (agent bound : ℕ) → agent < length node.plan → Leaves problem node.plan agent bound → bound ≤ problem.bound
-bound_within problem node agent bound inside leaves = omega (arith, leaves, get_or-le-sum_by cost node.plan agent [] inside)
-
--- a path that is dearer than a bound tells that there is none within it
-none_dearer : (problem : Problem) (bound agent : ℕ) (cs : List Constraint) (path : List ℕ) → bound ≤ problem.bound → bound < cost path → IsOwnPathOf problem agent cs path → IsOwnWithin problem bound agent cs None
-none_dearer problem bound agent cs path small dear own q allowed =
-    let more : IsAllowedFor problem agent cs q = record { path = allowed.path; within = omega (arith, allowed.within, small); obeys = allowed.obeys } in
-    absurd (omega (arith, own_path_costs _ _ _ _ cs path q own more, allowed.within, dear))
-
--- where there is no path within a bound there is none within a lower one
-none_lower : (problem : Problem) (bound least agent : ℕ) (cs : List Constraint) → bound ≤ least → IsOwnWithin problem least agent cs None → IsOwnWithin problem bound agent cs None
-none_lower problem bound least agent cs small none q allowed = none q (record { path = allowed.path; within = omega (arith, allowed.within, small); obeys = allowed.obeys })
-
--- the own path of a known set serves a lower bound that it keeps, and above it there is none
+-- the own path of a known set serves a lower bound that it keeps
 pub own_in_path : (cache : PathCache) (set number bound : ℕ) (path : List ℕ) (s : ConstraintSet) → AreKnown cache.problem cache.paths cache.sets → slice_get cache.sets set ≡ Some s → HasPath s.own number path →
     bound ≤ cache.problem.bound → cost path ≤ bound → IsOwnIn cache set bound (Some number)
 own_in_path cache set number bound path s is at own small within agent cs has =
     let known = own_path_told cache set number agent cs s path is at own has in
     subst (IsOwnWithin cache.problem bound agent cs) (ap Some (sym (get_or_from_slice_get cache.paths number path [] known.0)))
     (own_within_lower _ cs bound cache.problem.bound _ _ path small within known.1)
-
-pub own_in_dearer : (cache : PathCache) (set number bound : ℕ) (path : List ℕ) (s : ConstraintSet) → AreKnown cache.problem cache.paths cache.sets → slice_get cache.sets set ≡ Some s → HasPath s.own number path →
-    bound ≤ cache.problem.bound → bound < cost path → IsOwnIn cache set bound None
-own_in_dearer cache set number bound path s is at own small dear agent cs has =
-    let known = own_path_told cache set number agent cs s path is at own has in
-    λ q allowed. none_dearer cache.problem bound agent cs path small dear known.1 q allowed
-
--- where there was none within a bound there is none within a lower one
-pub own_in_none : (cache : PathCache) (set bound least : ℕ) (s : ConstraintSet) → AreKnown cache.problem cache.paths cache.sets → slice_get cache.sets set ≡ Some s → s.own ≡ NoneWithin least → bound ≤ least → IsOwnIn cache set bound None
-own_in_none cache set bound least s is at own small agent cs has =
-    let known = subst (IsCachedPath cache.problem cache.paths s.agent s.constraints) own (is set s at) in
-    let same = same_set cache.sets set agent cs s at has in
-    none_lower cache.problem bound least agent cs small (subst₂ (λ i xs. IsOwnWithin cache.problem least i xs None) same.0 same.1 known)
 
 -- what is known of the agent's set at a node and its constraint is what the side's query asks for
 found_at : (cache : PathCache) (node : Node) (side : Side) (sets : List ℕ) (c : Conflict) (agent bound extended : ℕ) (constraint : Constraint) (found : Option ℕ) → AreSetsOf cache.sets sets node.constraints → node.conflict ≡ Some c →

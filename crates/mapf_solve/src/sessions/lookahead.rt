@@ -1,4 +1,4 @@
-//! What sessions of a search hand on: own paths, and for which children of nodes that wait it was asked.
+//! What sessions of a search hand on: own paths, and which nodes that wait were asked for their children.
 
 ghost use Rattle.std.specs.Prelude.{◌≡◌, ◌+◌, ◌<◌, ◌≤◌, All, IfOk, IfSome};
 ghost use Rattle.mapf_board.specs.declared.limits.TheConstants.{MOST_WORKERS};
@@ -6,24 +6,26 @@ ghost use Rattle.mapf_tree.specs.Family.{IsBranching, IsChildOf};
 ghost use Rattle.mapf_solve.specs.Sessions.{IsGivenOf, children_in};
 
 use crate::sessions::brands::OneProblem;
-use crate::sessions::child::Child;
 use crate::sessions::desk::Given;
 use crate::sessions::side_job::{SideJob, SideWork};
 use crate::sessions_alone::SessionsAlone;
 use mapf_board::{Left, Pair};
 use mapf_grid::NoMemory;
-use mapf_tree::{Node, OwnPaths, Problem, Side};
+use mapf_tree::{Key, Node, OwnPaths, Problem, Side};
 use std::alloc::Global;
 use std::collections::BTreeMap;
 use std::marker::PhantomData;
 
-/// The own paths that a search knows, for which children of its waiting nodes it was asked, and how jobs are numbered.
+/// The numbers of the jobs for a node's children, left first; none where there is no job.
+pub(crate) type Numbers = (Option<u64>, Option<u64>);
+
+/// The own paths that a search knows, which of its waiting nodes were asked for their children, and how jobs are numbered.
 pub(crate) struct Lookahead<'p, P: OneProblem> {
     alloc: Global,
     /// Boxed, since a session takes what is handed on and gives it back.
     own_paths: Box<OwnPaths<'p>>,
-    /// For which children of nodes that wait it was asked: the number of the job, none where the path was known.
-    asked: BTreeMap<Child, Option<u64>>,
+    /// The nodes that wait and were asked for their children: the numbers of the jobs.
+    asked: BTreeMap<Key, Numbers>,
     /// How many workers there are.
     pub(crate) workers: usize,
     /// The number of the next job.
@@ -91,31 +93,33 @@ impl<'p, P: OneProblem> Lookahead<'p, P> {
         Box::into_inner(own_paths)
     }
 
-    /// The job for a child of a node, to be posted, where it wasn't asked for yet and its path isn't known. None where memory runs
-    /// out, too.
+    /// Whether a node that waits was asked for its children.
+    pub(crate) fn has_asked(&self, node: &Node) -> bool {
+        self.asked.contains_key(node.key())
+    }
+
+    /// A node that waits was asked for its children: these are the numbers of the jobs. That is forgotten where memory runs out.
+    pub(crate) fn remember(&mut self, node: &Node, numbers: Numbers) {
+        if let Ok(key) = node.key().copy(self.alloc) {
+            let _refused = self.asked.insert(key, numbers);
+        }
+    }
+
+    /// The numbers of the jobs for the children of a node, which is asked for them no longer.
+    pub(crate) fn take_numbers(&mut self, node: &Node) -> Numbers {
+        self.asked.remove(node.key()).unwrap_or((None, None))
+    }
+
+    /// The job for a child of a node, to be posted, where its path isn't known. None where memory runs out, too.
     pub(crate) fn job(&mut self, node: &Node, side: Side) -> Option<SideJob<'p>>
         requires { IsBranching P.problem node.now }
         ensures { IfSome result (λ job. job.query.problem ≡ P.problem) }
     {
-        let child = Child::of(self.alloc, node, side).ok()?;
-        if self.asked.contains_key(&child) {
-            return None;
-        }
-        let Some(query) = self.own_paths.unknown_query(node, side).ok()? else {
-            let _known = self.asked.insert(child, None);
-            return None;
-        };
+        let query = self.own_paths.unknown_query(node, side).ok()??;
         let number = self.next;
         let job = SideJob::of(self.alloc, node, query, number).ok()?;
-        self.asked.insert(child, Some(number)).ok()?;
         self.next = number.saturating_add(1);
         Some(job)
-    }
-
-    /// The number of the job for a child of a node, if one was posted. It is remembered no longer that it was asked for.
-    pub(crate) fn take_number(&mut self, node: &Node, side: Side) -> Option<u64> {
-        let child = Child::of(self.alloc, node, side).ok()?;
-        self.asked.remove(&child)?
     }
 
     /// Performs a job that nobody claimed: its path is remembered, unless memory runs out.

@@ -50,37 +50,46 @@ impl<'p, 's, P: OneProblem, B: OneBoard, G> SessionSource<'p, 's, P, B, G> {
         source
     }
 
-    /// Posts jobs for the children of the first waiting nodes of which nothing is known, left first, as long as there is a free
-    /// slot.
+    /// Posts jobs for the children of the first waiting nodes of which nothing is known, as long as there is a free slot.
     fn post_all(&mut self, waiting: &OpenList)
         requires { AllStand P.problem waiting.now }
     {
         for node in waiting.first(4 * self.lookahead.workers) {
             if node.conflict().is_some() {
-                self.post(node, Side::Left);
-                self.post(node, Side::Right);
+                self.post(node);
             }
         }
     }
 
-    /// Posts the job for a child of a node, if nothing is known of it and a slot is free.
-    fn post(&mut self, node: &Node, side: Side)
+    /// Posts the jobs for the children of a node, left first, if it wasn't asked for them yet and a slot is free.
+    fn post(&mut self, node: &Node)
         requires { IsBranching P.problem node.now }
     {
-        if let Some(slot) = self.desk.free_slot() {
-            if let Some(job) = self.lookahead.job(node, side) {
-                self.desk.post(slot, job);
-            }
+        if self.lookahead.has_asked(node) || self.desk.free_slot().is_none() {
+            return;
         }
+        let left = self.post_side(node, Side::Left);
+        let right = self.post_side(node, Side::Right);
+        self.lookahead.remember(node, (left, right));
     }
 
-    /// What became of the job for a child of the node that is expanded, if there is one, is kept. A job that nobody claimed
-    /// comes out of its slot, to be performed now.
-    fn fetch(&mut self, node: &Node, side: Side) -> Option<SideJob<'p>>
+    /// Posts the job for a child of a node, if its path isn't known and a slot is free: its number.
+    fn post_side(&mut self, node: &Node, side: Side) -> Option<u64>
+        requires { IsBranching P.problem node.now }
+    {
+        let slot = self.desk.free_slot()?;
+        let job = self.lookahead.job(node, side)?;
+        let number = job.number();
+        self.desk.post(slot, job);
+        Some(number)
+    }
+
+    /// What became of the job of this number, if there is one, is kept. A job that nobody claimed comes out of its slot, to be
+    /// performed now.
+    fn fetch(&mut self, number: Option<u64>) -> Option<SideJob<'p>>
         ensures { IfSome result (λ job. job.query.problem ≡ P.problem) }
     {
-        let number = self.lookahead.take_number(node, side)?;
-        let slot = self.desk.slot_of(number)?;
+        let slot = self.desk.slot_of(number?)?;
         let Err(Found::Posted) = self.keep_done(slot) else {
             return None;
         };
@@ -109,8 +118,9 @@ impl<'p, 's, P: OneProblem, B: OneBoard, G: Gate> Children for SessionSource<'p,
         _problem: &Problem,
         node: &Node,
     ) -> Result<(Option<Node>, Option<Node>), NoMemory> {
-        for side in [Side::Left, Side::Right] {
-            if let Some(job) = self.fetch(node, side) {
+        let (left, right) = self.lookahead.take_numbers(node);
+        for number in [left, right] {
+            if let Some(job) = self.fetch(number) {
                 let number = job.number();
                 self.gate.enter(number);
                 self.lookahead.perform(&job);
