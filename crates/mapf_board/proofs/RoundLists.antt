@@ -4,7 +4,7 @@ use Rattle.std.specs.List.{AllZip}
 use Rattle.std.specs.Prelude.{slice_get}
 use Rattle.std.proofs.lemmas.List.{get_or-map, length-map}
 use Rattle.std.proofs.lemmas.Option.{IfSome_then, none-some, same_Some, slice_get-get_or}
-use Rattle.std.proofs.lemmas.List.Elements.{All-cons, All-contains}
+use Rattle.std.proofs.lemmas.List.Elements.{All-contains}
 use mathlib.Core.List.{append_assoc, append-nil}
 use Rattle.mapf_board.specs.Rounds.{ArePlacesOf, IsNumbered}
 use Rattle.mapf_board.proofs.Sums.{All_more, All_first, All_rest}
@@ -14,24 +14,10 @@ pub All_if_more : {A : Type 0} (P : A → Type 0) (b : Bool) (old new : List A) 
 All_if_more P true old new x e all one = All_more P old new x e all one
 All_if_more P false old new x e all one = subst (λ (l : List _). All P l) (sym e) all
 
-module _ {A : Type 0} where
-  -- one item goes from the rest of a list to what was taken of it
-  pub one_taken : (whole done old new : List A) (x : A) → old ≡ x ∷ new → done ++ old ≡ whole → (done ++ x ∷ []) ++ new ≡ whole
-  one_taken whole done old new x e all = append_assoc done (x ∷ []) new ∙ ap (λ l. done ++ l) (sym e) ∙ all
-
-module _ {A B : Type 0} where
-  -- what holds of the shown item at a place of a list that shows another's items
-  pub All-from_map : (P : B → Type 0) (f : A → B) (l : List A) (m : List B) → map f l ≡ m → All P m → All (λ a. P (f a)) l
-  All-from_map P f [] m e all = λ k d low. absurd (omega (arith, low))
-  All-from_map P f (x ∷ xs) m e all =
-      let each : All P (f x ∷ map f xs) = subst (λ (l : List B). All P l) (sym e) all in
-      let rest = All-from_map P f xs (map f xs) refl (All_rest P (f x ∷ map f xs) (map f xs) (f x) refl each) in
-      All-cons (λ a. P (f a)) x xs (All_first P (f x ∷ map f xs) (map f xs) (f x) refl each) rest
-
 -- what is made of an item that was read at a place of a list stands there among those that are made of the list's
-pub made_at : {A B : Type 0} (f : A → B) (l : List A) (n : ℕ) (x : A) (y : B) → n < length l → x ≡ get_or l n x → y ≡ f x → slice_get (map f l) n ≡ Some y
-made_at f l n x y low at same =
-    slice_get-get_or (map f l) n y (subst (λ k. n < k) (sym (length-map l f)) low) ∙ ap Some (get_or-map f l n x y low ∙ ap f (sym at) ∙ sym same)
+pub made_at : {A B : Type 0} (f : A → B) (l : List A) (n : ℕ) (x : A) (y : B) → n < length l → y ≡ f (get_or l n x) → slice_get (map f l) n ≡ Some y
+made_at f l n x y low same =
+    slice_get-get_or (map f l) n y (subst (λ k. n < k) (sym (length-map l f)) low) ∙ ap Some (get_or-map f l n x y low ∙ sym same)
 
 module _ {J A : Type 0} where
   -- places that are all empty may stand beside any jobs

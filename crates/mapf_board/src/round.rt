@@ -1,6 +1,6 @@
 //! A round: workers in threads draw the numbers of orders, do the jobs that are ordered, and are joined.
 
-ghost use Rattle.std.specs.Prelude.{◌≡◌, [], ◌<◌, ◌≤◌, All, IfOk, length, map};
+ghost use Rattle.std.specs.Prelude.{◌≡◌, ◌<◌, ◌≤◌, All, IfOk, length, map};
 ghost use Rattle.std.specs.List.{AllZip};
 ghost use Rattle.mapf_board.specs.Rounds.{ArePlacesOf, IsNumbered};
 ghost use Rattle.mapf_board.specs.Seats.{IsSeatOf, count_of};
@@ -58,16 +58,16 @@ pub fn answer_all<R: Threads + Sync, W: Work, O: Order<W> + Sync, G: Gate, S: Su
 /// Does the jobs of at most 1,000 orders by 1 to 64 workers, and no more than there are orders, and returns when all of
 /// them have ended.
 ///
-/// There is a place for each order, in the orders' order, which holds the pair of its job. It is empty where the job found
-/// no memory, when it was made, done or kept. An error is that memory ran out for the round as a whole (its tickets, its
-/// threads or its lists); the pairs that were made are lost then, and the orders stand as they were.
-pub fn run_round<R: Threads + Sync, W: Work, O: Order<W> + Sync, G: Gate, S: Supply>(
+/// There is a place for each order, in the orders' order, which holds the pair of its job. It is empty where there was no
+/// memory for the job, when it was made, done or kept. An error is that memory ran out for the round as a whole (its
+/// tickets, its threads or the list of places); the pairs that were made are lost then, and the orders stand as they were.
+pub fn run_round<'r, R: Threads + Sync, W: Work, O: Order<W> + Sync, G: Gate, S: Supply>(
     rt: &R,
     alloc: Global,
-    work: &W,
-    orders: &[O],
-    gate: &G,
-    supply: &S,
+    work: &'r W,
+    orders: &'r [O],
+    gate: &'r G,
+    supply: &'r S,
     workers: usize,
 ) -> Result<Vec<Option<Pair<W>>>, NoMemory>
     requires orders { length orders.now ≤ MOST_TICKETS }
@@ -79,18 +79,15 @@ pub fn run_round<R: Threads + Sync, W: Work, O: Order<W> + Sync, G: Gate, S: Sup
         return Ok(places);
     }
     let (tickets, seats) = Tickets::new(alloc, orders.len(), workers.min(orders.len()))?;
-    let begun = with_room(alloc, seats, orders.len())?;
-    let made = thread::map_vec(
-        rt,
-        begun,
-        &|begun|
-            requires seat { IsSeatOf tickets begun.0 }
-            requires pairs { begun.1.items ≡ [] }
-            requires count { count_of tickets ≡ length orders.now }
-            ensures { All (IsNumbered (map O.ordered orders.entry.now)) result.items }
-        { do_orders(alloc, &tickets, begun, work, orders, gate, supply) },
-    )?;
-    for pairs in made {
+    let round = Round {
+        alloc,
+        tickets,
+        work,
+        orders,
+        gate,
+        supply,
+    };
+    for pairs in round.run(rt, seats)? {
         put_all(orders, pairs, &mut places);
     }
     Ok(places)
@@ -99,62 +96,62 @@ pub fn run_round<R: Threads + Sync, W: Work, O: Order<W> + Sync, G: Gate, S: Sup
 /// A pair, and the number that a worker drew for its order.
 type Numbered<W> = (usize, Pair<W>);
 
-/// What a worker begins with: its seat, and an empty list for its pairs.
-type Begun<W> = (TicketSeat, Vec<Numbered<W>>);
-
-/// Each seat with an empty list that has room for so many pairs.
-fn with_room<W: Work>(
+/// What the workers of a round share.
+#[derive(Drop)]
+struct Round<'r, W: Work, O: Order<W> + Sync, G: Gate, S: Supply> {
     alloc: Global,
-    seats: Vec<TicketSeat>,
-    room: usize,
-) -> Result<Vec<Begun<W>>, NoMemory>
-    ensures seats { IfOk result (λ r. map (λ s. s.0) r.items ≡ seats.items) }
-    ensures pairs { IfOk result (λ r. All (λ s. s.1.items ≡ []) r.items) }
-{
-    let mut begun = Vec::with_capacity(alloc, seats.len())?;
-    for seat in seats {
-        let pairs = Vec::with_capacity(alloc, room)?;
-        begun.push((seat, pairs))?;
-    }
-    Ok(begun)
+    tickets: Tickets,
+    work: &'r W,
+    orders: &'r [O],
+    gate: &'r G,
+    supply: &'r S,
+    ghost count: { count_of tickets ≡ length orders.now },
 }
 
-/// A worker's part of the orders: it draws until no number is left.
-fn do_orders<W: Work, O: Order<W>, G: Gate, S: Supply>(
-    alloc: Global,
-    tickets: &Tickets,
-    begun: Begun<W>,
-    work: &W,
-    orders: &[O],
-    gate: &G,
-    supply: &S,
-) -> Vec<Numbered<W>>
-    requires seat { IsSeatOf tickets.now begun.0 }
-    requires pairs { begun.1.items ≡ [] }
-    requires count { count_of tickets.now ≡ length orders.now }
-    ensures { All (IsNumbered (map O.ordered orders.now)) result.items }
-{
-    let (mut seat, mut pairs) = begun;
-    while let Some(n) = tickets.draw(&mut seat) {
-        if let Ok(pair) = do_order(alloc, work, &orders[n], gate, supply) {
-            let _ = pairs.push((n, pair));
+impl<'r, W: Work, O: Order<W> + Sync, G: Gate, S: Supply> Round<'r, W, O, G, S> {
+    /// The lists of all workers, one for each seat.
+    fn run<R: Threads + Sync>(
+        self,
+        rt: &R,
+        seats: Vec<TicketSeat>,
+    ) -> Result<Vec<Vec<Numbered<W>>>, NoMemory>
+        requires { All (IsSeatOf self.tickets) seats.items }
+        ensures { IfOk result (λ made. All (λ pairs. All (IsNumbered (map O.ordered self.entry.orders.now)) pairs.items) made.items) }
+    {
+        let made = thread::map_vec(
+            rt,
+            seats,
+            &|seat|
+                requires { IsSeatOf self.tickets seat }
+                ensures { All (IsNumbered (map O.ordered self.entry.orders.now)) result.items }
+            { self.do_orders(seat) },
+        )?;
+        Ok(made)
+    }
+
+    /// A worker's part: it draws until no number is left, or none where it has no memory for a list of its pairs.
+    fn do_orders(&self, mut seat: TicketSeat) -> Vec<Numbered<W>>
+        requires { IsSeatOf self.now.tickets seat }
+        ensures { All (IsNumbered (map O.ordered self.now.orders.now)) result.items }
+    {
+        let Ok(mut pairs) = Vec::with_capacity(self.alloc, self.orders.len()) else {
+            return Vec::new(self.alloc);
+        };
+        while let Some(n) = self.tickets.draw(&mut seat) {
+            if let Ok(pair) = self.do_order(&self.orders[n]) {
+                let _ = pairs.push((n, pair));
+            }
         }
+        pairs
     }
-    pairs
-}
 
-/// One job made and done by a worker.
-fn do_order<W: Work, O: Order<W>, G: Gate, S: Supply>(
-    alloc: Global,
-    work: &W,
-    order: &O,
-    gate: &G,
-    supply: &S,
-) -> Result<Pair<W>, NoMemory>
-    ensures { IfOk result (λ p. p.0 ≡ O.ordered order.now) }
-{
-    let job = order.job(alloc)?;
-    perform_granted(work, gate, supply, job).map_err(|_| NoMemory)
+    /// One job made and done by a worker.
+    fn do_order(&self, order: &O) -> Result<Pair<W>, NoMemory>
+        ensures { IfOk result (λ p. p.0 ≡ O.ordered order.now) }
+    {
+        let job = order.job(self.alloc)?;
+        perform_granted(self.work, self.gate, self.supply, job).map_err(|_| NoMemory)
+    }
 }
 
 /// One job made and done by the caller.
