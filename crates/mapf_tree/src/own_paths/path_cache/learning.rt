@@ -56,6 +56,7 @@ impl<'p> PathCache<'p> {
         ensures problem { self.new.problem ≡ self.old.problem }
         ensures answer { OnOk result (KnowsAnswerTo self.new query.now) }
     {
+        self.number_first_sets(node)?;
         let set = self.keep_set(node, query, path)?;
         match self.sets_at(node, Vec::new(self.alloc))? {
             Some(sets) => {
