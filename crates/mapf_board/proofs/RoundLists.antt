@@ -20,14 +20,14 @@ made_at f l n x y low same =
     slice_get-get_or (map f l) n y (subst (λ k. n < k) (sym (length-map l f)) low) ∙ ap Some (get_or-map f l n x y low ∙ sym same)
 
 module _ {J A : Type 0} where
-  -- places that are all empty may stand beside any jobs
-  pub all_empty : (jobs : List J) (places : List (Option (J × A))) → length places ≡ length jobs → All (λ place. place ≡ None) places → ArePlacesOf jobs places
-  all_empty [] [] each empty = tt
-  all_empty [] (p ∷ places) each empty = absurd (omega (arith, each))
-  all_empty (j ∷ jobs) [] each empty = absurd (omega (arith, each))
-  all_empty (j ∷ jobs) (p ∷ places) each empty = (
-    subst (λ place. IfSome place (λ pair. pair.0 ≡ j)) (sym (All_first (λ place. place ≡ None) (p ∷ places) places p refl empty)) tt,
-    all_empty jobs places (omega (arith, each)) (All_rest (λ place. place ≡ None) (p ∷ places) places p refl empty),
+  -- places that are all empty may stand beside the jobs of any orders
+  pub all_empty : {O : Type 0} (f : O → J) (orders : List O) (places : List (Option (J × A))) → length places ≡ length orders → All (λ place. place ≡ None) places → ArePlacesOf (map f orders) places
+  all_empty f [] [] each empty = tt
+  all_empty f [] (p ∷ places) each empty = absurd (omega (arith, each))
+  all_empty f (o ∷ orders) [] each empty = absurd (omega (arith, each))
+  all_empty f (o ∷ orders) (p ∷ places) each empty = (
+    subst (λ place. IfSome place (λ pair. pair.0 ≡ f o)) (sym (All_first (λ place. place ≡ None) (p ∷ places) places p refl empty)) tt,
+    all_empty f orders places (omega (arith, each)) (All_rest (λ place. place ≡ None) (p ∷ places) places p refl empty),
   )
 
   -- a pair put in the place of its number

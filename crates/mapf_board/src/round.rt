@@ -1,6 +1,6 @@
 //! A round: workers in threads draw the numbers of orders, do the jobs that are ordered, and are joined.
 
-ghost use Rattle.std.specs.Prelude.{◌≡◌, ◌<◌, ◌≤◌, All, IfOk, length, map};
+ghost use Rattle.std.specs.Prelude.{◌≡◌, ◌<◌, ◌≤◌, All, IfOk, None, length, map};
 ghost use Rattle.std.specs.List.{AllZip};
 ghost use Rattle.mapf_board.specs.Rounds.{ArePlacesOf, IsNumbered};
 ghost use Rattle.mapf_board.specs.Seats.{IsSeatOf, count_of};
@@ -74,7 +74,7 @@ pub fn run_round<'r, R: Threads + Sync, W: Work, O: Order<W> + Sync, G: Gate, S:
     requires workers { (0 < workers) × (workers ≤ MOST_WORKERS) }
     ensures { IfOk result (λ places. ArePlacesOf (map O.ordered orders.now) places.items) }
 {
-    let mut places = empty_places(alloc, orders)?;
+    let mut places = empty_places(alloc, orders.len())?;
     if orders.is_empty() {
         return Ok(places);
     }
@@ -162,16 +162,14 @@ fn do_alone<W: Work, O: Order<W>>(alloc: Global, work: &W, order: &O) -> Result<
     work.perform(job).map_err(|_| NoMemory)
 }
 
-/// An empty place for each order.
-fn empty_places<W: Work, O: Order<W>>(
-    alloc: Global,
-    orders: &[O],
-) -> Result<Vec<Option<Pair<W>>>, NoMemory>
-    ensures { IfOk result (λ places. ArePlacesOf (map O.ordered orders.now) places.items) }
+/// So many places, all empty.
+fn empty_places<T: Drop>(alloc: Global, count: usize) -> Result<Vec<Option<T>>, NoMemory>
+    ensures all { IfOk result (λ places. length places.items ≡ count) }
+    ensures empty { IfOk result (λ places. All (λ place. place ≡ None) places.items) }
 {
-    let mut places = Vec::with_capacity(alloc, orders.len())?;
-    for _ in orders {
-        places.push(None)?;
+    let mut places = Vec::with_capacity(alloc, count)?;
+    for i in 0..count {
+        places.push_reserved(None);
     }
     Ok(places)
 }

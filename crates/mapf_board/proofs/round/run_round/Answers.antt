@@ -1,12 +1,16 @@
 use Rattle.std.proofs.Common.{All, map, sym, subst}
 use Rattle.mapf_board.specs.Rounds.{IsNumbered}
+use Rattle.mapf_board.proofs.RoundLists.{all_empty}
 use Rattle.mapf_board.proofs.Sums.{All_first, All_rest}
 use Rattle.mapf_board.proofs.round.run_round.Goals as goal
+
+pub returns-then-is_empty : goal.returns-then-is_empty
+returns-then-is_empty g c = all_empty g.O.Order.ordered c.args.orders.now _ c.in_ok-places.ensures.all c.in_ok-places.ensures.empty
 
 pub loop-pairs-init : goal.loop-pairs-init
 loop-pairs-init g c = record {
   made = subst (All (λ pairs. All (IsNumbered (map g.O.Order.ordered c.args.orders.now)) pairs.items)) (sym c.into_iter-pairs-iterator.ensures.into_iter_gives.0) c.in_ok-pairs-items.ensures;
-  places = c.in_ok-places.ensures;
+  places = all_empty g.O.Order.ordered c.args.orders.now _ c.in_ok-places.ensures.all c.in_ok-places.ensures.empty;
 }
 
 pub put_all-requires-clause-pairs : goal.put_all-requires-clause-pairs
