@@ -59,7 +59,7 @@ impl<'p> OwnPaths<'p> {
         let agents = problem.instance().agents();
         let mut from_start = Vec::with_capacity(alloc, agents)?;
         for _agent in 0..agents {
-            from_start.push(None)?;
+            from_start.push_reserved(None);
         }
         Ok(OwnPaths {
             alloc,

@@ -30,7 +30,7 @@ impl<'a> CurrentPaths<'a> {
     {
         let mut paths = Vec::with_capacity(alloc, plan.paths().len())?;
         for path in plan.paths() {
-            paths.push(path)?;
+            paths.push_reserved(path);
         }
         Ok(CurrentPaths { paths })
     }
@@ -57,7 +57,7 @@ impl<'a> CurrentPaths<'a> {
     {
         let mut paths = Vec::with_capacity(alloc, self.paths.len())?;
         for path in &self.paths {
-            paths.push(path.copy(alloc)?)?;
+            paths.push_reserved(path.copy(alloc)?);
         }
         Ok(Plan::of(paths))
     }

@@ -84,7 +84,7 @@ pub fn root_paths(alloc: Global, problem: &Problem) -> Result<Option<Vec<Path>>,
         let Some(path) = root_path(alloc, problem, agent)? else {
             return Ok(None);
         };
-        paths.push(path)?;
+        paths.push_reserved(path);
     }
     Ok(Some(paths))
 }

@@ -145,7 +145,7 @@ fn distances_to_goals(alloc: Global, instance: &Instance) -> Result<Vec<Distance
 {
     let mut distances = Vec::with_capacity(alloc, instance.agents())?;
     for agent in 0..instance.agents() {
-        distances.push(Distances::to(alloc, instance.map(), instance.goal(agent))?)?;
+        distances.push_reserved(Distances::to(alloc, instance.map(), instance.goal(agent))?);
     }
     Ok(distances)
 }

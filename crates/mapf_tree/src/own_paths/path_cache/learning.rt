@@ -23,7 +23,7 @@ impl<'p> PathCache<'p> {
         let mut firsts = Vec::with_capacity(self.alloc, node.agents())?;
         for agent in 0..node.agents() {
             let set = self.first_set(node, agent)?;
-            firsts.push(set)?;
+            firsts.push_reserved(set);
         }
         self.firsts = firsts;
         Ok(())

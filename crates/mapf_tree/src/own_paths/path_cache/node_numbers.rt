@@ -118,7 +118,7 @@ impl<'p> PathCache<'p> {
             let Some(number) = self.path_at(node, &sets, agent) else {
                 return Ok(None);
             };
-            numbers.push(number)?;
+            numbers.push_reserved(number);
         }
         let plan = self.paths.plan(&numbers)?;
         Ok(Some(NodeNumbers { sets, plan }))

@@ -5,8 +5,9 @@ use Rattle.mapf_tree.proofs.own_paths.path_cache.PathCache.all_numbers.Goals as 
 pub loop-agent-preserved : goal.loop-agent-preserved
 loop-agent-preserved c =
     let paths = c.args.self.now.paths in let numbers = c.loop-agent.numbers.items in let number = c.in-Some-path_at.number in (
-      ap length c.in_ok-push.ensures.items ∙ length_push numbers number ∙ ap (λ k. k + 1) c.loop-agent.invariant.0,
-      numbers_more paths paths numbers c.push.new.self.items number c.args.node.now.plan c.loop-agent.agent c.loop-agent.invariant.0 (λ m p h. h) c.loop-agent.invariant.1 c.in-Some-path_at.ensures c.in_ok-push.ensures.items,
+      ap length c.push_reserved.ensures.items ∙ length_push numbers number ∙ ap (λ k. k + 1) c.loop-agent.invariant.0,
+      numbers_more paths paths numbers c.push_reserved.new.self.items number c.args.node.now.plan c.loop-agent.agent c.loop-agent.invariant.0 (λ m p h. h) c.loop-agent.invariant.1 c.in-Some-path_at.ensures c.push_reserved.ensures.items,
+      omega (arith, c.push_reserved.ensures.capacity, c.loop-agent.invariant.2),
     )
 
 pub plan-requires-clause-numbers : goal.plan-requires-clause-numbers

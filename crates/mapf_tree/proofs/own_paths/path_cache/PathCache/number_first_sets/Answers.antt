@@ -8,8 +8,8 @@ loop-agent-preserved c =
     let sets = c.first_set.new.self.sets in
     let kept : (k : ℕ) → k < c.loop-agent.agent → HasSet sets (slice_index c.loop-agent.firsts.items k) k [] =
     λ k l. c.first_set.ensures.kept (slice_index c.loop-agent.firsts.items k) k [] (c.loop-agent.invariant.2 k l) in
-    let more = each_more (λ k n. HasSet sets n k []) c.loop-agent.firsts.items c.push.new.self.items c.in_ok-set.set c.loop-agent.agent c.in_ok-push.ensures.items (c.loop-agent.invariant.1, kept) c.in_ok-set.ensures.set in
-    (c.first_set.ensures.problem ∙ c.loop-agent.invariant.0, more.0, more.1)
+    let more = each_more (λ k n. HasSet sets n k []) c.loop-agent.firsts.items c.push_reserved.new.self.items c.in_ok-set.set c.loop-agent.agent c.push_reserved.ensures.items (c.loop-agent.invariant.1, kept) c.in_ok-set.ensures.set in
+    (c.first_set.ensures.problem ∙ c.loop-agent.invariant.0, more.0, more.1, omega (arith, c.push_reserved.ensures.capacity, c.loop-agent.invariant.3))
 
 pub invariant_of-self : goal.invariant_of-self
 invariant_of-self c =
