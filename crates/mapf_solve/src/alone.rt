@@ -1,11 +1,12 @@
 //! The answer on one thread.
 
 ghost use Rattle.std.specs.Prelude.{◌≡◌, ◌≢◌, ℕ, IfOk, IfErr, Some, None, Ok, Err};
-ghost use Rattle.mapf_solve.specs.Out.{IsProblemOf, IsOut, IsBest, KeepsLimit, IsOnlyOut, IsWorkers};
+ghost use Rattle.mapf_solve.specs.Wanted.{IsWanted};
+ghost use Rattle.mapf_solve.specs.Out.{IsRefusal, IsProblemOf, IsTextBy, IsOut, IsBest, KeepsLimit, IsOnlyOut, IsWorkers};
 
 use crate::answers::{asked_instance, asked_problem, spell};
+use crate::wanted::{Wanted, solve_wanted_alone};
 use crate::{Ask, Refusal};
-use mapf_bounds::solve_alone;
 use mapf_tree::Problem;
 use std::alloc::Global;
 
@@ -29,26 +30,27 @@ pub fn answer_alone(alloc: Global, map: &[u8], scen: &[u8], ask: Ask) -> Result<
     ensures same_fault { IfErr result
         (λ fault. fault ≢ Refusal.NoMemory → IsWorkers ask → IsOnlyOut map.now scen.now ask (Err fault)) }
 {
-    text_or_fault_alone(alloc, map, scen, ask)
+    text_or_fault_alone(alloc, map, scen, ask, Wanted::FirstSolution)
 }
 
-/// The same, where nothing is said of other plans and other numbers of workers.
-fn text_or_fault_alone(alloc: Global, map: &[u8], scen: &[u8], ask: Ask) -> Result<Vec<u8>, Refusal>
-    ensures text { IfOk result (λ bytes. IsOut map.now scen.now ask (Ok bytes.items)) }
-    ensures fault { IfErr result (λ fault. fault ≢ Refusal.NoMemory → IsOut map.now scen.now ask (Err fault)) }
-{
-    let problem = problem_alone(alloc, map, scen, ask)?;
-    let answer = solve_alone(alloc, &problem)?;
-    Ok(spell(alloc, &problem, &answer)?)
-}
-
-/// The problem that is asked for, or else the first fault, on this thread.
-pub(crate) fn problem_alone(
+/// The text of the answer that is wanted, or the first fault, where nothing is said of other plans and other numbers of workers.
+pub(crate) fn text_or_fault_alone(
     alloc: Global,
     map: &[u8],
     scen: &[u8],
     ask: Ask,
-) -> Result<Problem, Refusal>
+    wanted: Wanted,
+) -> Result<Vec<u8>, Refusal>
+    ensures text { IfOk result (λ bytes. IsTextBy (IsWanted wanted) map.now scen.now ask bytes.items) }
+    ensures fault { IfErr result (λ fault. fault ≢ Refusal.NoMemory → IsRefusal map.now scen.now ask fault) }
+{
+    let problem = problem_alone(alloc, map, scen, ask)?;
+    let answer = solve_wanted_alone(alloc, &problem, wanted)?;
+    Ok(spell(alloc, &problem, &answer)?)
+}
+
+/// The problem that is asked for, or else the first fault, on this thread.
+fn problem_alone(alloc: Global, map: &[u8], scen: &[u8], ask: Ask) -> Result<Problem, Refusal>
     ensures asked { IfOk result (IsProblemOf map.now scen.now ask) }
     ensures fault { IfErr result (λ fault. fault ≢ Refusal.NoMemory → IsOut map.now scen.now ask (Err fault)) }
 {

@@ -4,13 +4,12 @@ ghost use Rattle.std.specs.Prelude.{◌≡◌, ◌≢◌, ℕ, IfOk, IfErr, Some
 ghost use Rattle.mapf_solve.specs.Out.{IsRefusal, IsBest};
 ghost use Rattle.mapf_solve.specs.AnyOut.{IsAnyText, KeepsAnyLimit};
 
-use crate::alone::problem_alone;
-use crate::answers::{spell, text_or_fault};
+use crate::alone::text_or_fault_alone;
+use crate::answers::text_or_fault;
 use crate::means::Means;
 use crate::wanted::Wanted;
 use crate::{Ask, NoWatch, Pace, Refusal, Watch};
 use mapf_board::Gate;
-use mapf_optimum::solve_any;
 use std::alloc::Global;
 use std::thread::Threads;
 
@@ -75,20 +74,5 @@ pub fn answer_any_alone(
     ensures limit { IfOk result (λ bytes. (n : ℕ) → ask.nodes ≡ Some n
         → KeepsAnyLimit map.now scen.now ask n bytes.items) }
 {
-    any_text_or_fault_alone(alloc, map, scen, ask)
-}
-
-/// The same, where nothing is said of other plans.
-fn any_text_or_fault_alone(
-    alloc: Global,
-    map: &[u8],
-    scen: &[u8],
-    ask: Ask,
-) -> Result<Vec<u8>, Refusal>
-    ensures text { IfOk result (λ bytes. IsAnyText map.now scen.now ask bytes.items) }
-    ensures fault { IfErr result (λ fault. fault ≢ Refusal.NoMemory → IsRefusal map.now scen.now ask fault) }
-{
-    let problem = problem_alone(alloc, map, scen, ask)?;
-    let answer = solve_any(alloc, &problem, &mut NoWatch)?;
-    Ok(spell(alloc, &problem, &answer)?)
+    text_or_fault_alone(alloc, map, scen, ask, Wanted::AnyOptimum)
 }

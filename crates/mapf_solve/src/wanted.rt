@@ -4,15 +4,17 @@ ghost use Rattle.std.specs.Prelude.{IfOk};
 ghost use Rattle.mapf_optimum.specs.AnyAnswer.{IsAnyAnswer};
 ghost use Rattle.mapf_solve.specs.Wanted.{IsWanted};
 
-use crate::Watch;
 use crate::means::Means;
 use crate::rounds::root_paths;
 use crate::solving::solve_from;
+use crate::{NoWatch, Watch};
 use mapf_board::{AlwaysGrants, Gate};
+use mapf_bounds::solve_alone;
 use mapf_grid::NoMemory;
-use mapf_optimum::solve_any_from;
+use mapf_optimum::{solve_any, solve_any_from};
 use mapf_plan::Answer;
 use mapf_tree::Problem;
+use std::alloc::Global;
 use std::thread::Threads;
 
 /// Which answer of a problem is wanted.
@@ -42,5 +44,20 @@ pub(crate) fn solve_wanted<R: Threads + Sync, G: Gate, W: Watch>(
             let paths = root_paths(means, problem, next)?;
             solve_any_from(means.alloc, problem, paths, watch)
         }
+    }
+}
+
+/// The same on this thread alone, where no watch is told.
+pub(crate) fn solve_wanted_alone(
+    alloc: Global,
+    problem: &Problem,
+    wanted: Wanted,
+) -> Result<Answer, NoMemory>
+    ensures wanted { IfOk result (IsWanted wanted problem.now) }
+    ensures any { IfOk result (IsAnyAnswer problem.now) }
+{
+    match wanted {
+        Wanted::FirstSolution => solve_alone(alloc, problem),
+        Wanted::AnyOptimum => solve_any(alloc, problem, &mut NoWatch),
     }
 }

@@ -71,7 +71,7 @@ fn path_jobs<'p>(
     let mut jobs = Vec::with_capacity(alloc, agents)?;
     for agent in 0..agents {
         let number = first.saturating_add(agent as u64);
-        jobs.push(PathJob::of(problem, agent, number))?;
+        jobs.push_reserved(PathJob::of(problem, agent, number));
     }
     Ok(jobs)
 }

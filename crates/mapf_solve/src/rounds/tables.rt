@@ -33,7 +33,7 @@ fn goal_jobs(alloc: Global, instance: &Instance) -> Result<Vec<GoalJob<'_>>, NoM
     let agents = instance.agents();
     let mut jobs = Vec::with_capacity(alloc, agents)?;
     for agent in 0..agents {
-        jobs.push(GoalJob::of(instance.map(), instance.goal(agent), agent as u64))?;
+        jobs.push_reserved(GoalJob::of(instance.map(), instance.goal(agent), agent as u64));
     }
     Ok(jobs)
 }

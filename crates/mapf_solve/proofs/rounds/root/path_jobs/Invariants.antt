@@ -1,7 +1,8 @@
-use Rattle.std.proofs.Common.{◌≡◌, map}
+use Rattle.std.proofs.Common.{◌≡◌, ◌≤◌, map}
+use Rattle.std.specs.Vec.{vec_capacity}
 use Rattle.std.specs.List.{range_with_len}
 use Rattle.mapf_solve.specs.Rounds.{wanted_path}
 use Rattle.mapf_solve.proofs.rounds.root.path_jobs.Given as goal
 
 abbrev pub invariant-loop-agent : goal.invariant-loop-agent
-invariant-loop-agent l = l.jobs.items ≡ map (wanted_path l.problem l.first) (range_with_len 0 l.agent)
+invariant-loop-agent l = (l.jobs.items ≡ map (wanted_path l.problem l.first) (range_with_len 0 l.agent)) × (l.agents ≤ vec_capacity l.jobs)
