@@ -2,12 +2,19 @@
 use Rattle.std.proofs.Common.{◌≡◌, ◌⊎◌, ℕ, ◌+◌, ◌<◌, List, [], ◌∷◌, ◌++◌, length, take, get_or, Contains, inl, inr, subst, sym, ap, ◌∙◌, arith}
 use Rattle.std.proofs.Math.Seq.{take-length}
 use Rattle.std.proofs.lemmas.List.{take_more}
-use Rattle.std.proofs.lemmas.List.Elements.{Contains-push_cases}
+use Rattle.std.proofs.lemmas.List.Elements.{Contains-append_left, Contains-push, Contains-push_cases}
 use Rattle.mapf_optimum.specs.Steps.{Adds}
 
 -- nothing more, where all is there
 pub adds_none : {X : Type 0} (E : X → Type 0) (xs : List X) → ((x : X) → E x → Contains xs x) → Adds E xs xs
 adds_none E xs there = record { keeps = λ x i. i; adds = there }
+
+-- one at the end, where no other is meant
+pub adds_pushed : {X : Type 0} (E : X → Type 0) (old new : List X) (x : X) → new ≡ old ++ x ∷ [] → ((y : X) → E y → x ≡ y) → Adds E old new
+adds_pushed E old new x is only = record {
+  keeps = λ y i. subst (λ xs. Contains xs y) (sym is) (Contains-append_left old (x ∷ []) y i);
+  adds = λ y e. subst (Contains new) (only y e) (subst (λ xs. Contains xs x) (sym is) (Contains-push old x));
+}
 
 -- said of less
 pub adds_less : {X : Type 0} (E F : X → Type 0) (old new : List X) → ((x : X) → F x → E x) → Adds E old new → Adds F old new

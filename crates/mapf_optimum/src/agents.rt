@@ -17,7 +17,7 @@ pub(crate) fn copy_paths(alloc: Global, paths: &[Path]) -> Result<Vec<Path>, NoM
 {
     let mut copies = Vec::with_capacity(alloc, paths.len())?;
     for path in paths {
-        copies.push(path.copy(alloc)?)?;
+        copies.push_reserved(path.copy(alloc)?);
     }
     Ok(copies)
 }
@@ -28,7 +28,7 @@ pub(crate) fn copy_sets(alloc: Global, sets: &[Constraints]) -> Result<Vec<Const
 {
     let mut copies = Vec::with_capacity(alloc, sets.len())?;
     for set in sets {
-        copies.push(set.copy()?)?;
+        copies.push_reserved(set.copy()?);
     }
     Ok(copies)
 }
@@ -39,7 +39,7 @@ pub(crate) fn empty_sets(alloc: Global, agents: usize) -> Result<Vec<Constraints
 {
     let mut sets = Vec::with_capacity(alloc, agents)?;
     for _agent in 0..agents {
-        sets.push(Constraints::new(alloc))?;
+        sets.push_reserved(Constraints::new(alloc));
     }
     Ok(sets)
 }

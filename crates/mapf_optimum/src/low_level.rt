@@ -117,7 +117,7 @@ fn distances_from_starts(alloc: Global, instance: &Instance) -> Result<Vec<Dista
 {
     let mut tables = Vec::with_capacity(alloc, instance.agents())?;
     for agent in 0..instance.agents() {
-        tables.push(Distances::to(alloc, instance.map(), instance.start(agent))?)?;
+        tables.push_reserved(Distances::to(alloc, instance.map(), instance.start(agent))?);
     }
     Ok(tables)
 }
