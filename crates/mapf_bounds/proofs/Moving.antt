@@ -12,7 +12,7 @@ use Rattle.mapf_bounds.specs.declared.bound.Bound.{Bound}
 use Rattle.mapf_bounds.specs.Below.{IsBelow}
 use Rattle.mapf_bounds.specs.Bounds.{IsOfTree}
 use Rattle.mapf_bounds.specs.Pairs.{AreKnownAt}
-use Rattle.mapf_bounds.specs.Waiting.{Waiting, IsKeyOf, HasEntryFor, IsAdmittedOwn, IsMoving, bound_key}
+use Rattle.mapf_bounds.specs.Waiting.{Waiting, IsKeyOf, HasEntryFor, IsAdmittedOwn, IsCovering, IsMoving, bound_key}
 use Rattle.mapf_bounds.proofs.Subtrees.{least_key_of}
 use Rattle.mapf_bounds.proofs.Covers.{waiting_cover}
 use Rattle.mapf_bounds.proofs.Entries.{admitted_keyed, admitted_keeps, admitted_puts}
@@ -28,6 +28,15 @@ moves_first most s open_yet is none all =
       keyed = record { stand = λ e c. absurd (nowhere c); keys = λ e c. absurd (nowhere c); pairs = λ e c. absurd (nowhere c) };
       covers = λ t solution within. let w = waiting_cover s.problem most s.last unsolved t solution within in (w.0, inl ((taken.waits w.0).1 w.1), w.2);
     }
+
+-- once none waits by its key, all are covered
+pub moved_all : (problem : Problem) (most : ℕ) (open_yet : List Node) (waiting : List (Key × Waiting)) → open_yet ≡ [] → IsMoving problem most open_yet waiting → IsCovering problem most waiting
+moved_all problem most open_yet waiting none moving = record {
+  keyed = moving.keyed;
+  covers = λ s solution within.
+      let v = moving.covers s solution within in
+      (v.0, ⊎_elim (λ has. absurd (nowhere (subst (λ nodes. Contains nodes has.0) none has.1))) (λ e. e) v.1, v.2);
+}
 
 module _ (problem : Problem) (most least : ℕ) (below_all : IsBelowAll problem least) (old new : List Node) (n : Node) (before after : List (Key × Waiting)) (moving : IsMoving problem most old before) (is : old ≡ n ∷ new)
     (admitted : IsAdmittedOwn most least before n after) where

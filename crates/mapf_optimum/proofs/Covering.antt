@@ -1,5 +1,5 @@
 -- An expansion loses no candidate, and what is found is a cheapest one.
-use Rattle.std.proofs.Common.{◌≡◌, ℕ, ◌≤◌, List, [], ◌∷◌, ◌++◌, Option, Some, None, subst, sym, refl, ⊎_elim, arith, All, Contains}
+use Rattle.std.proofs.Common.{◌≡◌, ℕ, ◌<◌, ◌≤◌, List, [], ◌∷◌, ◌++◌, Option, Some, None, subst, sym, refl, ⊎_elim, arith, All, Contains}
 use Rattle.std.specs.Option.{option_to_list}
 use Rattle.std.proofs.lemmas.Bool.{cases_lt}
 use Rattle.std.proofs.lemmas.List.Elements.{All-nil, All-cons, All-tail, All-append, All-contains, Contains-append_left, Contains-append_right}
@@ -11,8 +11,8 @@ use Rattle.mapf_low.specs.declared.constraint.Constraint.{Constraint}
 use Rattle.mapf_tree.specs.declared.tree.side.Side.{Side}
 use Rattle.mapf_tree.specs.declared.tree.side.Side.TheVariants.{Left, Right}
 use Rattle.mapf_tree.specs.Problem.{Problem}
-use Rattle.mapf_optimum.specs.FreeTree.{FreeNode, IsFreeNode, IsCandidate}
-use Rattle.mapf_optimum.specs.FreeSearch.{AreSideSets, IsSideOf, IsBounded, IsTaken, Expands}
+use Rattle.mapf_optimum.specs.FreeTree.{FreeNode, IsFreeNode, IsCandidate, IsLowerBoundOf}
+use Rattle.mapf_optimum.specs.FreeSearch.{AreSideSets, IsSideOf, IsBounded, IsTaken, IsUnderWay, Expands}
 use Rattle.mapf_optimum.specs.TwoAgents.{IsUnderWayFrom}
 use Rattle.mapf_optimum.specs.Laws.{ExpansionCovers, BoundingCovers, LeastIsOptimum, LeastLabelIsBelow, NothingWaits}
 use Rattle.mapf_optimum.proofs.SideSets.{side_sets}
@@ -104,6 +104,23 @@ bounding_covers problem old new way e = record {
 -- a node that waits is a node
 pub free_from : (problem : Problem) (sets : List (List Constraint)) (waiting rest : List FreeNode) (x : FreeNode) → IsUnderWayFrom problem sets waiting → IsTaken waiting (Some x) rest → IsFreeNode problem x
 free_from problem sets waiting rest x way taken = All-contains (IsFreeNode problem) waiting x way.free (taken_was_there waiting rest x taken)
+
+-- no candidate under those sets costs less than the least label
+pub least_label_from : (problem : Problem) (sets : List (List Constraint)) (waiting rest : List FreeNode) (x : FreeNode) (least : ℕ) → IsUnderWayFrom problem sets waiting → IsTaken waiting (Some x) rest → least ≡ x.label →
+    IsLowerBoundOf problem sets least
+least_label_from problem sets waiting rest x least way taken label plan candidate =
+    let w = way.covers plan candidate in
+    omega (arith, label, All-contains (λ y. x.label ≤ y.label) waiting w.0 taken.1 w.1, (All-contains (IsFreeNode problem) waiting w.0 way.free w.1).below plan w.2)
+
+-- where no node waits there is none, so that any number is a lower bound
+pub nothing_waits_from : (problem : Problem) (sets : List (List Constraint)) (waiting rest : List FreeNode) (least : ℕ) → IsUnderWayFrom problem sets waiting → IsTaken waiting None rest → IsLowerBoundOf problem sets least
+nothing_waits_from problem sets waiting rest least way taken plan candidate =
+    let w = way.covers plan candidate in absurd (nowhere (subst (λ nodes. Contains nodes w.0) taken.0 w.1))
+
+-- where no node waits, each valid plan costs more than the bound
+pub none_within : (problem : Problem) (waiting rest : List FreeNode) → IsUnderWay problem waiting → IsTaken waiting None rest → (plan : List (List ℕ)) → IsValid problem.rule problem.inst plan → problem.bound < plan_cost plan
+none_within problem waiting rest way taken plan valid =
+    ⊎_elim (λ over. over) (λ within. let w = way.covers plan valid within in absurd (nowhere (subst (λ nodes. Contains nodes w.0) taken.0 w.1))) (cases_lt problem.bound (plan_cost plan))
 
 -- no valid plan costs less than the least label
 pub least_label_is_below : LeastLabelIsBelow

@@ -84,12 +84,12 @@ fn root_of_two(
     ensures { IfOk result (IsFreshNode (one.now.constraints.now ∷ other.now.constraints.now ∷ [])
         (one.now.path.now ∷ other.now.path.now ∷ [])) }
 {
-    let mut sets = Vec::new(alloc);
-    sets.push(one.constraints.copy()?)?;
-    sets.push(other.constraints.copy()?)?;
-    let mut paths = Vec::new(alloc);
-    paths.push(one.path.copy(alloc)?)?;
-    paths.push(other.path.copy(alloc)?)?;
+    let mut sets = Vec::with_capacity(alloc, 2)?;
+    sets.push_reserved(one.constraints.copy()?);
+    sets.push_reserved(other.constraints.copy()?);
+    let mut paths = Vec::with_capacity(alloc, 2)?;
+    paths.push_reserved(one.path.copy(alloc)?);
+    paths.push_reserved(other.path.copy(alloc)?);
     Ok(FreeNode::new(alloc, sets, Plan::of(paths)))
 }
 

@@ -1,13 +1,27 @@
-use Rattle.std.proofs.Common.{◌≡◌, IfSome, Some, MatchOption, subst, sym, ◌∙◌, arith}
+use Rattle.std.proofs.Common.{◌≡◌, ◌+◌, IfSome, Some, ap, MatchOption, subst, sym, ◌∙◌, arith}
 use Rattle.mapf_plan.specs.Plan.{HasNoConflict, IsOptimum}
 use Rattle.mapf_tree.specs.LowerBound.{IsBelowAll}
 use Rattle.mapf_tree.specs.Problem.{Problem}
 use Rattle.mapf_optimum.specs.FreeTree.{IsChoice}
 use Rattle.mapf_optimum.specs.FreeSearch.{IsTaken}
-use Rattle.mapf_optimum.proofs.Covering.{bounding_covers, expansion_covers, least_is_optimum, least_label_is_below}
+use Rattle.mapf_optimum.proofs.Covering.{bounding_covers, expansion_covers, least_is_optimum, least_label_is_below, none_within}
 use Rattle.mapf_optimum.proofs.Steps.{taken_is_free, taken_node, bounds, expands}
 use Rattle.mapf_optimum.proofs.Work.{bounding_works, expansion_works}
 use Rattle.mapf_optimum.proofs.solving.search.Goals as goal
+
+pub nodes_expanded-requires : goal.nodes_expanded-requires
+nodes_expanded-requires g c =
+    let taken = subst (λ found. IsTaken c.steps.waiting found c.take_least.new.self) c.in_default.is c.take_least.ensures in
+    let bound = c.bound-bound.ensures.bound ∙ ap (λ (p : Problem). p.bound) c.problem-problem.ensures in
+    subst (λ (p : Problem). IsBelowAll p (c.from.result + 1)) (sym c.problem-problem.ensures)
+    (λ plan valid. omega (arith, c.from.ensures, bound, none_within c.args.low.now c.steps.waiting c.take_least.new.self c.steps.invariant taken plan valid))
+
+pub returns-in_default : goal.returns-in_default
+returns-in_default g c =
+    let taken = subst (λ found. IsTaken c.steps.waiting found c.take_least.new.self) c.in_default.is c.take_least.ensures in (
+      c.bound-bound.ensures.bound ∙ ap (λ (p : Problem). p.bound) c.problem-problem.ensures,
+      λ plan valid within. absurd (omega (arith, within, none_within c.args.low.now c.steps.waiting c.take_least.new.self c.steps.invariant taken plan valid)),
+    )
 
 pub bounded-requires : goal.bounded-requires
 bounded-requires g c =

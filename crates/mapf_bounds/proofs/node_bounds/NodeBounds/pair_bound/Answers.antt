@@ -8,6 +8,15 @@ use Rattle.mapf_bounds.specs.Pairs.{DoCost, HaveLeast}
 use Rattle.mapf_bounds.proofs.Pairs.{least_in_order, pair_is_known}
 use Rattle.mapf_bounds.proofs.node_bounds.NodeBounds.pair_bound.Goals as goal
 
+pub path-one-requires : goal.path-one-requires
+path-one-requires c = omega (arith, c.if-first-second.false, c.if-second-agents.false, c.agents.ensures.agents)
+
+pub constraints-requires : goal.constraints-requires
+constraints-requires c = omega (arith, c.if-first-second.false, c.if-second-agents.false, c.agents.ensures.agents, ap length c.requires.current)
+
+pub constraints-requires-2 : goal.constraints-requires-2
+constraints-requires-2 c = omega (arith, c.if-second-agents.false, c.agents.ensures.agents, ap length c.requires.current)
+
 pub least-requires : goal.least-requires
 least-requires c =
     let problem : c.self.inside.costs ≡ c.args.self.now.problem = c.self.invariant ∙ ap (λ (b : Bounding). b.problem) c.self.view_is in
@@ -24,6 +33,15 @@ least-requires c =
       second_least = subst (IsLeastPathOf c.args.self.now.problem c.args.second c.in_ok-constraints-2.field-0) (sym (c.path-other.ensures ∙ ap (λ q. path_of q c.args.second) c.requires.current))
           (least_in_order c.args.self.now.problem c.args.node.now c.requires.node.of c.args.second c.in_ok-constraints-2.field-0 stands second c.in_ok-constraints-2.ensures);
     })
+
+pub invariant_of-self : goal.invariant_of-self
+invariant_of-self c = c.least.ensures.same ∙ c.self.invariant
+
+pub invariant_of-self-then-least-alone : goal.invariant_of-self-then-least-alone
+invariant_of-self-then-least-alone c = c.least.ensures.same ∙ c.self.invariant
+
+pub invariant_of-self-2 : goal.invariant_of-self-2
+invariant_of-self-2 c = c.least.ensures.same ∙ c.self.invariant
 
 pub returns-clause-pair : goal.returns-clause-pair
 returns-clause-pair c =

@@ -5,6 +5,10 @@ use Rattle.mapf_optimum.specs.TwoAgents.{IsUnderWayFrom}
 use Rattle.mapf_optimum.proofs.TwoAgents.{cost_together, one_more, two_begin}
 use Rattle.mapf_optimum.proofs.pairs.pair_tree.cost_together.Goals as goal
 
+pub returns-then-from-least : goal.returns-then-from-least
+returns-then-from-least c p q may =
+    omega (arith, c.from.ensures, c.from-2.ensures, c.cost.ensures.cost, c.cost-2.ensures.cost, c.requires.one.least.least p may.first_allowed, c.requires.other.least.least q may.second_allowed)
+
 pub search-requires-clause-way : goal.search-requires-clause-way
 search-requires-clause-way c =
     subst (λ (t : Problem). IsUnderWayFrom t (c.args.one.now.constraints.now ∷ c.args.other.now.constraints.now ∷ []) c.put.new.self) (sym c.new-two.ensures)
