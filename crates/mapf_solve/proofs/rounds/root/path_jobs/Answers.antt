@@ -8,8 +8,7 @@ push_reserved-requires c = omega (arith, as_many (wanted_path c.args.problem.now
 
 pub loop-agent-preserved : goal.loop-agent-preserved
 loop-agent-preserved c =
-    let numbered : ℕ → WantedPath = λ n. record { problem = c.args.problem.now; agent = c.loop-agent.agent; number = n } in
-    (
+    let numbered : ℕ → WantedPath = λ n. record { problem = c.args.problem.now; agent = c.loop-agent.agent; number = n } in (
       jobs_more (wanted_path c.args.problem.now c.args.first) c.loop-agent.agent _ _ c.of.result (c.of.ensures ∙ ap numbered c.saturating_add-number.ensures) c.push_reserved.ensures.items c.loop-agent.invariant.0,
       omega (arith, c.push_reserved.ensures.capacity, c.loop-agent.invariant.1),
     )

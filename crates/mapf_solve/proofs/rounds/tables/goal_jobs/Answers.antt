@@ -9,10 +9,9 @@ push_reserved-requires c = omega (arith, as_many (wanted_table c.args.instance.n
 
 pub loop-agent-preserved : goal.loop-agent-preserved
 loop-agent-preserved c =
-    let asked : Grid → ℕ → WantedTable = λ grid cell. record { grid = grid; goal = cell; number = c.loop-agent.agent } in
-    (
+    let asked : Grid → ℕ → WantedTable = λ grid cell. record { grid = grid; goal = cell; number = c.loop-agent.agent } in (
       jobs_more (wanted_table c.args.instance.now) c.loop-agent.agent _ _ c.of.result
-      (c.of.ensures ∙ ap (λ grid. asked grid c.goal.result) c.map.ensures.map ∙ ap (asked c.args.instance.now.grid) c.goal.ensures.goal) c.push_reserved.ensures.items c.loop-agent.invariant.0,
+          (c.of.ensures ∙ ap (λ grid. asked grid c.goal.result) c.map.ensures.map ∙ ap (asked c.args.instance.now.grid) c.goal.ensures.goal) c.push_reserved.ensures.items c.loop-agent.invariant.0,
       omega (arith, c.push_reserved.ensures.capacity, c.loop-agent.invariant.1),
     )
 
