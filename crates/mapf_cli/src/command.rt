@@ -1,9 +1,23 @@
 //! The command line, as `clap` reads it.
 
-use clap::{Arg, ArgAction, ArgMatches, Command, Error, value_parser};
+mod option;
+
+use crate::command::option::{Kind, option};
+use clap::{ArgMatches, Command, Error};
 use mapf_plan::Rule;
 use mapf_solve::Ask;
 use std::alloc::{AllocError, Global};
+
+const NODES: &str =
+    "How many nodes the search may take before it gives up, 1 to 1000000; no limit without it";
+
+const ANY_OPTIMUM: &str =
+    "Print any plan that costs least, whichever of several: for many agents it is found sooner";
+
+const PROGRESS: &str =
+    "Say on standard error how many nodes were taken and what no plan costs less than, once a second at most";
+
+const NO_FOLLOWING: &str = "No agent may enter a cell that another leaves in the same step";
 
 /// What `mapf solve` was asked.
 #[derive(Clone, Copy)]
@@ -101,78 +115,59 @@ fn program<'a>(alloc: Global) -> Result<Command<'a>, AllocError> {
 }
 
 fn solve_command<'a>(alloc: Global) -> Result<Command<'a>, AllocError> {
-    files(
-        alloc,
-        "solve",
-        "Plans paths that cost least and have no conflict",
-    )?
-    .arg(number(alloc, "bound", "What a plan may cost at most, 0 to 1000000"))?
-    .arg(number(
-        alloc,
-        "workers",
-        "How many workers may work at once, 1 to 64",
-    ))?
-    .arg(number(
-        alloc,
-        "nodes",
-        "How many nodes the search may take before it gives up, 1 to 1000000; no limit without it",
-    )
-    .required(false))?
-    .arg(flag(
-        alloc,
-        "any-optimum",
-        "Print any plan that costs least, whichever of several: for many agents it is found sooner",
-    ))?
-    .arg(flag(
-        alloc,
-        "progress",
-        "Say on standard error how many nodes were taken and what no plan costs less than, once a second at most",
-    ))
+    let about = "Plans paths that cost least and have no conflict";
+    let options = [
+        (
+            Kind::Number,
+            "bound",
+            "What a plan may cost at most, 0 to 1000000",
+        ),
+        (
+            Kind::Number,
+            "workers",
+            "How many workers may work at once, 1 to 64",
+        ),
+        (Kind::Limit, "nodes", NODES),
+        (Kind::Flag, "any-optimum", ANY_OPTIMUM),
+        (Kind::Flag, "progress", PROGRESS),
+    ];
+    with_options(alloc, instance_command(alloc, "solve", about)?, &options)
 }
 
 fn check_command<'a>(alloc: Global) -> Result<Command<'a>, AllocError> {
-    files(alloc, "check", "Judges a plan of any planner")?.arg(file(
-        alloc,
+    let about = "Judges a plan of any planner";
+    let options = [(
+        Kind::File,
         "plan",
         "The plan, in the text that solve prints",
-    ))
+    )];
+    with_options(alloc, instance_command(alloc, "check", about)?, &options)
 }
 
-fn files<'a>(alloc: Global, name: &'a str, about: &'a str) -> Result<Command<'a>, AllocError> {
-    Command::new(alloc, name)
-        .about(about)
-        .arg(file(alloc, "map", "The map, in the MovingAI format"))?
-        .arg(file(alloc, "scen", "The scenario, in the MovingAI format"))?
-        .arg(number(alloc, "agents", "How many agents, 1 to 1000"))?
-        .arg(flag(
-            alloc,
-            "no-following",
-            "No agent may enter a cell that another leaves in the same step",
-        ))
+/// A command that reads an instance, with the options that each such one has.
+fn instance_command<'a>(
+    alloc: Global,
+    name: &'a str,
+    about: &'a str,
+) -> Result<Command<'a>, AllocError> {
+    let options = [
+        (Kind::File, "map", "The map, in the MovingAI format"),
+        (Kind::File, "scen", "The scenario, in the MovingAI format"),
+        (Kind::Number, "agents", "How many agents, 1 to 1000"),
+        (Kind::Flag, "no-following", NO_FOLLOWING),
+    ];
+    with_options(alloc, Command::new(alloc, name).about(about), &options)
 }
 
-fn flag<'a>(alloc: Global, name: &'a str, help: &'a str) -> Arg<'a> {
-    Arg::new(alloc, name)
-        .long(name)
-        .help(help)
-        .action(ArgAction::SetTrue)
-}
-
-fn file<'a>(alloc: Global, name: &'a str, help: &'a str) -> Arg<'a> {
-    Arg::new(alloc, name)
-        .long(name)
-        .value_name("FILE")
-        .help(help)
-        .required(true)
-        .action(ArgAction::Set)
-}
-
-fn number<'a>(alloc: Global, name: &'a str, help: &'a str) -> Arg<'a> {
-    Arg::new(alloc, name)
-        .long(name)
-        .value_name("NUMBER")
-        .help(help)
-        .required(true)
-        .action(ArgAction::Set)
-        .value_parser(value_parser!(u64))
+/// The command with these options more, each of a kind, with its name and what `--help` says of it.
+fn with_options<'a>(
+    alloc: Global,
+    command: Command<'a>,
+    options: &[(Kind, &'a str, &'a str)],
+) -> Result<Command<'a>, AllocError> {
+    let mut command = command;
+    for &(kind, name, help) in options {
+        command = command.arg(option(alloc, kind, name).help(help))?;
+    }
+    Ok(command)
 }
