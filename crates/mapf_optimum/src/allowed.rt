@@ -1,10 +1,10 @@
 //! Whether an agent may take a path, and whether a plan has a conflict: what is proposed by a guess is asked of these.
 
-ghost use Rattle.std.specs.Prelude.{◌≡◌, ◌≢◌, ℕ, ◌+◌, ◌<◌, length, IsFalse, IsTrue};
+ghost use Rattle.std.specs.Prelude.{◌≡◌, ◌≢◌, ℕ, ◌+◌, ◌-◌, ◌<◌, length, IsFalse, IsTrue};
 ghost use Rattle.mapf_grid.specs.Grid.{Next};
 ghost use Rattle.mapf_low.specs.Constraints.{Breaks, Obeys};
 ghost use Rattle.mapf_plan.specs.Path.{at, cost, IsPath};
-ghost use Rattle.mapf_plan.specs.Plan.{IsConflict};
+ghost use Rattle.mapf_plan.specs.Plan.{place, IsConflict};
 ghost use Rattle.mapf_tree.specs.Tree.{IsAllowedFor};
 ghost use Rattle.mapf_optimum.specs.FreeTree.{IsChoice};
 
@@ -111,7 +111,6 @@ pub(crate) fn is_choice(problem: &Problem, plan: &Plan, conflict: &Conflict) -> 
 fn has_conflict(rule: Rule, plan: &Plan, conflict: &Conflict) -> bool
     ensures { IsTrue result → IsConflict rule plan.now conflict.now }
 {
-    let agents = plan.paths().len();
     match *conflict {
         Conflict::Vertex {
             time,
@@ -119,10 +118,7 @@ fn has_conflict(rule: Rule, plan: &Plan, conflict: &Conflict) -> bool
             second,
             cell,
         } => {
-            first < second
-                && second < agents
-                && plan.at(first, time) == cell
-                && plan.at(second, time) == cell
+            first < second && is_on(plan, first, time, cell) && is_on(plan, second, time, cell)
         }
         Conflict::Swapping {
             time,
@@ -132,13 +128,11 @@ fn has_conflict(rule: Rule, plan: &Plan, conflict: &Conflict) -> bool
             to,
         } => {
             first < second
-                && second < agents
-                && time > 0
                 && from != to
-                && plan.at(first, time - 1) == from
-                && plan.at(first, time) == to
-                && plan.at(second, time - 1) == to
-                && plan.at(second, time) == from
+                && was_on(plan, first, time, from)
+                && is_on(plan, first, time, to)
+                && was_on(plan, second, time, to)
+                && is_on(plan, second, time, from)
         }
         Conflict::Following {
             time,
@@ -148,11 +142,25 @@ fn has_conflict(rule: Rule, plan: &Plan, conflict: &Conflict) -> bool
         } => {
             rule == Rule::NoFollowing
                 && follower != leader
-                && follower < agents
-                && leader < agents
-                && time > 0
-                && plan.at(follower, time) == cell
-                && plan.at(leader, time - 1) == cell
+                && is_on(plan, follower, time, cell)
+                && was_on(plan, leader, time, cell)
         }
     }
+}
+
+/// Whether there is such an agent, and its path is on the cell at this time step.
+fn is_on(plan: &Plan, agent: usize, time: u32, cell: Cell) -> bool
+    ensures inside { IsTrue result → agent < length plan.now }
+    ensures there { IsTrue result → place plan.now agent time ≡ cell }
+{
+    agent < plan.paths().len() && plan.at(agent, time) == cell
+}
+
+/// Whether there is such an agent, and its path was on the cell one time step before.
+fn was_on(plan: &Plan, agent: usize, time: u32, cell: Cell) -> bool
+    ensures later { IsTrue result → 0 < time }
+    ensures inside { IsTrue result → agent < length plan.now }
+    ensures there { IsTrue result → place plan.now agent (time - 1) ≡ cell }
+{
+    time > 0 && is_on(plan, agent, time - 1, cell)
 }
