@@ -1,6 +1,7 @@
 //! The nodes of a search that may branch on any conflict.
 
-ghost use Rattle.std.specs.Prelude.{◌≡◌, ◌+◌, ◌<◌, ◌≤◌, length, IfOk, MatchOption, slice_set};
+ghost use Rattle.std.specs.Prelude.{◌≡◌, ◌+◌, ◌<◌, ◌≤◌, length, max, Contains, IfOk, MatchOption, slice_set};
+ghost use Rattle.std.specs.List.{AllByRecursion};
 ghost use Rattle.mapf_plan.specs.Path.{cost};
 ghost use Rattle.mapf_plan.specs.Plan.{path_of, plan_cost, HasNoConflict};
 ghost use Rattle.mapf_plan.specs.declared.answer.TheConstants.{MOST_BOUND};
@@ -223,11 +224,33 @@ impl FreeNode {
         let Some(path) = low.least_path(alloc, agent, &set, bound, least)? else {
             return Ok(None);
         };
-        let plan = self.plan_with(alloc, agent, path)?;
-        let label = self.label.max(plan.cost());
-        let sets = self.sets_with(alloc, agent, set)?;
+        let child = self.child(alloc, agent, set, path)?;
+        Ok(Some(child))
+    }
+
+    /// The node where this agent has another set, and another path.
+    fn child(
+        &self,
+        alloc: Global,
+        agent: usize,
+        set: Constraints,
+        path: Path,
+    ) -> Result<FreeNode, NoMemory>
+        requires set { agent < length self.now.sets }
+        requires path { agent < length self.now.plan }
+        ensures sets { IfOk result (λ child. child.sets ≡ slice_set self.now.sets agent set) }
+        ensures plan { IfOk result (λ child. child.plan ≡ slice_set self.now.plan agent path) }
+        ensures pairs { IfOk result (λ child. AllByRecursion (Contains self.now.pairs) child.pairs) }
+        ensures label { IfOk result (λ child. child.label ≡ max self.now.label (plan_cost child.plan)) }
+    {
+        let mut paths = copy_paths(alloc, self.plan.paths())?;
+        paths[agent] = path;
+        let mut sets = copy_sets(alloc, &self.sets)?;
+        sets[agent] = set;
         let pairs = pairs_without(alloc, &self.pairs, agent)?;
-        Ok(Some(FreeNode {
+        let plan = Plan::of(paths);
+        let label = self.label.max(plan.cost());
+        Ok(FreeNode {
             sets,
             plan,
             pairs,
@@ -235,7 +258,7 @@ impl FreeNode {
             collisions: self.collisions,
             is_bounded: false,
             conflicts: Vec::new(alloc),
-        }))
+        })
     }
 
     /// What the other agents' paths leave of the bound.
@@ -248,30 +271,5 @@ impl FreeNode {
         let own = self.plan.paths()[agent].cost();
         let others = self.plan.cost() - u64::from(own);
         (u64::from(low.bound()) - others) as u32
-    }
-
-    /// The plan, where this agent has another path.
-    fn plan_with(&self, alloc: Global, agent: usize, path: Path) -> Result<Plan, NoMemory>
-        requires { agent < length self.now.plan }
-        ensures { IfOk result (λ plan. plan ≡ slice_set self.now.plan agent path) }
-    {
-        let mut paths = copy_paths(alloc, self.plan.paths())?;
-        paths[agent] = path;
-        Ok(Plan::of(paths))
-    }
-
-    /// The sets, where this agent has another one.
-    fn sets_with(
-        &self,
-        alloc: Global,
-        agent: usize,
-        set: Constraints,
-    ) -> Result<Vec<Constraints>, NoMemory>
-        requires { agent < length self.now.sets }
-        ensures { IfOk result (λ sets. sets.items ≡ slice_set self.now.sets agent set) }
-    {
-        let mut sets = copy_sets(alloc, self.sets.as_slice())?;
-        sets[agent] = set;
-        Ok(sets)
     }
 }

@@ -1,5 +1,4 @@
-use Rattle.std.proofs.Common.{ap, arith, ◌∙◌, false, length, Contains, subst}
-use Rattle.std.specs.List.{AllByRecursion}
+use Rattle.std.proofs.Common.{ap, arith, ◌∙◌, length}
 use Rattle.mapf_optimum.specs.FreeTree.{FreeNode}
 use Rattle.mapf_optimum.proofs.Sides.{in_plan, in_sets, agent_inside, side_made, side_without, side_with, pays_no_less, cost_at}
 use Rattle.mapf_optimum.proofs.node.FreeNode.side.Goals as goal
@@ -36,19 +35,16 @@ returns-in_default g c =
     (side_made (g.L.LeastPaths.problem c.args.low.now) c.args.self.now c.args.conflict.now c.args.side c.requires.node c.requires.choice c.agent_of-agent.result c.constraint_of.result c.self.inside.sets.items c.index.result.now c.in_ok-set.set c.agent_of-agent.ensures c.constraint_of.ensures (ap (λ n. n.sets) c.self.view_is) c.index.ensures c.in_ok-set.ensures)
     c.agent_of-agent.ensures c.left_for-bound.ensures.leaves c.in_ok-path.field-0 c.in_ok-path.ensures c.in_default.is
 
-pub plan_with-requires : goal.plan_with-requires
-plan_with-requires g c =
-    omega (arith, c.agent_of-agent.ensures, in_plan (g.L.LeastPaths.problem c.args.low.now) c.args.self.now c.args.conflict.now c.args.side c.requires.node c.requires.choice)
-
-pub sets_with-requires : goal.sets_with-requires
-sets_with-requires g c =
+pub child-requires-clause-set : goal.child-requires-clause-set
+child-requires-clause-set g c =
     omega (arith, c.agent_of-agent.ensures, in_sets (g.L.LeastPaths.problem c.args.low.now) c.args.self.now c.args.conflict.now c.args.side c.requires.node c.requires.choice)
+
+pub child-requires-clause-path : goal.child-requires-clause-path
+child-requires-clause-path g c =
+    omega (arith, c.agent_of-agent.ensures, in_plan (g.L.LeastPaths.problem c.args.low.now) c.args.self.now c.args.conflict.now c.args.side c.requires.node c.requires.choice)
 
 pub returns : goal.returns
 returns g c =
     side_with (g.L.LeastPaths.problem c.args.low.now) c.args.self.now c.args.conflict.now c.args.side c.requires.node c.requires.choice c.agent_of-agent.result c.left_for-bound.result c.in_ok-set.set
     (side_made (g.L.LeastPaths.problem c.args.low.now) c.args.self.now c.args.conflict.now c.args.side c.requires.node c.requires.choice c.agent_of-agent.result c.constraint_of.result c.self.inside.sets.items c.index.result.now c.in_ok-set.set c.agent_of-agent.ensures c.constraint_of.ensures (ap (λ n. n.sets) c.self.view_is) c.index.ensures c.in_ok-set.ensures)
-    c.agent_of-agent.ensures c.left_for-bound.ensures.leaves c.in_ok-path.field-0 c.in_ok-path.ensures c.in-Some.path
-    (record { sets = c.in_ok-sets.sets.items; plan = c.in_ok-plan.plan; pairs = c.in_ok-pairs.pairs.items; label = c.max-label.result; collisions = c.self.inside.collisions; is_bounded = false }) c.in-Some.is c.in_ok-sets.ensures c.in_ok-plan.ensures
-    (subst (λ ps. AllByRecursion (Contains ps) c.in_ok-pairs.pairs.items) (c.deref.ensures.value ∙ ap (λ n. n.pairs) c.self.view_is) c.in_ok-pairs.ensures)
-    (omega (arith, c.max-label.ensures, c.cost.ensures.cost, ap (λ n. n.label) c.self.view_is))
+    c.agent_of-agent.ensures c.left_for-bound.ensures.leaves c.in_ok-path.field-0 c.in_ok-path.ensures c.in-Some.path c.in_ok-child.child c.in-Some.is c.in_ok-child.ensures.sets c.in_ok-child.ensures.plan c.in_ok-child.ensures.pairs c.in_ok-child.ensures.label
