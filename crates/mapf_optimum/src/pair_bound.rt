@@ -1,5 +1,5 @@
 /// Two agents, and what their paths cost together at least.
-#[derive(Clone, Copy, Debug, PartialEq, Eq)]
+#[derive(Clone, Copy)]
 pub struct PairBound {
     /// The agent with the smaller number.
     pub first: usize,

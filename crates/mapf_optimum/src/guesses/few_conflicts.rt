@@ -10,7 +10,7 @@ use std::alloc::Global;
 const MOST_STATES: usize = 256;
 
 /// A cell on which the agent may be at a time step, with the fewest collisions on the way there.
-#[derive(Clone, Copy, Drop)]
+#[derive(Clone, Copy)]
 struct State {
     cell: Cell,
     /// The place of the state before among those of the time step before.

@@ -6,7 +6,7 @@ use std::alloc::Global;
 use std::mem::swap;
 
 /// An agent on a cell, in a round.
-#[derive(Clone, Copy, Drop)]
+#[derive(Clone, Copy)]
 struct Mark {
     round: u64,
     agent: usize,

@@ -27,7 +27,7 @@ const PAIR_NODES: usize = 8;
 const BUDGET: usize = 20_000;
 
 /// An agent as it stands in a node: its number, what it is forbidden, and a least path of it.
-#[derive(Drop)]
+#[derive(Clone, Copy)]
 pub struct AgentInNode<'a> {
     /// Its number.
     pub agent: usize,
@@ -38,7 +38,7 @@ pub struct AgentInNode<'a> {
 }
 
 /// What a search among the plans of two agents tells.
-#[derive(Drop)]
+#[derive(Clone, Copy)]
 struct LeastTogether {
     /// Each costs at least so much.
     least: u64,
