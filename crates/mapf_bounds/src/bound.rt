@@ -4,7 +4,7 @@ ghost use Rattle.mapf_bounds.specs.Bounds.{IsRaised, node_bound};
 use mapf_tree::Node;
 
 /// What no solution at or below a node comes before, by cost and then by depth.
-#[derive(Clone, Copy, Debug, PartialEq, Eq)]
+#[derive(Clone, Copy, PartialEq)]
 pub struct Bound {
     /// Each such solution costs at least so much.
     pub cost: u64,

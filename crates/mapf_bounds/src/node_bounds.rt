@@ -113,11 +113,10 @@ impl<'p> NodeBounds<'p> {
         let conflicts = paths.pair_conflicts(node)?;
         let current = node.paths(self.alloc)?;
         let own = Bound::own(node);
-        let kept = dear_pairs(self.alloc, &current, pairs)?;
-        let most = self.most_extra(own.cost);
-        let pairs = self.add_pairs(node, &current, stage, &conflicts, most, kept)?;
-        let surplus = disjoint_surplus(self.alloc, &current, &pairs)?;
         let turns = disjoint_collisions(self.alloc, self.problem.rule(), &current, &conflicts)?;
+        let most = self.most_extra(own.cost);
+        let pairs = self.add_pairs(node, &current, stage, &conflicts, most, pairs)?;
+        let surplus = disjoint_surplus(self.alloc, &current, &pairs)?;
         let bound = Bound {
             cost: known.cost.max(own.cost.saturating_add(surplus)),
             depth: own.depth.saturating_add(turns),
@@ -131,7 +130,7 @@ impl<'p> NodeBounds<'p> {
         left.min(u64::from(MOST_EXTRA)) as u32
     }
 
-    /// Adds what those pairs cost that collide, and of which one agent has another path than at the parent.
+    /// Adds to the dear ones of these pairs what those cost that collide, and of which one agent has another path than at the parent.
     fn add_pairs(
         &mut self,
         node: &Node,
@@ -139,18 +138,18 @@ impl<'p> NodeBounds<'p> {
         stage: Stage,
         conflicts: &[PairConflict],
         most: u32,
-        pairs: Vec<PairBound>,
+        known: &[PairBound],
     ) -> Result<Vec<PairBound>, NoMemory>
         requires node { IsBranching self.old.problem node.now }
         requires current { current.now ≡ node.now.plan }
-        requires pairs { AreKnownAt self.old.problem node.now pairs.items }
+        requires known { AreKnownAt self.old.problem node.now known.now }
         ensures same { self.new ≡ self.old }
         ensures pairs { IfOk result (λ found. AreKnownAt self.old.problem node.now found.items) }
     {
-        let mut pairs = pairs;
+        let mut pairs = dear_pairs(self.alloc(), current, known)?;
         for conflict in conflicts {
             let (first, second) = (usize::from(conflict.first), usize::from(conflict.second));
-            if stage == Stage::Inherited && !is_changed(node, first, second) {
+            if matches!(stage, Stage::Inherited) && !is_changed(node, first, second) {
                 continue;
             }
             if let Some(pair) = self.pair_bound(node, current, first, second, most)? {

@@ -74,7 +74,7 @@ pub fn finish_by_bounds<W: Watch>(
 }
 
 /// What the first solution costs.
-#[derive(Clone, Copy, Debug)]
+#[derive(Clone, Copy)]
 pub(crate) struct CostRange {
     /// At least so much.
     pub(crate) least: u64,

@@ -13,7 +13,7 @@ use std::marker::Model;
 use std::sync::Arc;
 
 /// How far a node's bound is known.
-#[derive(Clone, Copy, Debug, PartialEq, Eq)]
+#[derive(Clone, Copy)]
 pub(crate) enum Stage {
     /// By its plan alone.
     Handed,

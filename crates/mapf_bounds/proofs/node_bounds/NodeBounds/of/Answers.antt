@@ -1,8 +1,6 @@
-use Rattle.std.proofs.Common.{List, Contains, length, subst₂, ap, ◌∙◌, arith}
+use Rattle.std.proofs.Common.{List, length, subst₂, ap, ◌∙◌, arith}
 use Rattle.mapf_optimum.specs.declared.pair_bound.PairBound.{PairBound}
-use Rattle.mapf_optimum.specs.FreeTree.{IsPairBound}
 use Rattle.mapf_optimum.specs.Pairs.{HaveSurplus}
-use Rattle.mapf_optimum.proofs.Choosing.{all_contains, all_map}
 use Rattle.mapf_bounds.specs.declared.bound.Bound.{Bound}
 use Rattle.mapf_bounds.specs.Bounds.{Bounding}
 use Rattle.mapf_bounds.specs.Pairs.{HaveCollisions}
@@ -10,17 +8,12 @@ use Rattle.mapf_bounds.proofs.Pairs.{surplus_bounds}
 use Rattle.mapf_bounds.proofs.DisjointPairs.{collisions_take_turns}
 use Rattle.mapf_bounds.proofs.node_bounds.NodeBounds.of.Goals as goal
 
-pub add_pairs-requires-clause-pairs : goal.add_pairs-requires-clause-pairs
-add_pairs-requires-clause-pairs c =
-    let P = IsPairBound c.args.self.now.problem c.args.node.now.constraints in
-    all_map (Contains c.args.pairs.now) P (all_contains P c.args.pairs.now c.requires.pairs) c.in_ok-kept.kept.items c.in_ok-kept.ensures
-
 pub returns-clause-bound : goal.returns-clause-bound
 returns-clause-bound c m stands =
     let problem = c.args.self.now.problem in
     let plan = c.in_ok-current.ensures in
-    let surplus = subst₂ (λ q (l : List PairBound). HaveSurplus q l c.in_ok-surplus.surplus) plan c.deref-2.ensures.value c.in_ok-surplus.ensures in
-    let rule = c.rule.ensures ∙ ap (λ (b : Bounding). b.problem.rule) (c.self-2.view_is ∙ c.in_ok-pairs.ensures.same) in
+    let surplus = subst₂ (λ q (l : List PairBound). HaveSurplus q l c.in_ok-surplus.surplus) plan c.deref-3.ensures.value c.in_ok-surplus.ensures in
+    let rule = c.rule.ensures ∙ ap (λ (b : Bounding). b.problem.rule) c.self.view_is in
     let turns = subst₂ (λ r q. HaveCollisions r q c.in_ok-turns.turns) rule (plan ∙ stands.plan) c.in_ok-turns.ensures in
     let cost = ap (λ (b : Bound). b.cost) c.own-own.ensures in
     let depth = ap (λ (b : Bound). b.depth) c.own-own.ensures in record {
