@@ -117,9 +117,7 @@ fn has_conflict(rule: Rule, plan: &Plan, conflict: &Conflict) -> bool
             first,
             second,
             cell,
-        } => {
-            first < second && is_on(plan, first, time, cell) && is_on(plan, second, time, cell)
-        }
+        } => first < second && is_on(plan, first, time, cell) && is_on(plan, second, time, cell),
         Conflict::Swapping {
             time,
             first,
