@@ -1,5 +1,5 @@
 use Rattle.mapf_tree.proofs.Prelude.{◌≡◌, ◌+◌, ◌∙◌, length, subst, subst₂, sym, ap, arith, length_push, numbers_more, numbers_inside, plan_of_numbers}
-use Rattle.mapf_tree.specs.Prelude.{IfSome, AreNumbers, IsKnownPlan, plan_of, PathCache, IsRemembered, AreSetsOf, AreFirstPaths}
+use Rattle.mapf_tree.specs.Prelude.{IfSome, AreNumbers, IsKnownPlan, plan_of, PathCache, AreSetsOf, AreFirstPaths}
 use Rattle.mapf_tree.proofs.own_paths.path_cache.PathCache.all_numbers.Goals as goal
 
 pub loop-agent-preserved : goal.loop-agent-preserved
@@ -12,18 +12,11 @@ loop-agent-preserved c =
 
 pub plan-requires-clause-numbers : goal.plan-requires-clause-numbers
 plan-requires-clause-numbers c =
-    subst₂ (λ (b : PathCache) ns. AreNumbers b.paths ns) (sym c.self.view_is) (sym c.deref-2.ensures.value)
-    (numbers_inside c.args.self.now.paths c.loop-agent.numbers.items c.args.node.now.plan c.loop-agent.agent c.loop-agent.invariant.0 c.loop-agent.invariant.1)
+    subst₂ (λ (b : PathCache) ns. AreNumbers b.paths ns) (sym c.self.view_is) (sym c.deref-2.ensures.value) (numbers_inside c.args.self.now.paths c.loop-agent.numbers.items c.args.node.now.plan c.loop-agent.agent c.loop-agent.invariant.0 c.loop-agent.invariant.1)
 
 pub plan-requires-clause-agents : goal.plan-requires-clause-agents
 plan-requires-clause-agents c =
     omega (arith, ap length c.deref-2.ensures.value, c.loop-agent.invariant.0, c.loop-agent.auto.agent-end, c.agents-agent-end.ensures.agents, c.agents-agent-end.ensures.few)
-
-pub invariant_of-self : goal.invariant_of-self
-invariant_of-self c = subst (IsRemembered c.self.inside.problem.now c.self.inside.firsts.items c.self.inside.latest c.self.inside.sets) (sym c.plan.ensures.known) c.self.invariant
-
-pub invariant_of-self-2 : goal.invariant_of-self-2
-invariant_of-self-2 c = subst (IsRemembered c.self.inside.problem.now c.self.inside.firsts.items c.self.inside.latest c.self.inside.sets) (sym c.plan.ensures.known) c.self.invariant
 
 pub returns-clause-numbers : goal.returns-clause-numbers
 returns-clause-numbers c =
