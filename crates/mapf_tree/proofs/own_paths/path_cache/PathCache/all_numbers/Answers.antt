@@ -1,5 +1,5 @@
 use Rattle.mapf_tree.proofs.Prelude.{◌≡◌, ◌+◌, ◌∙◌, length, subst, subst₂, sym, ap, arith, length_push, numbers_more, numbers_inside, plan_of_numbers}
-use Rattle.mapf_tree.specs.Prelude.{IfSome, AreNumbers, IsKnownPlan, plan_of, PathCache, AreSetsOf, AreFirstPaths}
+use Rattle.mapf_tree.specs.Prelude.{IfSome, AreNumbers, IsKnownPlan, plan_of, PathCache, IsRemembered, AreSetsOf, AreFirstPaths}
 use Rattle.mapf_tree.proofs.own_paths.path_cache.PathCache.all_numbers.Goals as goal
 
 pub loop-agent-preserved : goal.loop-agent-preserved
@@ -18,10 +18,15 @@ pub plan-requires-clause-agents : goal.plan-requires-clause-agents
 plan-requires-clause-agents c =
     omega (arith, ap length c.deref-2.ensures.value, c.loop-agent.invariant.0, c.loop-agent.auto.agent-end, c.agents-agent-end.ensures.agents, c.agents-agent-end.ensures.few)
 
+pub invariant_of-self : goal.invariant_of-self
+invariant_of-self c = subst (IsRemembered c.self.inside.problem.now c.self.inside.firsts.items c.self.inside.latest c.self.inside.sets) (sym c.plan.ensures.known) c.self.invariant
+
+pub invariant_of-self-2 : goal.invariant_of-self-2
+invariant_of-self-2 c = subst (IsRemembered c.self.inside.problem.now c.self.inside.firsts.items c.self.inside.latest c.self.inside.sets) (sym c.plan.ensures.known) c.self.invariant
+
 pub returns-clause-numbers : goal.returns-clause-numbers
 returns-clause-numbers c =
-    let cache = c.args.self.now in let node = c.args.node.now in let plan = c.in_ok-plan.plan in let items = c.loop-agent.numbers.items in
-    let all : c.loop-agent.agent ≡ length node.plan = omega (arith, c.loop-agent-test.false, c.loop-agent.auto.agent-end, c.agents-agent-end.ensures.agents) in
+    let cache = c.args.self.now in let node = c.args.node.now in let plan = c.in_ok-plan.plan in let items = c.loop-agent.numbers.items in let all : c.loop-agent.agent ≡ length node.plan = omega (arith, c.loop-agent-test.false, c.loop-agent.auto.agent-end, c.agents-agent-end.ensures.agents) in
     let numbers : plan.numbers.items ≡ items = c.in_ok-plan.ensures.numbers ∙ c.deref-2.ensures.value in record {
       sets = subst (λ o. IfSome o (λ sets. AreSetsOf cache.sets sets.items node.constraints)) c.in-Some.is c.in_ok-sets.ensures;
       plan = subst₂ (λ rule paths. IsKnownPlan (record { rule = rule; paths = paths }) plan.numbers.items plan.conflicts.items)
