@@ -83,15 +83,6 @@ module _ (name : List Side) (chain : Chain) (conflict : Option Conflict) (node :
       sym (ap (λ (n : Node). n.constraints) is) ∙ ap (λ n. changed_sets (replicate n []) chain.changes) (sym (length-changed_plan chain.root chain.changes))
       ∙ ap (λ (n : Node). changed_sets (replicate (length n.plan) []) n.changes) is
 
-  -- without a turn no agent has a constraint
-  pub none_at_root : length chain.changes ≡ 0 → node.constraints ≡ replicate (length node.plan) []
-  none_at_root none =
-      sets_of_changes ∙ ap (λ l. changed_sets (replicate (length node.plan) []) l) (ap (λ (n : Node). n.changes) (sym is) ∙ no_change chain.changes none)
-    where
-      no_change : (l : List Changed) → length l ≡ 0 → l ≡ []
-      no_change [] e = refl
-      no_change (x ∷ l) e = absurd (omega (arith, e))
-
   -- the last change's path is its agent's
   pub last_at : (agent n : ℕ) (x : Changed) (chain' : Chain) → chain' ≡ chain → slice_get chain'.changes n ≡ Some x → length chain'.changes ≡ n + 1 → x.agent ≡ agent → agent < length node.plan → x.path ≡ path_of node.plan agent
   last_at agent n x chain' e at last own inside =

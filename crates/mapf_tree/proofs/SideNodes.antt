@@ -57,7 +57,7 @@ module _ (p : Problem) (node : Node) (m : PlannedNode) (c : Conflict) (s : Side)
       (IsWith-cons (constraint_on c s) (constraints_of m.0 (agent_on c s)) (get_or node.constraints (agent_on c s) []) more (shows.sets (agent_on c s) agent_inside) after)
 
   -- the side's agent has a path in the node's plan
-  in_plan : agent_on c s < length node.plan
+  pub in_plan : agent_on c s < length node.plan
   in_plan = subst (λ n. agent_on c s < n) (sym (ap length shows.plan ∙ shows.member.plan.agents)) agent_inside
 
   -- with that path the plan has the own path of every agent on this side

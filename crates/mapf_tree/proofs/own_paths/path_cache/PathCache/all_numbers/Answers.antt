@@ -12,8 +12,7 @@ loop-agent-preserved c =
 
 pub plan-requires-clause-numbers : goal.plan-requires-clause-numbers
 plan-requires-clause-numbers c =
-    subst₂ (λ (b : PathCache) ns. AreNumbers b.paths ns) (sym c.self.view_is) (sym c.deref-2.ensures.value)
-    (numbers_inside c.args.self.now.paths c.loop-agent.numbers.items c.args.node.now.plan c.loop-agent.agent c.loop-agent.invariant.0 c.loop-agent.invariant.1)
+    subst₂ (λ (b : PathCache) ns. AreNumbers b.paths ns) (sym c.self.view_is) (sym c.deref-2.ensures.value) (numbers_inside c.args.self.now.paths c.loop-agent.numbers.items c.args.node.now.plan c.loop-agent.agent c.loop-agent.invariant.0 c.loop-agent.invariant.1)
 
 pub plan-requires-clause-agents : goal.plan-requires-clause-agents
 plan-requires-clause-agents c =
@@ -27,8 +26,7 @@ invariant_of-self-2 c = subst (IsRemembered c.self.inside.problem.now c.self.ins
 
 pub returns-clause-numbers : goal.returns-clause-numbers
 returns-clause-numbers c =
-    let cache = c.args.self.now in let node = c.args.node.now in let plan = c.in_ok-plan.plan in let items = c.loop-agent.numbers.items in
-    let all : c.loop-agent.agent ≡ length node.plan = omega (arith, c.loop-agent-test.false, c.loop-agent.auto.agent-end, c.agents-agent-end.ensures.agents) in
+    let cache = c.args.self.now in let node = c.args.node.now in let plan = c.in_ok-plan.plan in let items = c.loop-agent.numbers.items in let all : c.loop-agent.agent ≡ length node.plan = omega (arith, c.loop-agent-test.false, c.loop-agent.auto.agent-end, c.agents-agent-end.ensures.agents) in
     let numbers : plan.numbers.items ≡ items = c.in_ok-plan.ensures.numbers ∙ c.deref-2.ensures.value in record {
       sets = subst (λ o. IfSome o (λ sets. AreSetsOf cache.sets sets.items node.constraints)) c.in-Some.is c.in_ok-sets.ensures;
       plan = subst₂ (λ rule paths. IsKnownPlan (record { rule = rule; paths = paths }) plan.numbers.items plan.conflicts.items)

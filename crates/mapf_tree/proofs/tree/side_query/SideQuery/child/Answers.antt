@@ -9,8 +9,7 @@ returns-in_default c = no_child c.args.node.now c.args.self.now c.requires.query
 
 pub with_change-requires-clause-small : goal.with_change-requires-clause-small
 with_change-requires-clause-small c =
-    let path = arc_value c.in-Some.path in
-    let found : IsFoundBy c.args.self.now (Some path) = subst (λ p. IsFoundBy c.args.self.now (option_map arc_value p)) c.in-Some.is c.requires.path in
+    let path = arc_value c.in-Some.path in let found : IsFoundBy c.args.self.now (Some path) = subst (λ p. IsFoundBy c.args.self.now (option_map arc_value p)) c.in-Some.is c.requires.path in
     let plan : length c.args.node.now.plan ≡ length c.args.self.now.problem.inst.starts = ap length c.requires.node.stands.plan ∙ c.requires.node.stands.member.plan.agents in
     let inside : c.self.inside.agent < length c.args.node.now.plan =
     subst (λ n. c.self.inside.agent < n) (sym (plan ∙ ap (λ (q : SideQuery). length q.problem.inst.starts) (sym c.self.view_is))) c.self.invariant.inside in
@@ -24,9 +23,7 @@ with_change-requires-clause-small c =
 
 pub returns : goal.returns
 returns c =
-    let path = arc_value c.in-Some.path in let change = c.in_ok-change.change.value in
-    let found : IsFoundBy c.args.self.now (Some path) = subst (λ p. IsFoundBy c.args.self.now (option_map arc_value p)) c.in-Some.is c.requires.path in
+    let path = arc_value c.in-Some.path in let change = c.in_ok-change.change.value in let found : IsFoundBy c.args.self.now (Some path) = subst (λ p. IsFoundBy c.args.self.now (option_map arc_value p)) c.in-Some.is c.requires.path in
     let same = c.in_ok-change.ensures.ok in let e = c.in_ok-with_change.ensures in
-    subst (λ (q : SideQuery). IsChildOf q.problem c.args.node.now q.side (Some c.in_ok-with_change.field-0)) c.self.view_is
-    (is_child c.args.node.now c.in_ok-with_change.field-0 _ change (subst (IsQueryOf c.args.node.now) (sym c.self.view_is) c.requires.query)
+    subst (λ (q : SideQuery). IsChildOf q.problem c.args.node.now q.side (Some c.in_ok-with_change.field-0)) c.self.view_is (is_child c.args.node.now c.in_ok-with_change.field-0 _ change (subst (IsQueryOf c.args.node.now) (sym c.self.view_is) c.requires.query)
     (subst₂ (λ q p. IsFoundBy q (Some p)) (sym c.self.view_is) (sym (ap (λ (x : Changed). x.path) same)) found) (ap (λ (x : Changed). x.agent) same) (ap (λ (x : Changed). x.constraint) same) e.name e.changes e.constraints e.plan e.rule e.conflict)
