@@ -8,6 +8,7 @@ mod low;
 mod numbers;
 mod plan;
 mod solve;
+mod squares;
 
 use anyhow::Result;
 
@@ -18,5 +19,6 @@ fn main(rt: HostRuntime) -> Result<()> {
     low::show(&rt, alloc)?;
     check::show(&rt, alloc)?;
     board::show(&rt, alloc)?;
-    solve::show(&rt, alloc)
+    solve::show(&rt, alloc)?;
+    squares::show(&rt, alloc)
 }

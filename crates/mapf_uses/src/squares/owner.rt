@@ -3,9 +3,9 @@ ghost use Rattle.std.specs.Prelude.{◌≡◌, ◌*◌, ◌<◌, ◌≤◌, [], 
 ghost use Rattle.std.specs.Vec.{vec_capacity};
 ghost use Rattle.mapf_board.specs.Owners.{IsOwnerOf, currents};
 ghost use Rattle.mapf_board.specs.Workers.{size_of};
-ghost use Rattle.mapf_board_squares.specs.Posted.{AreAmong};
+ghost use Rattle.mapf_uses.specs.Posted.{AreAmong};
 
-use crate::square::{Squares, square_of};
+use super::square::{Squares, square_of};
 use mapf_board::{Left, Live, Owner};
 
 /// Posts each number in the slot of its place.

@@ -1,8 +1,8 @@
 use Rattle.std.proofs.Common.{◌≡◌, ◌*◌, ◌≤◌, length, map, take}
 use Rattle.std.specs.Vec.{vec_capacity}
 use Rattle.mapf_board.specs.Owners.{IsOwnerOf, currents}
-use Rattle.mapf_board_squares.specs.Posted.{AreAmong}
-use Rattle.mapf_board_squares.proofs.owner.square_all.Given as goal
+use Rattle.mapf_uses.specs.Posted.{AreAmong}
+use Rattle.mapf_uses.proofs.squares.owner.square_all.Given as goal
 
 abbrev pub invariant-loop-slot : goal.invariant-loop-slot
 invariant-loop-slot l = record {

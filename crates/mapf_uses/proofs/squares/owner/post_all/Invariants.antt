@@ -1,6 +1,6 @@
 use Rattle.mapf_board.specs.Owners.{IsOwnerOf, currents}
-use Rattle.mapf_board_squares.specs.Posted.{AreAmong}
-use Rattle.mapf_board_squares.proofs.owner.post_all.Given as goal
+use Rattle.mapf_uses.specs.Posted.{AreAmong}
+use Rattle.mapf_uses.proofs.squares.owner.post_all.Given as goal
 
 abbrev pub invariant-loop-slot : goal.invariant-loop-slot
 invariant-loop-slot l = record {

@@ -3,8 +3,8 @@ ghost use Rattle.std.specs.Prelude.{◌≡◌, ◌*◌, ◌<◌, ◌≤◌, All,
 ghost use Rattle.mapf_board.specs.Workers.{IsWorkerOf, IsIdle};
 ghost use Rattle.mapf_board.specs.declared.limits.TheConstants.{MOST_SLOTS};
 
-use crate::owner::{post_all, square_all};
-use crate::square::Squares;
+use super::owner::{post_all, square_all};
+use super::square::Squares;
 use mapf_board::{AlwaysGrants, Live, NoGate, NoMemory, WorkerSeat};
 use std::alloc::{AllocError, Global};
 use std::thread::{Threads, join, map_vec};
