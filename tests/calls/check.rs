@@ -105,6 +105,8 @@ fn bad_steps(rt: HostRuntime) -> Result<(), Fail> {
     expect(&rt, alloc, &[&[1], &[0, 3, 0, 1, 2]], 4, onto_wall)?;
     let over_corner = Verdict::BadStep { agent: 0, time: 2 };
     expect(&rt, alloc, &[&[1, 2, 4, 1], &[0, 1, 2]], 5, over_corner)?;
+    let at_the_end = Verdict::BadStep { agent: 1, time: 1 };
+    expect(&rt, alloc, &[&[1, 4, 1], &[0, 2]], 3, at_the_end)?;
     let outside = Verdict::BadStep { agent: 0, time: 2 };
     expect(&rt, alloc, &[&[1, 4, 7, 4, 1], &[0, 1, 2]], 6, outside)
 }

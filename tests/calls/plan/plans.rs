@@ -46,3 +46,14 @@ fn finds_the_first_conflict(rt: HostRuntime) -> Result<(), Fail> {
     assert_eq!(rt; of_two(rt.alloc(), [4, 4, 1], [2, 2, 1])?, Some(vertex));
     Ok(())
 }
+
+/// A conflict isn't before itself.
+#[test]
+fn orders_conflicts(rt: HostRuntime) -> Result<(), Fail> {
+    let first = of_two(rt.alloc(), [1, 0, 1], [0, 1, 2])?.ok_or("no conflict")?;
+    let second = of_two(rt.alloc(), [4, 4, 1], [2, 2, 1])?.ok_or("no conflict")?;
+    assert!(rt; first.is_before(&second));
+    assert!(rt; !second.is_before(&first));
+    assert!(rt; !first.is_before(&first));
+    Ok(())
+}
