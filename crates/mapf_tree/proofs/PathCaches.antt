@@ -1,7 +1,7 @@
 -- What a path cache remembers.
-use Rattle.mapf_tree.proofs.Prelude.{◌≡◌, ◌⊎◌, ℕ, zero, suc, ◌+◌, ◌<◌, ◌≤◌, List, [], ◌∷◌, ◌++◌, length, get_or, set, replicate, Option, Some, None, IsSome, subst, subst₂, sym, refl, ap, ◌∙◌, inl, inr, ⊎_elim, arith, get_or-le-sum_by, get_or-set_same, get_or-set_other, get_or_from_slice_get, slice_get_within, slice_get-get_or, IfSome_then, below_more, set_cases, same_own, own_set}
+use Rattle.mapf_tree.proofs.Prelude.{◌≡◌, ◌⊎◌, ℕ, zero, suc, ◌+◌, ◌<◌, ◌≤◌, List, [], ◌∷◌, ◌++◌, length, get_or, set, replicate, Option, Some, None, IsSome, subst, subst₂, sym, refl, ap, ◌∙◌, inl, inr, ⊎_elim, arith, get_or-set_same, get_or-set_other, get_or_from_slice_get, slice_get_within, slice_get-get_or, IfSome_then, below_more, set_cases, same_own, own_set}
 use Rattle.std.proofs.lemmas.List.{length-set, length_push, length-append, length-replicate, get_or-replicate, get_or_append_left, get_or_push}
-use Rattle.mapf_tree.specs.Prelude.{slice_get, slice_index, option_map, cost, path_of, plan_cost, Conflict, Constraint, Side, Path, NoneWithin, ConstraintSet, Problem, Changed, Node, IsSameSet, IsConflictOf, IsBranching, IsChildOf, IsOwnWithin, Leaves, SideQuery, IsQueryOf, IsFoundBy, IsOwnPathOf, agent_on, constraint_on, constraints_of, PathCache, HasSet, IsQueryIn, IsExtension, AreExtensions, IsExtended, AreKnown, IsCachedPath, IsOwnIn, IsNumberOf, IsAskedAt, IsTurnAt, HasNoTurnAt, GivesOwn, HasPath, AreFirst, AreFirstPaths, AreSetsOf}
+use Rattle.mapf_tree.specs.Prelude.{slice_get, slice_index, option_map, cost, path_of, plan_cost, Conflict, Constraint, Side, Path, NoneWithin, ConstraintSet, Problem, Changed, Node, IsSameSet, IsConflictOf, IsBranching, IsChildOf, IsOwnWithin, Leaves, SideQuery, IsQueryOf, IsFoundBy, IsOwnPathOf, agent_on, constraint_on, constraints_of, PathCache, HasSet, IsExtension, AreExtensions, IsExtended, AreKnown, IsCachedPath, IsOwnIn, IsNumberOf, IsAskedAt, IsTurnAt, HasNoTurnAt, GivesOwn, HasPath, AreFirst, AreSetsOf}
 use Rattle.mapf_tree.specs.declared.own_paths.constraint_sets.Extension.{Extension}
 use Rattle.mapf_tree.specs.declared.own_paths.constraint_sets.CachedPath.{CachedPath}
 use Rattle.mapf_tree.proofs.ConstraintSets.{with_same, IsWith, IsWith-cons}
@@ -94,7 +94,8 @@ sets_turned_on sets numbers cs agent more constraint inside are has = record {
 
     here : Own agent more (constraint ∷ get_or cs agent [])
     here =
-        let old = are.same agent (subst (λ n. agent < n) are.each inside) in let new = has agent old.0 old.1 in
+        let old = are.same agent (subst (λ n. agent < n) are.each inside) in
+        let new = has agent old.0 old.1 in
         (new.0, new.1, IsWith-cons constraint (get_or cs agent []) old.0 new.0 old.2 new.2)
 
     same : (j : ℕ) → j < length cs → Own j (slice_index (set numbers agent more) j) (get_or (set cs agent (constraint ∷ get_or cs agent [])) j [])
@@ -115,12 +116,6 @@ each_more P xs more y n is all one =
 
     here : P n (slice_index more n)
     here = subst (P n) (sym (ap (λ ns. get_or ns n 0) is ∙ get_or_push xs y 0 n all.0)) one
-
--- and of one that keeps the first numbers and has the next one's path
-pub given_more : (paths : List (List ℕ)) (old new : List ℕ) (plan : List (List ℕ)) (n number : ℕ) → ((k : ℕ) → k < n → slice_index new k ≡ slice_index old k) → slice_index new n ≡ number →
-    slice_get paths number ≡ Some (path_of plan n) → AreFirstPaths paths old plan n → AreFirstPaths paths new plan (n + 1)
-given_more paths old new plan n number keeps at is are =
-    below_more (λ k. slice_get paths (slice_index new k) ≡ Some (path_of plan k)) n (λ k l. ap (slice_get paths) (keeps k l) ∙ are k l) (ap (slice_get paths) at ∙ is)
 
 -- at first each agent has the empty set
 pub sets_begun : (sets : List ConstraintSet) (numbers : List ℕ) (agents : ℕ) → (length numbers ≡ agents) × ((k : ℕ) → k < agents → HasSet sets (slice_index numbers k) k []) →
@@ -161,7 +156,8 @@ known_more problem paths old new s is are one number x at =
 own_path_told : (cache : PathCache) (set number agent : ℕ) (cs : List Constraint) (s : ConstraintSet) (path : List ℕ) → AreKnown cache.problem cache.paths cache.sets → slice_get cache.sets set ≡ Some s → HasPath s.own number path →
     HasSet cache.sets set agent cs → (slice_get cache.paths number ≡ Some path) × IsOwnPathOf cache.problem agent cs path
 own_path_told cache set number agent cs s path is at own has =
-    let known = told s.own (is set s at) own in let same = same_set cache.sets set agent cs s at has in
+    let known = told s.own (is set s at) own in
+    let same = same_set cache.sets set agent cs s at has in
     (known.0, subst₂ (λ i xs. IsOwnPathOf cache.problem i xs path) same.0 same.1 known.1)
   where
     told : (own : CachedPath) → IsCachedPath cache.problem cache.paths s.agent s.constraints own → HasPath own number path → (slice_get cache.paths number ≡ Some path) × IsOwnPathOf cache.problem s.agent s.constraints path
@@ -182,7 +178,8 @@ agents_at_node problem node branching = ap length branching.stands.plan ∙ bran
 pub path_at_node : (cache : PathCache) (node : Node) (sets : List ℕ) (agent number : ℕ) (s : ConstraintSet) (path : List ℕ) → IsBranching cache.problem node → AreSetsOf cache.sets sets node.constraints →
     agent < length node.plan → AreKnown cache.problem cache.paths cache.sets → slice_get cache.sets (slice_index sets agent) ≡ Some s → HasPath s.own number path → slice_get cache.paths number ≡ Some (path_of node.plan agent)
 path_at_node cache node sets agent number s path branching are l is at own =
-    let inside : agent < length cache.problem.inst.starts = omega (arith, l, agents_at_node cache.problem node branching) in let set = are.same agent (omega (arith, inside, branching.stands.agents)) in
+    let inside : agent < length cache.problem.inst.starts = omega (arith, l, agents_at_node cache.problem node branching) in
+    let set = are.same agent (omega (arith, inside, branching.stands.agents)) in
     let known = own_path_told cache (slice_index sets agent) number agent set.0 s path is at own set.1 in
     let all : IsSameSet set.0 (constraints_of branching.of.0 agent) =
     λ x. let one = set.2 x in let two = branching.stands.sets agent inside x in ((λ h. two.0 (one.0 h)), (λ h. one.1 (two.1 h))) in
@@ -198,12 +195,6 @@ query_inside node q branching is = told node.conflict refl branching.conflict
     told None e some = absurd (let m : ◌≡◌ {A = ℕ} 0 1 = cc in omega (arith, m))
     told (Some c) e some = omega (arith, is.agent c e, agent_inside q.problem node branching.of c q.side branching.stands e, agents_at_node q.problem node branching)
 
--- and its bound is within the problem's
-pub query_bounded : (problem : Problem) (node : Node) (q : SideQuery) → IsQueryIn problem node q → q.bound ≤ problem.bound
-query_bounded problem node q is =
-    let inside = query_inside node q (subst (λ p. IsBranching p node) (sym is.1) is.0) is.2 in
-    omega (arith, is.2.leaves, get_or-le-sum_by cost node.plan q.agent [] inside, ap (λ (p : Problem). p.bound) is.1)
-
 -- where no agent has a constraint, an agent's path is its own one under the empty set
 pub root_own : (problem : Problem) (node : Node) (agent : ℕ) → IsBranching problem node → node.constraints ≡ replicate (length node.plan) [] → agent < length node.plan → IsOwnPathOf problem agent [] (path_of node.plan agent)
 root_own problem node agent branching none inside =
@@ -213,10 +204,6 @@ root_own problem node agent branching none inside =
     λ x. let one = subst (λ l. IsSameSet l (constraints_of branching.of.0 agent)) empty (branching.stands.sets agent below) x in (one.1, one.0) in
     subst (λ plan. IsOwnPathOf problem agent [] (path_of plan agent)) (sym branching.stands.plan)
     (own_set _ _ _ _ (constraints_of branching.of.0 agent) [] (path_of branching.of.1 agent) same (branching.stands.member.plan.own agent below))
-
--- once the empty sets have numbers, each agent's set is one of them
-pub sets_at_first : (problem : Problem) (sets : List ConstraintSet) (numbers : List ℕ) → AreFirst problem sets numbers → 0 < length numbers → AreSetsOf sets numbers (replicate (length problem.inst.starts) [])
-sets_at_first problem sets numbers are some = ⊎_elim (λ e. absurd (omega (arith, some, ap length e))) (λ h. h) are
 
 -- the own path of a known set serves a lower bound that it keeps
 pub own_in_path : (cache : PathCache) (set number bound : ℕ) (path : List ℕ) (s : ConstraintSet) → AreKnown cache.problem cache.paths cache.sets → slice_get cache.sets set ≡ Some s → HasPath s.own number path →
@@ -261,7 +248,10 @@ pub turn_at : (cache : PathCache) (node : Node) (side : Side) (sets : List ℕ) 
     agent ≡ agent_on c side → constraint ≡ constraint_on c side → agent < length node.constraints → IsExtended cache.sets (slice_index sets agent) constraint extended → Leaves cache.problem node.plan agent bound →
     IsOwnIn cache extended bound (Some number) → AreKnown cache.problem cache.paths cache.sets → IsNumberOf cache.sets extended number → GivesOwn cache.sets extended constraint (Some x) → IsTurnAt cache node side number x
 turn_at cache node side sets c agent bound extended constraint number x are is on forbids inside has leaves own known numbered gives =
-    let found = found_at cache node side sets c agent bound extended constraint (Some number) are is on forbids inside has leaves own in let q = found.0 in let s = numbered.0 in let given = gives.1 s numbered.1 in
+    let found = found_at cache node side sets c agent bound extended constraint (Some number) are is on forbids inside has leaves own in
+    let q = found.0 in
+    let s = numbered.0 in
+    let given = gives.1 s numbered.1 in
     let path : numbered.2 ≡ x.path = one_path s.own number given.1 numbered.2 x.path numbered.3 given.2 in
     let at : slice_get cache.paths number ≡ Some x.path =
     (own_path_told cache extended number q.agent q.constraints s numbered.2 known numbered.1 numbered.3 found.4).0 ∙ ap Some path in (

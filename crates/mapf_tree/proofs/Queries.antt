@@ -18,7 +18,8 @@ pub is_child : (node new : Node) (q : SideQuery) (change : Changed) → IsQueryO
     new.constraints ≡ set node.constraints change.agent (change.constraint ∷ get_or node.constraints change.agent []) → new.plan ≡ set node.plan change.agent change.path →
     new.rule ≡ node.rule → IsConflictOf node.rule (set node.plan change.agent change.path) new.conflict → IsChildOf q.problem node q.side (Some new)
 is_child node new q change h own a k name changes constraints plan rule conflict m c shows is =
-    let agent : change.agent ≡ agent_on c q.side = a ∙ h.agent c is in let forbidden : change.constraint ≡ constraint_on c q.side = k ∙ h.constraint c is in
+    let agent : change.agent ≡ agent_on c q.side = a ∙ h.agent c is in
+    let forbidden : change.constraint ≡ constraint_on c q.side = k ∙ h.constraint c is in
     side_stands q.problem node m c q.side shows is q.bound q.constraints (sought node c q h is) change.path
     (subst (λ i. IsOwnWithin q.problem q.bound i q.constraints (Some change.path)) (h.agent c is) own) new name
     (subst₂ (λ i x. new.changes ≡ node.changes ++ record { agent = i; constraint = x; path = change.path } ∷ []) agent forbidden changes)

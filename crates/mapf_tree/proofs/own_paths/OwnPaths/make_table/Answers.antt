@@ -5,7 +5,8 @@ use Rattle.mapf_tree.proofs.own_paths.OwnPaths.make_table.Goals as goal
 
 pub invariant_of-self : goal.invariant_of-self
 invariant_of-self c =
-    let problem = c.self.inside.problem.now in let tables = map (option_map arc_value) c.self.inside.from_start.items in (
+    let problem = c.self.inside.problem.now in
+    let tables = map (option_map arc_value) c.self.inside.from_start.items in (
       subst (AreTables problem) (sym (map-set (option_map arc_value) c.self.inside.from_start.items c.args.agent c.table_of.result))
           (right_with_other (AreFromStart problem) tables c.args.agent (option_map arc_value c.table_of.result) c.self.invariant.0 c.table_of.ensures),
       c.self.invariant.1,

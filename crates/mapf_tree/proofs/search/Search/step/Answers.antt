@@ -1,4 +1,4 @@
-use Rattle.std.proofs.Common.{Ok, Some, inl, inr, refl, subst, ap, ◌∙◌}
+use Rattle.std.proofs.Common.{Ok, Some, inr, refl, subst, ap, ◌∙◌}
 use Rattle.std.specs.Option.{option_map}
 use Rattle.mapf_plan.specs.declared.answer.Answer.TheVariants as answer
 use Rattle.mapf_tree.specs.Prelude.{key_rank, Searched, IsLawful, TakesOne, TakesLeast}
@@ -47,9 +47,6 @@ invariant_of-self g c = (gave_up g (goal.at.invariant_of-self g c).In-Some, c.se
 pub returns-in-Some-clause-search : goal.returns-in-Some-clause-search
 returns-in-Some-clause-search g c = gave_up g (goal.at.returns-in-Some-clause-search g c).In-Some
 
-pub returns-in-Some-clause-step : goal.returns-in-Some-clause-step
-returns-in-Some-clause-step g c = ((_, refl), inl (ap (λ (s : Searched). s.last) c.self.view_is))
-
 pub invariant_of-self-in-Ok-Branched : goal.invariant_of-self-in-Ok-Branched
 invariant_of-self-in-Ok-Branched g c =
     let expanded = branched g (goal.at.invariant_of-self-in-Ok-Branched g c).In-Ok-Branched in
@@ -93,6 +90,3 @@ invariant_of-self-in-Ok-Empty g c = (rw c.bound-bound.ensures.bound (empty g (go
 
 pub returns-in-Ok-Empty-clause-search : goal.returns-in-Ok-Empty-clause-search
 returns-in-Ok-Empty-clause-search g c = rw c.bound-bound.ensures.bound (empty g (goal.at.returns-in-Ok-Empty-clause-search g c).In-Ok-Empty)
-
-pub returns-in-Ok-Empty-clause-step : goal.returns-in-Ok-Empty-clause-step
-returns-in-Ok-Empty-clause-step g c = ((_, refl), inl (ap (λ (s : Searched). s.last) c.self.view_is))

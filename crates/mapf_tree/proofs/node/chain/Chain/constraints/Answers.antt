@@ -7,7 +7,9 @@ use Rattle.mapf_tree.proofs.node.chain.Chain.constraints.Goals as goal
 
 pub loop-turn-preserved : goal.loop-turn-preserved
 loop-turn-preserved c agents inside =
-    let x = c.at-change.result.now in let whose = ap (λ (y : Changed). y.agent) c.change.view_is in let sets : List (List Constraint) = replicate agents [] in
+    let x = c.at-change.result.now in
+    let whose = ap (λ (y : Changed). y.agent) c.change.view_is in
+    let sets : List (List Constraint) = replicate agents [] in
     let more = sets_more sets (take c.loop-turn.turn c.args.self.now.changes) x c.args.agent c.loop-turn.constraints c.if-change-agent.constraints
     (subst (λ n. c.args.agent < n) (sym (length-replicate agents [])) inside) (c.loop-turn.invariant agents inside) in
     subst (λ xs. IsSameSet c.if-change-agent.constraints (get_or (changed_sets sets xs) c.args.agent [])) (sym (taken_more c.args.self.now.changes c.loop-turn.turn x c.at-change.ensures))

@@ -6,7 +6,8 @@ use Rattle.mapf_tree.proofs.node.chain.Chain.path.Goals as goal
 
 pub loop-turn-preserved : goal.loop-turn-preserved
 loop-turn-preserved c =
-    let x = c.at-change.result.now in let whose = ap (λ (y : Changed). y.agent) c.change.view_is in
+    let x = c.at-change.result.now in
+    let whose = ap (λ (y : Changed). y.agent) c.change.view_is in
     let more = path_more c.args.self.now.root (take c.loop-turn.turn c.args.self.now.changes) x c.args.agent c.loop-turn.path.now c.if-change-agent.path.now c.requires c.loop-turn.invariant in
     subst (λ xs. c.if-change-agent.path.now ≡ path_of (changed_plan c.args.self.now.root xs) c.args.agent) (sym (taken_more c.args.self.now.changes c.loop-turn.turn x c.at-change.ensures))
     (elim c.if-change-agent.branch [

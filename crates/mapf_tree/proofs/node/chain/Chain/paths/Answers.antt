@@ -1,4 +1,4 @@
-use Rattle.std.proofs.Common.{◌<◌, take, take_all, set, subst, sym, ap, ◌∙◌, length, arith}
+use Rattle.std.proofs.Common.{◌<◌, take, set, subst, sym, ap, ◌∙◌, length}
 use Rattle.mapf_tree.specs.Prelude.{changed_plan}
 use Rattle.mapf_tree.proofs.Chains.{all_at, taken_more, changed_plan-push, length-changed_plan}
 use Rattle.mapf_tree.proofs.node.chain.Chain.paths.Goals as goal
@@ -13,6 +13,3 @@ loop-turn-preserved c =
     c.change.ensures ∙ ap (λ plan. set plan c.at.result.now.agent c.at.result.now.path) c.loop-turn.invariant
     ∙ sym (changed_plan-push c.args.self.now.root (take c.loop-turn.turn c.args.self.now.changes) c.at.result.now)
     ∙ ap (changed_plan c.args.self.now.root) (sym (taken_more c.args.self.now.changes c.loop-turn.turn c.at.result.now c.at.ensures))
-
-pub returns : goal.returns
-returns c = c.loop-turn.invariant ∙ ap (changed_plan c.args.self.now.root) (take_all c.loop-turn.turn c.args.self.now.changes (omega arith))

@@ -4,7 +4,9 @@ use Rattle.mapf_tree.proofs.node.current_paths.CurrentPaths.plan.Goals as goal
 
 pub loop-path-preserved : goal.loop-path-preserved
 loop-path-preserved c =
-    let paths = c.deref-path-items.result.now in let i = c.loop-path.path-index in let path = c.in_ok-copy.field-0 in
+    let paths = c.deref-path-items.result.now in
+    let i = c.loop-path.path-index in
+    let path = c.in_ok-copy.field-0 in
     let inside : i < length paths = omega arith in (
       subst (λ xs. c.push_reserved.new.self.items ≡ xs)
           (sym (taken_more (map (λ p. p.now) paths) i path

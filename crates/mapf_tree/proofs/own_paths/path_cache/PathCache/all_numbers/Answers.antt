@@ -4,7 +4,9 @@ use Rattle.mapf_tree.proofs.own_paths.path_cache.PathCache.all_numbers.Goals as 
 
 pub loop-agent-preserved : goal.loop-agent-preserved
 loop-agent-preserved c =
-    let paths = c.args.self.now.paths in let numbers = c.loop-agent.numbers.items in let number = c.in-Some-path_at.number in (
+    let paths = c.args.self.now.paths in
+    let numbers = c.loop-agent.numbers.items in
+    let number = c.in-Some-path_at.number in (
       ap length c.push_reserved.ensures.items ∙ length_push numbers number ∙ ap (λ k. k + 1) c.loop-agent.invariant.0,
       numbers_more paths paths numbers c.push_reserved.new.self.items number c.args.node.now.plan c.loop-agent.agent c.loop-agent.invariant.0 (λ m p h. h) c.loop-agent.invariant.1 c.in-Some-path_at.ensures c.push_reserved.ensures.items,
       omega (arith, c.push_reserved.ensures.capacity, c.loop-agent.invariant.2),
@@ -26,7 +28,11 @@ invariant_of-self-2 c = subst (IsRemembered c.self.inside.problem.now c.self.ins
 
 pub returns-clause-numbers : goal.returns-clause-numbers
 returns-clause-numbers c =
-    let cache = c.args.self.now in let node = c.args.node.now in let plan = c.in_ok-plan.plan in let items = c.loop-agent.numbers.items in let all : c.loop-agent.agent ≡ length node.plan = omega (arith, c.loop-agent-test.false, c.loop-agent.auto.agent-end, c.agents-agent-end.ensures.agents) in
+    let cache = c.args.self.now in
+    let node = c.args.node.now in
+    let plan = c.in_ok-plan.plan in
+    let items = c.loop-agent.numbers.items in
+    let all : c.loop-agent.agent ≡ length node.plan = omega (arith, c.loop-agent-test.false, c.loop-agent.auto.agent-end, c.agents-agent-end.ensures.agents) in
     let numbers : plan.numbers.items ≡ items = c.in_ok-plan.ensures.numbers ∙ c.deref-2.ensures.value in record {
       sets = subst (λ o. IfSome o (λ sets. AreSetsOf cache.sets sets.items node.constraints)) c.in-Some.is c.in_ok-sets.ensures;
       plan = subst₂ (λ rule paths. IsKnownPlan (record { rule = rule; paths = paths }) plan.numbers.items plan.conflicts.items)

@@ -1,5 +1,5 @@
-use Rattle.mapf_tree.proofs.Prelude.{◌≡◌, ◌<◌, ◌≤◌, [], length, subst, subst₂, sym, ap, ap₂, ◌∙◌, arith, length-map, slice_get_within, get_or_from_slice_get}
-use Rattle.mapf_tree.specs.Prelude.{slice_set, IsKnownPlan, cost, path_of, plan_of, MOST_BOUND, Changed, IsConflictOf, PathCache}
+use Rattle.mapf_tree.proofs.Prelude.{◌≡◌, ◌<◌, [], length, subst, subst₂, sym, ap, ap₂, ◌∙◌, arith, length-map, slice_get_within, get_or_from_slice_get}
+use Rattle.mapf_tree.specs.Prelude.{slice_set, path_of, plan_of, Changed, IsConflictOf, PathCache}
 use Rattle.mapf_tree.proofs.PathCaches.{small_at, child_at}
 use Rattle.mapf_tree.proofs.own_paths.path_cache.PathCache.child_with.Goals as goal
 
@@ -15,15 +15,15 @@ first_conflict_of_changed-requires-clause-agent c =
 pub with_change-requires-clause-agent : goal.with_change-requires-clause-agent
 with_change-requires-clause-agent c = (small_at c.args.self.now c.args.node.now c.args.side c.args.path c.args.change.value c.requires.node c.requires.turn).0
 
-pub with_change-requires-clause-small : goal.with_change-requires-clause-small
-with_change-requires-clause-small c =
-    let cache = c.args.self.now in let few : cache.problem.bound ≤ MOST_BOUND = subst (λ n. n ≤ MOST_BOUND) (c.bound-bound.ensures.bound ∙ ap (λ (b : PathCache). b.problem.bound) c.self.view_is) c.bound-bound.ensures.small in
-    omega (arith, (small_at cache c.args.node.now c.args.side c.args.path c.args.change.value c.requires.node c.requires.turn).1, few)
-
 pub with_change-requires-clause-conflict : goal.with_change-requires-clause-conflict
 with_change-requires-clause-conflict c =
-    let node = c.args.node.now in let change = c.args.change.value in let agent = c.behind-change.inside.agent in let paths = c.self.inside.paths in let numbers = c.args.at.now.plan.numbers.items in
-    let rule : paths.rule ≡ node.rule = c.self.invariant.2 ∙ ap (λ (b : PathCache). b.problem.rule) c.self.view_is ∙ sym c.requires.node.stands.rule in let front : plan_of paths.paths numbers ≡ node.plan = ap (λ (b : PathCache). plan_of b.paths numbers) c.self.view_is ∙ c.requires.at.same in
+    let node = c.args.node.now in
+    let change = c.args.change.value in
+    let agent = c.behind-change.inside.agent in
+    let paths = c.self.inside.paths in
+    let numbers = c.args.at.now.plan.numbers.items in
+    let rule : paths.rule ≡ node.rule = c.self.invariant.2 ∙ ap (λ (b : PathCache). b.problem.rule) c.self.view_is ∙ sym c.requires.node.stands.rule in
+    let front : plan_of paths.paths numbers ≡ node.plan = ap (λ (b : PathCache). plan_of b.paths numbers) c.self.view_is ∙ c.requires.at.same in
     let path : path_of paths.paths c.args.path ≡ change.path =
     ap (λ (b : PathCache). path_of b.paths c.args.path) c.self.view_is ∙ get_or_from_slice_get c.args.self.now.paths c.args.path change.path [] c.requires.turn.4 in
     let plan : slice_set (plan_of paths.paths numbers) agent (path_of paths.paths c.args.path) ≡ slice_set node.plan change.agent change.path =
@@ -35,11 +35,5 @@ returns-clause-child c =
     let e = c.in_ok-child.ensures in
     child_at c.args.self.now c.args.node.now c.in_ok-child.child c.args.side c.args.path c.args.change.value c.requires.turn e.name e.changes e.constraints e.plan e.rule e.conflict
 
-pub with_change-requires-clause-old : goal.with_change-requires-clause-old
-with_change-requires-clause-old c = c.cost_at-old.ensures ∙ ap (λ (x : Changed). cost (path_of c.args.node.now.plan x.agent)) (c.behind-change.view_is ∙ c.deref.ensures)
-
 pub first_conflict_of_changed-requires-clause-number : goal.first_conflict_of_changed-requires-clause-number
 first_conflict_of_changed-requires-clause-number c = subst (λ (b : PathCache). c.args.path < length b.paths) (sym c.self.view_is) (slice_get_within c.args.self.now.paths c.args.path _ c.requires.turn.4)
-
-pub first_conflict_of_changed-requires-clause-plan : goal.first_conflict_of_changed-requires-clause-plan
-first_conflict_of_changed-requires-clause-plan c = subst₂ (λ rule paths. IsKnownPlan (record { rule = rule; paths = paths }) c.args.at.now.plan.numbers.items c.args.at.now.plan.conflicts.items) (sym (c.self.invariant.2 ∙ ap (λ (b : PathCache). b.problem.rule) c.self.view_is)) (sym (ap (λ (b : PathCache). b.paths) c.self.view_is)) c.requires.at.plan

@@ -1,13 +1,17 @@
-use Rattle.mapf_tree.proofs.Prelude.{◌≡◌, [], ap, get_or-le-sum_by, ◌<◌, get_or, length, Some, option_map, subst, subst₂, sym, ◌∙◌, arith, get_or_default_zero}
-use Rattle.mapf_tree.specs.Prelude.{cost, IfSome, Leaves, Changed, PathCache, IsExtended, IsOwnIn, IsNumberOf, IsTurnAt, GivesOwn, AreKnown}
-use Rattle.mapf_tree.proofs.SideNodes.{agent_inside, in_plan}
+use Rattle.mapf_tree.proofs.Prelude.{◌≡◌, ◌<◌, get_or, length, Some, option_map, subst, subst₂, sym, ◌∙◌, arith, get_or_default_zero}
+use Rattle.mapf_tree.specs.Prelude.{IfSome, Leaves, Changed, PathCache, IsExtended, IsOwnIn, IsNumberOf, IsTurnAt, GivesOwn, AreKnown}
+use Rattle.mapf_tree.proofs.SideNodes.{agent_inside}
 use Rattle.mapf_tree.proofs.PathCaches.{turn_at, no_turn_at}
 use Rattle.mapf_tree.proofs.own_paths.path_cache.PathCache.known_turn.Goals as goal
 
 pub returns-in_default-path : goal.returns-in_default-path
 returns-in_default-path c =
-    let cache = c.args.self.now in let node = c.args.node.now in let sets = c.args.at.now.sets.items in
-    let agent = c.agent_of-agent.result in let constraint = c.constraint_of-constraint.result in let after = c.in-Some.extension.now.after in
+    let cache = c.args.self.now in
+    let node = c.args.node.now in
+    let sets = c.args.at.now.sets.items in
+    let agent = c.agent_of-agent.result in
+    let constraint = c.constraint_of-constraint.result in
+    let after = c.in-Some.extension.now.after in
     let is : node.conflict ≡ Some c.unwrap-conflict.result = sym c.conflict.ensures.conflict ∙ c.unwrap-conflict.ensures in
     let inside : agent < length node.constraints = omega (arith, c.agent_of-agent.ensures, agent_inside cache.problem node c.requires.node.of c.unwrap-conflict.result c.args.side c.requires.node.stands is, c.requires.node.stands.agents) in
     let set : c.index-set.result.now ≡ get_or sets agent 0 = c.index-set.ensures ∙ get_or_default_zero sets agent c.index-set.result.now (omega (arith, inside, c.requires.at.sets.each)) in
@@ -17,8 +21,12 @@ returns-in_default-path c =
 
 pub returns-in_ok-try_clone-in-Some-change : goal.returns-in_ok-try_clone-in-Some-change
 returns-in_ok-try_clone-in-Some-change c =
-    let cache = c.args.self.now in let node = c.args.node.now in let sets = c.args.at.now.sets.items in
-    let agent = c.agent_of-agent.result in let constraint = c.constraint_of-constraint.result in let after = c.in-Some.extension.now.after in
+    let cache = c.args.self.now in
+    let node = c.args.node.now in
+    let sets = c.args.at.now.sets.items in
+    let agent = c.agent_of-agent.result in
+    let constraint = c.constraint_of-constraint.result in
+    let after = c.in-Some.extension.now.after in
     let is : node.conflict ≡ Some c.unwrap-conflict.result = sym c.conflict.ensures.conflict ∙ c.unwrap-conflict.ensures in
     let inside : agent < length node.constraints = omega (arith, c.agent_of-agent.ensures, agent_inside cache.problem node c.requires.node.of c.unwrap-conflict.result c.args.side c.requires.node.stands is, c.requires.node.stands.agents) in
     let set : c.index-set.result.now ≡ get_or sets agent 0 = c.index-set.ensures ∙ get_or_default_zero sets agent c.index-set.result.now (omega (arith, inside, c.requires.at.sets.each)) in
@@ -28,17 +36,3 @@ returns-in_ok-try_clone-in-Some-change c =
     (subst₂ (λ (b : PathCache) n. IsExtended b.sets n constraint after) c.self.view_is set c.in-Some.ensures.0) (subst (λ (b : PathCache). Leaves b.problem node.plan agent c.bound_for-bound.result) c.self.view_is c.bound_for-bound.ensures.leaves)
     (subst (IsOwnIn cache after c.bound_for-bound.result) c.in-Some-path.is c.in-Known.ensures.own) (subst (λ (b : PathCache). AreKnown b.problem b.paths b.sets) c.self.view_is c.self.invariant.0)
     (subst (λ o. IfSome o (IsNumberOf cache.sets after)) c.in-Some-path.is c.in-Known.ensures.number) (subst (λ (b : PathCache). GivesOwn b.sets after constraint (Some c.in-Some-change.change.value)) c.self.view_is given))
-
-pub index-set-requires : goal.index-set-requires
-index-set-requires c = omega (arith, c.agent_of-agent.ensures, agent_inside c.args.self.now.problem c.args.node.now c.requires.node.of c.unwrap-conflict.result c.args.side c.requires.node.stands (sym c.conflict.ensures.conflict ∙ c.unwrap-conflict.ensures), c.requires.node.stands.agents, c.requires.at.sets.each)
-
-pub cost_at-requires-clause-agent : goal.cost_at-requires-clause-agent
-cost_at-requires-clause-agent c = subst (λ n. n < length c.args.node.now.plan) (sym c.agent_of-agent.ensures) (in_plan c.args.self.now.problem c.args.node.now c.requires.node.of c.unwrap-conflict.result c.args.side c.requires.node.stands (sym c.conflict.ensures.conflict ∙ c.unwrap-conflict.ensures))
-
-pub bound_for-bound-requires-clause-agent : goal.bound_for-bound-requires-clause-agent
-bound_for-bound-requires-clause-agent c = subst (λ n. n < length c.args.node.now.plan) (sym c.agent_of-agent.ensures) (in_plan c.args.self.now.problem c.args.node.now c.requires.node.of c.unwrap-conflict.result c.args.side c.requires.node.stands (sym c.conflict.ensures.conflict ∙ c.unwrap-conflict.ensures))
-
-pub find_own_path-requires : goal.find_own_path-requires
-find_own_path-requires c =
-    let node = c.args.node.now in let inside : c.agent_of-agent.result < length node.plan = subst (λ n. n < length node.plan) (sym c.agent_of-agent.ensures) (in_plan c.args.self.now.problem c.args.node.now c.requires.node.of c.unwrap-conflict.result c.args.side c.requires.node.stands (sym c.conflict.ensures.conflict ∙ c.unwrap-conflict.ensures)) in
-    omega (arith, c.bound_for-bound.ensures.leaves, ap (λ (b : PathCache). b.problem.bound) c.self.view_is, get_or-le-sum_by cost node.plan c.agent_of-agent.result [] inside)

@@ -5,10 +5,16 @@ use Rattle.mapf_tree.proofs.own_paths.path_cache.PathCache.learn.Goals as goal
 
 pub extend-requires-clause-extended : goal.extend-requires-clause-extended
 extend-requires-clause-extended c =
-    let cache = c.keep_set.new.self in let node = c.args.node.now in let q = c.args.query.now in let agent = c.agent.result in let query = c.requires.query in let sets = c.in-Some.sets.items in
+    let cache = c.keep_set.new.self in
+    let node = c.args.node.now in
+    let q = c.args.query.now in
+    let agent = c.agent.result in
+    let query = c.requires.query in
+    let sets = c.in-Some.sets.items in
     let inside : agent < length node.constraints =
     omega (arith, c.agent.ensures.inside, query.0.stands.agents, ap (λ (p : Problem). length p.inst.starts) query.1) in
-    let are = subst (λ o. IfSome o (λ found. AreSetsOf cache.sets found.items node.constraints)) c.in-Some.is c.in_ok-sets.ensures in let set = are.same agent inside in
+    let are = subst (λ o. IfSome o (λ found. AreSetsOf cache.sets found.items node.constraints)) c.in-Some.is c.in_ok-sets.ensures in
+    let set = are.same agent inside in
     let before : c.index-before.result.now ≡ get_or sets agent 0 = c.index-before.ensures ∙ get_or_default_zero sets agent c.index-before.result.now (omega (arith, inside, are.each)) in
     let more : IsWith c.constraint.result (get_or node.constraints agent []) q.constraints =
     subst₂ (λ k a. IsWith k (get_or node.constraints a []) q.constraints) (sym c.constraint.ensures.constraint) (sym c.agent.ensures.agent) query.2.constraints in

@@ -13,7 +13,9 @@ loop-agent-preserved c =
 
 pub invariant_of-self : goal.invariant_of-self
 invariant_of-self c =
-    let sets = c.self-2.inside.sets in let firsts = c.loop-agent.firsts.items in let agents = length c.self-2.inside.problem.now.inst.starts in
+    let sets = c.self-2.inside.sets in
+    let firsts = c.loop-agent.firsts.items in
+    let agents = length c.self-2.inside.problem.now.inst.starts in
     let count : c.loop-agent.agent ≡ agents =
     omega (
       arith,

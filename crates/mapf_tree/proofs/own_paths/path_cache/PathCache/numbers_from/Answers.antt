@@ -4,7 +4,9 @@ use Rattle.mapf_tree.proofs.own_paths.path_cache.PathCache.numbers_from.Goals as
 
 pub returns-clause-numbers : goal.returns-clause-numbers
 returns-clause-numbers c =
-    let cache = c.args.self.now in let node = c.args.node.now in let items = c.loop-agent.plan.numbers.items in
+    let cache = c.args.self.now in
+    let node = c.args.node.now in
+    let items = c.loop-agent.plan.numbers.items in
     let all : c.loop-agent.agent ≡ length node.plan = omega (arith, c.loop-agent-test.false, c.loop-agent.auto.agent-end, c.agents-agent-end.ensures.agents) in record {
       sets = subst (λ o. IfSome o (λ sets. AreSetsOf cache.sets sets.items node.constraints)) c.in-Some.is c.in_ok-sets.ensures;
       plan = c.loop-agent.invariant.1.0;

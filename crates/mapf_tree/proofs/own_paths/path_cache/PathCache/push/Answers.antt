@@ -5,7 +5,10 @@ use Rattle.mapf_tree.proofs.own_paths.path_cache.PathCache.push.Goals as goal
 
 pub invariant_of-self-2 : goal.invariant_of-self-2
 invariant_of-self-2 c =
-    let s : ConstraintSet = record { agent = c.args.agent; constraints = c.args.constraints; own = c.args.own } in let problem = c.self.inside.problem.now in let old = c.self.inside.sets in let new = c.push.new.self in
+    let s : ConstraintSet = record { agent = c.args.agent; constraints = c.args.constraints; own = c.args.own } in
+    let problem = c.self.inside.problem.now in
+    let old = c.self.inside.sets in
+    let new = c.push.new.self in
     let kept : (n a : ℕ) (cs : List Constraint) → HasSet old n a cs → HasSet new n a cs = λ n a cs h. set_kept old new s n a cs c.in_ok-set.ensures.added.0 h in (
       known_more problem c.self.inside.paths.paths old new s c.in_ok-set.ensures.added.0 c.self.invariant.0
           (subst (λ (b : PathCache). IsCachedPath b.problem b.paths c.args.agent c.args.constraints c.args.own) (sym c.self.view_is) c.requires),

@@ -2,7 +2,7 @@ use Rattle.std.proofs.Common.{rules, ◌≡◌, ◌<◌, ◌≤◌, [], get_or, 
 use Rattle.mapf_tree.specs.Prelude.{cost, Conflict, agent_on, constraint_on}
 use Rattle.mapf_tree.proofs.ConstraintSets.{with_same}
 use Rattle.mapf_tree.proofs.LeastCosts.{costs_no_less}
-use Rattle.mapf_tree.proofs.SideNodes.{agent_inside, in_plan}
+use Rattle.mapf_tree.proofs.SideNodes.{agent_inside}
 use Rattle.mapf_tree.proofs.tree.side_query.SideQuery.of.Goals as goal
 
 pub returns-clause-query : goal.returns-clause-query
@@ -25,12 +25,3 @@ invariant_of-result c =
           (costs_no_less c.args.problem.now c.args.node.now c.requires.of c.agent_of-agent.result c.bound_for.result c.constraint_of-constraint.result c.in_ok-and.field-0 c.requires.stands inside c.bound_for.ensures.leaves
           (with_same c.constraint_of-constraint.result c.in_ok-constraints.field-0 (get_or c.args.node.now.constraints c.agent_of-agent.result []) c.in_ok-and.field-0 c.in_ok-constraints.ensures c.in_ok-and.ensures) path allowed);
     }
-
-pub path-requires : goal.path-requires
-path-requires c = subst (λ n. n < length c.args.node.now.plan) (sym c.agent_of-agent.ensures) (in_plan c.args.problem.now c.args.node.now c.requires.of c.unwrap-conflict.result c.args.side c.requires.stands (sym c.conflict.ensures.conflict ∙ c.unwrap-conflict.ensures))
-
-pub constraints-requires : goal.constraints-requires
-constraints-requires c = subst (λ n. n < length c.args.node.now.plan) (sym c.agent_of-agent.ensures) (in_plan c.args.problem.now c.args.node.now c.requires.of c.unwrap-conflict.result c.args.side c.requires.stands (sym c.conflict.ensures.conflict ∙ c.unwrap-conflict.ensures))
-
-pub bound_for-requires-clause-agent : goal.bound_for-requires-clause-agent
-bound_for-requires-clause-agent c = subst (λ n. n < length c.args.node.now.plan) (sym c.agent_of-agent.ensures) (in_plan c.args.problem.now c.args.node.now c.requires.of c.unwrap-conflict.result c.args.side c.requires.stands (sym c.conflict.ensures.conflict ∙ c.unwrap-conflict.ensures))
