@@ -2,16 +2,17 @@
 from __future__ import annotations
 
 import argparse
+import importlib
 import os
 import sys
 from typing import List, Optional
 
 from .. import __version__
 from ..faults import BackendFailure, Fault, NotBuilt
-from . import check, convert, score, series, show, solve
 from .status import status_of
 
-COMMANDS = (solve, convert, check, show, score, series)
+# Looked up by name, here alone: the benchmark imports the rest of the package, and nothing of the rest imports the benchmark.
+COMMANDS = (".solve", ".convert", ".check", ".show", "..benchmark.commands.score", "..benchmark.commands.series")
 
 
 def main(words: Optional[List[str]] = None) -> int:
@@ -22,8 +23,8 @@ def main(words: Optional[List[str]] = None) -> int:
         description="Find plans, convert and judge those of any planner, and run series.")
     parser.add_argument("--version", action="version", version=f"mapf {__version__}")
     commands = parser.add_subparsers(dest="command", metavar="COMMAND", required=True)
-    for command in COMMANDS:
-        command.add(commands)
+    for name in COMMANDS:
+        importlib.import_module(name, __package__).add(commands)
     asked = parser.parse_args(words)
     try:
         return asked.run(asked)

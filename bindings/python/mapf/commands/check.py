@@ -15,7 +15,7 @@ from ..converters import FORMATS, read_plan
 from ..faults import Fault, PlanFault, ScenarioFault
 from ..instance import rows_of
 from ..plan_text import agents_stated
-from ..series.scenarios import scenarios_in
+from ..scenarios import scenarios_in
 from ..verdict import Verdict
 from .report import writer
 from .status import status_of

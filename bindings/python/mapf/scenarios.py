@@ -1,12 +1,12 @@
-"""The scenarios of a series, and the maps that they name."""
+"""The scenarios of files and folders, and the maps that they name."""
 from __future__ import annotations
 
 import os
 from typing import Dict, Iterator, List, NamedTuple, Sequence
 
-from .._input import read_input
-from ..faults import Fault
-from ..instance import rows_of
+from ._input import read_input
+from .faults import Fault
+from .instance import rows_of
 
 
 class Scenario(NamedTuple):

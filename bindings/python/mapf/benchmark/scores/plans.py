@@ -5,8 +5,8 @@ import os
 import re
 from typing import Dict, Iterator, NamedTuple, Optional, Tuple
 
-from ..converters import FORMATS
-from ..faults import Fault, PlanFault
+from ...converters import FORMATS
+from ...faults import Fault, PlanFault
 
 NAME = re.compile(r"(.+)-([0-9]{1,9})")
 

@@ -3,10 +3,10 @@ from __future__ import annotations
 
 from typing import List, NamedTuple, Optional, Sequence, Tuple
 
-from ..plan import GaveUp, NoPlan
-from ..plan_text import PLAN, read_text
+from ...plan import GaveUp, NoPlan
+from ...plan_text import PLAN, read_text
+from ...verdict import Verdict
 from ..series.rows import Key
-from ..verdict import Verdict
 from .bounds import Bound
 
 

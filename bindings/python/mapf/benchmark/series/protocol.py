@@ -4,9 +4,9 @@ from __future__ import annotations
 from concurrent.futures import FIRST_EXCEPTION, ThreadPoolExecutor, wait
 from typing import Callable, Iterator, NamedTuple, Optional, Sequence
 
+from ...scenarios import Scenario
 from .rows import Row
 from .runner import Runner
-from .scenarios import Scenario
 from .table import Table
 
 

@@ -8,11 +8,11 @@ import time
 from contextlib import suppress
 from typing import Dict, List, NamedTuple, Optional, Set, Tuple
 
-from ..child import Child
-from ..program import Program
+from ...child import Child
+from ...program import Program
+from ...scenarios import Scenario
 from .limits import Limits
 from .rows import Row
-from .scenarios import Scenario
 
 PLAN = re.compile(rb"plan [0-9]+ ([0-9]+)\n")
 NONE = re.compile(rb"none ([0-9]+)\n")

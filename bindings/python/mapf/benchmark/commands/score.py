@@ -8,16 +8,16 @@ from concurrent.futures import ThreadPoolExecutor
 from itertools import chain
 from typing import Any, Dict, Iterator, List, Optional, Sequence
 
-from .. import calls
-from ..converters import FORMATS
-from ..faults import Fault, PlanFault
+from ... import calls
+from ...commands.check import Job, text_of
+from ...commands.report import writer
+from ...converters import FORMATS
+from ...faults import Fault, PlanFault
+from ...scenarios import Scenario, scenarios_in
 from ..scores.bounds import Bound, bounds_of
 from ..scores.plans import PlanFile, Planners, planners_in, suffixes_of
 from ..scores.score import Score, Total, judged, missing, total
 from ..series.rows import Key
-from ..series.scenarios import Scenario, scenarios_in
-from .check import Job, text_of
-from .report import writer
 
 ABOUT = """Judges the plans of planners, each in a folder of its own, and divides their costs by the optima, or else the
 lower bounds, of a series: a row for each planner and instance, and at the end one for each planner. The status is 1

@@ -7,8 +7,8 @@ import os
 import re
 from typing import Any, Dict, Iterable, List, Mapping, NamedTuple, Optional, Sequence, Tuple
 
-from ..faults import Fault
-from ..plan_text import shown
+from ...faults import Fault
+from ...plan_text import shown
 from .limits import COLUMNS
 
 STATUSES = ("solved", "none", "gave_up", "out_of_time", "out_of_memory", "refused", "failed")

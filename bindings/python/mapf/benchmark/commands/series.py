@@ -7,7 +7,8 @@ import signal
 import sys
 from typing import Any, Callable, List, Sequence
 
-from ..options import MOST_AGENTS, MOST_BOUND, MOST_NODES
+from ...options import MOST_AGENTS, MOST_BOUND, MOST_NODES
+from ...scenarios import scenarios_in
 from ..plots import write_plot
 from ..series.limits import Limits
 from ..series.listing import one_a_row, one_a_scenario
@@ -15,7 +16,6 @@ from ..series.protocol import Agents, run_series
 from ..series.rates import rates
 from ..series.rows import AGAIN, Row, joined, read_series
 from ..series.runner import Runner
-from ..series.scenarios import scenarios_in
 from ..series.table import Table, write_series
 
 ABOUT = """Adds agents to each scenario until the first instance that isn't solved in time, and writes a CSV row for each run.

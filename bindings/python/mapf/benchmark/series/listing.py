@@ -5,12 +5,12 @@ import os
 import shlex
 from typing import Iterator, Sequence
 
-from ..program import program_path
+from ...program import program_path
+from ...scenarios import Scenario
 from .limits import Limits, option, seconds_text
 from .protocol import Agents
-from .scenarios import Scenario
 
-PACKAGE = os.path.normpath(os.path.join(os.path.dirname(os.path.realpath(__file__)), "..", ".."))
+PACKAGE = os.path.normpath(os.path.join(os.path.dirname(os.path.realpath(__file__)), "..", "..", ".."))
 
 
 def parts_of(csv_path: str) -> str:

@@ -3,7 +3,7 @@ from __future__ import annotations
 
 from typing import Dict, NamedTuple, Optional
 
-from ..faults import Fault
+from ...faults import Fault
 from ..series.rows import Key, read_series
 
 

@@ -3,7 +3,7 @@ from __future__ import annotations
 
 from typing import Dict, List, NamedTuple, Optional
 
-from ..options import Options
+from ...options import Options
 
 
 class Limits(NamedTuple):

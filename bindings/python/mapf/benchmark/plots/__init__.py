@@ -4,8 +4,8 @@ from __future__ import annotations
 import os
 from typing import Dict, List, Sequence, Tuple
 
-from ..faults import Fault
-from ..plan_text import shown
+from ...faults import Fault
+from ...plan_text import shown
 from . import axes
 from .curves import Solver, most_scenarios, rate_points, runs, solvers_of, time_points
 from .panel import HEIGHT, LEFT, WIDTH, Panel

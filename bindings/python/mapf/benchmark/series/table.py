@@ -8,7 +8,7 @@ import shutil
 import threading
 from typing import BinaryIO, Container, List, Optional, Sequence
 
-from ..faults import Fault
+from ...faults import Fault
 from .rows import AGAIN, Asked, Key, Row, contents_of, head_of, refuse_devices, same_ask, series_of, text_of
 
 

@@ -1,0 +1,1 @@
+"""The commands `series` and `score`."""
