@@ -5,7 +5,7 @@ import os
 from typing import Dict, Iterator, List, NamedTuple, Sequence
 
 from ._input import read_input
-from .faults import Fault
+from .faults import Fault, FileFault, PlanFault
 from .instance import rows_of
 
 
@@ -19,11 +19,37 @@ class Scenario(NamedTuple):
     rows: int
 
 
-def scenarios_in(maps: str, scens: Sequence[str]) -> List[Scenario]:
-    """The scenarios of these files and folders by name, each with the map of the folder that its first row names."""
+class Scenarios(NamedTuple):
+    """Scenarios by name, and the faults of those that have no row or no map."""
+
+    found: Dict[str, Scenario]
+    lost: Dict[str, Fault]
+
+    def of_plan(self, name: str, plan: str) -> Scenario:
+        """The scenario of this name, which a plan is for."""
+        if name in self.lost:
+            raise self.lost[name]
+        if name not in self.found:
+            raise PlanFault(None, "no scenario for a plan", plan, name, "the name of a scenario of --scens")
+        return self.found[name]
+
+
+def scenarios_in(maps: str, scens: Sequence[str]) -> Scenarios:
+    """The scenarios of these files and folders in order, each with the map of the folder that its first row names.
+
+    Where all are lost, the first one's fault is raised.
+    """
     map_paths = _by_name("map", list(_files([maps], ".map")))
     scen_paths = _by_name("scenario", list(_files(scens, ".scen")))
-    return [_scenario(name, scen_paths[name], map_paths, maps) for name in sorted(scen_paths)]
+    scenarios = Scenarios({}, {})
+    for name in sorted(scen_paths):
+        try:
+            scenarios.found[name] = _scenario(name, scen_paths[name], map_paths, maps)
+        except Fault as fault:
+            scenarios.lost[name] = fault
+    if not scenarios.found:
+        raise next(iter(scenarios.lost.values()))
+    return scenarios
 
 
 def _scenario(name: str, path: str, map_paths: Dict[str, str], maps: str) -> Scenario:
@@ -36,8 +62,16 @@ def _scenario(name: str, path: str, map_paths: Dict[str, str], maps: str) -> Sce
     return Scenario(name, path, map_name, map_paths[map_name], len(rows))
 
 
+def refuse_missing(path: str, suffix: str) -> None:
+    """Refuses what isn't there: a file, where the path ends so, or else a folder."""
+    if not os.path.exists(path):
+        text, wanted = ("no such file", "a file") if path.endswith(suffix) else ("no such folder", "a folder")
+        raise FileFault(None, text, path, "nothing there", wanted)
+
+
 def _files(named: Sequence[str], suffix: str) -> Iterator[str]:
     for path in named:
+        refuse_missing(path, suffix)
         if not os.path.isdir(path):
             yield path
             continue

@@ -92,15 +92,38 @@ class TwoMaps(Folder):
             f"mapf: {self.csv}: 1 of 6 rows failed or were refused; --resume runs them again"]))
         self.assertEqual(self.sorted()[1], ["narrow.map", "narrow.scen", "2", "refused", "", ""])
 
-    def test_scenarios_that_do_not_fit(self):
-        cases = (("scens/lost.scen", scen_of(3, 1, (0, 0, 2, 0), name="lost.map"), "lost.map"), ("scens/empty.scen", "version 1\n", "no row"),
-                 ("scens/again/ring.scen", RING[1], "two scenarios of one name"))
-        for name, contents, text in cases:
-            path = written(self.folder, name, contents)
-            status, out, err = command(*self.asked())
-            os.remove(path)
-            self.assertEqual((status, out), (3, ""))
-            self.assertIn(text, err)
+    def test_scenarios_that_do_not_fit_are_left_out(self):
+        lost = scen_of(3, 1, (0, 0, 2, 0), name="lost.map")
+        paths = [written(self.folder, f"scens/{name}.scen", lost) for name in ("a-lost", "b-lost")]
+        empty = written(self.folder, "scens/empty.scen", "version 1\n")
+        maps = os.path.join(self.folder, "maps")
+        said = [f"mapf: {paths[0]}: no map for a scenario: found the name `lost.map` in line 2, wanted the name of a map in {maps}; "
+                "2 scenarios left out",
+                f"mapf: {empty}: no scenario: found no row in line 2, wanted a row of nine fields; 1 scenario left out"]
+        status, out, err = command(*self.asked("--list"))
+        self.assertEqual((status, len(out.splitlines()), err.splitlines()), (1, 6, said))
+        for more in ((), ("--resume",)):
+            status, out, err = command(*self.asked(*more))
+            self.assertEqual((status, out, err.splitlines()), (1, "", said))
+            self.assertEqual(self.sorted(), self.ROWS)
+        status, _, err = command(*self.asked("--scens", *paths, "--csv", self.csv + ".new"))
+        self.assertEqual((status, err), (3, said[0].split(";")[0] + "\n"))
+        self.assertFalse(os.path.exists(self.csv + ".new"))
+
+    def test_two_scenarios_of_one_name(self):
+        written(self.folder, "scens/again/ring.scen", RING[1])
+        status, out, err = command(*self.asked())
+        self.assertEqual((status, out, os.path.exists(self.csv)), (3, "", False))
+        self.assertIn("two scenarios of one name", err)
+
+    def test_what_is_not_there_is_named(self):
+        for option, name, kind in (
+                ("--maps", "mops", "folder"), ("--maps", "maps/no.map", "file"), ("--scens", "skens", "folder"),
+                ("--scens", "scens/no.scen", "file"), ("--csv", "results/rows.csv", "folder")):
+            path = os.path.join(self.folder, name)
+            named = os.path.dirname(path) if option == "--csv" else path
+            said = f"mapf: {named}: no such {kind}: found nothing there, wanted a {kind}\n"
+            self.assertEqual(command(*self.asked(option, path)), (5, "", said))
             self.assertFalse(os.path.exists(self.csv))
 
 

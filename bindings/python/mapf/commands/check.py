@@ -59,7 +59,7 @@ def run(asked: argparse.Namespace) -> int:
         asked.parser.error("give --map and --scen, --maps and --scens, or --instances")
     if asked.jobs < 1:
         asked.parser.error("--jobs is 1 at least")
-    asked.found = {one.name: one for one in scenarios_in(asked.maps, asked.scens)} if asked.maps else None
+    asked.found = scenarios_in(asked.maps, asked.scens) if asked.maps else None
     plans, backend = list(plans_of(asked)), chosen()
     write, bad = writer(asked.out, sys.stdout), 0
     with ThreadPoolExecutor(asked.jobs) as threads:
@@ -105,9 +105,7 @@ def job_of(asked: argparse.Namespace, path: str) -> Job:
     if not name:
         raise PlanFault(None, "no plan by its name", path, os.path.basename(path), "SCENARIO-AGENTS and a suffix")
     if asked.maps:
-        scenario = asked.found.get(name.group(1) + ".scen")
-        if not scenario:
-            raise PlanFault(None, "no scenario for a plan", path, name.group(1), "the name of a scenario of --scens")
+        scenario = asked.found.of_plan(name.group(1) + ".scen", path)
         return Job(path, scenario.map_path, scenario.path, int(name.group(2)) if asked.agents is None else asked.agents)
     scen = os.path.join(asked.instances, name.group(1) + ".scen")
     rows = rows_of(read_input("scenario", scen).contents)

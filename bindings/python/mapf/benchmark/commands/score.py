@@ -45,7 +45,7 @@ def run(asked: argparse.Namespace) -> int:
     """Prints the rows."""
     if asked.jobs < 1:
         asked.parser.error("--jobs is 1 at least")
-    scenarios = {scenario.name: scenario for scenario in scenarios_in(asked.maps, asked.scens)}
+    scenarios = scenarios_in(asked.maps, asked.scens).found
     bounds = bounds_of(asked.bounds, "no_following" if asked.no_following else "following")
     planners = planners_in(asked.plans, suffixes_of(asked.source, asked.suffix))
 

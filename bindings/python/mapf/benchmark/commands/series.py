@@ -12,11 +12,13 @@ from ...scenarios import scenarios_in
 from ..plots import write_plot
 from ..series.limits import Limits
 from ..series.listing import one_a_row, one_a_scenario
+from ..series.progress import Progress
 from ..series.protocol import Agents, run_series
 from ..series.rates import rates
 from ..series.rows import AGAIN, Row, joined, read_series
 from ..series.runner import Runner
 from ..series.table import Table, write_series
+from . import tell_lost
 
 ABOUT = """Adds agents to each scenario until the first instance that isn't solved in time, and writes a CSV row for each run.
 Ctrl-C leaves whole rows, and --resume goes on behind them."""
@@ -93,27 +95,28 @@ def _runs(asked: argparse.Namespace, path: str) -> int:
     if asked.last is not None and asked.last < asked.first:
         asked.parser.error(f"--to {asked.last} is below --from {asked.first}")
     scenarios = scenarios_in(asked.maps, asked.scens)
+    found = list(scenarios.found.values())
     agents = Agents(asked.first, asked.step, asked.last)
     limits = Limits(*(getattr(asked, name) for name in Limits._fields))
     if asked.list:
-        print("\n".join(LISTINGS[asked.list](scenarios, agents, limits, path)))
-        return 0
+        print("\n".join(LISTINGS[asked.list](found, agents, limits, path)), flush=True)
+        return tell_lost(scenarios)
     runner = Runner(limits)
-    again = {(one.map_name, one.name, count) for one in scenarios for count in agents.of(one)} if asked.resume else None
+    again = {(one.map_name, one.name, count) for one in found for count in agents.of(one)} if asked.resume else None
     table = Table(path, runner.columns(), again)
     signal.signal(signal.SIGTERM, _interrupt)
-    line = ProgressLine(len(scenarios), table)
+    progress = Progress(len(found), table.rows)
     try:
-        run_series(scenarios, agents, runner, table, asked.jobs, line.tell)
+        run_series(found, agents, runner, table, asked.jobs, progress)
     except KeyboardInterrupt:
-        line.end()
+        progress.end()
         whole = f"{path} has {len(table.rows)} whole rows, and --resume goes on behind them"
         print(f"mapf: stopped; {whole}", file=sys.stderr)
         return 130
     finally:
+        progress.end()
         table.close()
-    line.end()
-    return _status(path, table.rows)
+    return tell_lost(scenarios) | _status(path, table.rows)
 
 
 def _status(path: str, rows: Sequence[Row]) -> int:
@@ -123,32 +126,6 @@ def _status(path: str, rows: Sequence[Row]) -> int:
         said = f"{again} of {len(rows)} rows failed or were refused; --resume runs them again"
         print(f"mapf: {path}: {said}", file=sys.stderr)
     return 1 if again else 0
-
-
-class ProgressLine:
-    """A line on a terminal that says how far a series is; elsewhere nothing but what the program refused."""
-
-    def __init__(self, scenarios: int, table: Table) -> None:
-        self._scenarios = scenarios
-        self._table = table
-        self._shown = sys.stderr.isatty()
-
-    def tell(self, row: Row, said: str, done: int) -> None:
-        """Says that a row was added."""
-        if said:
-            print(f"{self._clear()}mapf: {row.scenario}, {row.agents} agents: {said}", file=sys.stderr)
-        if self._shown:
-            last = f"{row.scenario}, {row.agents} agents: {row.status}"
-            sys.stderr.write(f"{self._clear()}{done} of {self._scenarios} scenarios, {len(self._table.rows)} rows; {last}")
-            sys.stderr.flush()
-
-    def end(self) -> None:
-        """Takes the line away."""
-        sys.stderr.write(self._clear())
-        sys.stderr.flush()
-
-    def _clear(self) -> str:
-        return "\r\x1b[K" if self._shown else ""
 
 
 def _interrupt(*_: Any) -> None:

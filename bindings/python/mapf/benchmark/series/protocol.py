@@ -2,10 +2,10 @@
 from __future__ import annotations
 
 from concurrent.futures import FIRST_EXCEPTION, ThreadPoolExecutor, wait
-from typing import Callable, Iterator, NamedTuple, Optional, Sequence
+from typing import Iterable, Iterator, NamedTuple, Optional
 
 from ...scenarios import Scenario
-from .rows import Row
+from .progress import Progress
 from .runner import Runner
 from .table import Table
 
@@ -24,28 +24,26 @@ class Agents(NamedTuple):
 
 
 def run_series(
-    scenarios: Sequence[Scenario], agents: Agents, runner: Runner, table: Table, jobs: int, tell: Callable[[Row, str, int], None]
+    scenarios: Iterable[Scenario], agents: Agents, runner: Runner, table: Table, jobs: int, progress: Progress
 ) -> None:
-    """Runs all scenarios, some at a time, and adds the rows that the table doesn't have.
-
-    `tell` hears of each new row: what the program said of a refusal, and how many scenarios are done.
-    """
+    """Runs all scenarios, some at a time, and adds the rows that the table doesn't have."""
     known = {row.key: row for row in table.rows}
-    done = []
 
     def one(scenario: Scenario) -> None:
         for number in agents.of(scenario):
             row = known.get((scenario.map_name, scenario.name, number))
             if row is None:
+                run = f"{scenario.name}, {number} agents"
+                progress.begins(run)
                 ran = runner.run(scenario, number)
                 if ran is None:
                     return
                 row, said = ran
                 table.add(row)
-                tell(row, said, len(done))
+                progress.ends(run, row, said)
             if row.status != "solved":
                 break
-        done.append(scenario)
+        progress.scenario_done()
 
     with ThreadPoolExecutor(jobs) as threads:
         futures = [threads.submit(one, scenario) for scenario in scenarios]

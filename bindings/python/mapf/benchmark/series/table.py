@@ -9,6 +9,7 @@ import threading
 from typing import BinaryIO, Container, List, Optional, Sequence
 
 from ...faults import Fault
+from ...scenarios import refuse_missing
 from .rows import AGAIN, Asked, Key, Row, contents_of, head_of, refuse_devices, same_ask, series_of, text_of
 
 
@@ -54,6 +55,7 @@ def write_series(path: str, asked: Asked, rows: Sequence[Row]) -> None:
 def _locked(path: str, mode: str) -> BinaryIO:
     """The file, which no other process writes to as long as this one has it open."""
     refuse_devices(path)
+    refuse_missing(os.path.dirname(path) or os.curdir, os.sep)
     try:
         file = open(path, mode, buffering=0)
     except FileExistsError:
