@@ -3,6 +3,7 @@ from __future__ import annotations
 
 import os
 import shlex
+import sys
 from typing import Iterator, Sequence
 
 from ...program import program_path
@@ -33,7 +34,7 @@ def one_a_scenario(scenarios: Sequence[Scenario], agents: Agents, limits: Limits
 
 
 def _command(scenario: Scenario, agents: Agents, limits: Limits, parts: str, part: str) -> str:
-    words = ["env", f"PYTHONPATH={PACKAGE}", f"MAPF_PROGRAM={os.path.abspath(program_path())}", "python3", "-m", "mapf", "series"]
+    words = ["env", f"PYTHONPATH={PACKAGE}", f"MAPF_PROGRAM={os.path.abspath(program_path())}", sys.executable, "-m", "mapf", "series"]
     words += ["--maps", os.path.abspath(scenario.map_path), "--scens", os.path.abspath(scenario.path)]
     words += ["--from", str(agents.first), "--step", str(agents.step), *option("--to", agents.last)]
     words += ["--seconds", seconds_text(limits.seconds), *option("--memory", limits.memory), *limits.options(0).limits()]
