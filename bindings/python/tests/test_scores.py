@@ -6,51 +6,12 @@ import os
 import tempfile
 import unittest
 
-from series_support import HEAD
-from support import BAY, CROSSING, EXAMPLES, backends, command, with_program, written
-
-OPTIMUM = "plan 2 4\n1,0 1,1 1,0\n0,0 1,0 2,0\n"
-# Both agents wait first: 6 in place of 4.
-LATE = "plan 2 6\n1,0 1,0 1,1 1,0\n0,0 0,0 1,0 2,0\n"
-CLASH = "plan 2 4\n1,0 1,1 1,2\n0,1 1,1 2,1\n"
-AROUND = "plan 2 5\n1,0 1,1 1,2\n0,1 0,1 1,1 2,1\n"
-BOUNDS = [("bay.map", "bay.scen", 2, "solved", 4, ""), ("crossing.map", "crossing.scen", 2, "gave_up", "", 4)]
+from scores_support import AROUND, BOUNDS, CLASH, LATE, OPTIMUM, WithPlanners
+from support import EXAMPLES, backends, command, with_program, written
 
 
 @unittest.skipUnless(backends(), "neither library nor program is built")
-class Scores(unittest.TestCase):
-    def setUp(self):
-        folder = tempfile.TemporaryDirectory()
-        self.addCleanup(folder.cleanup)
-        self.folder = folder.name
-        for name, (grid, scen) in (("bay", BAY), ("crossing", CROSSING)):
-            written(self.folder, f"maps/{name}.map", grid)
-            written(self.folder, f"scens/more/{name}.scen", scen.replace(b"map.map", b"some/%s.map" % name.encode()))
-        self.bounds(BOUNDS)
-
-    def bounds(self, rows, rule="following"):
-        lines = [f"9,99,,,{rule},yes,1.0.0," + ",".join(map(str, row)) + ",,0.1\n" for row in rows]
-        written(self.folder, "rows.csv", HEAD + "\n" + "".join(lines))
-
-    def plans(self, **planners):
-        """A folder for each planner; a plan is called as its scenario and agents, `_` for `-`."""
-        for planner, texts in planners.items():
-            for name, text in texts.items():
-                written(self.folder, f"plans/{planner}/{name.replace('_', '-')}.plan", text)
-
-    def score(self, *more):
-        maps, scens, plans = (os.path.join(self.folder, name) for name in ("maps", "scens", "plans"))
-        bounds = os.path.join(self.folder, "rows.csv")
-        return command("score", "--maps", maps, "--scens", scens, "--plans", plans, "--bounds", bounds, *more)
-
-    def rows(self, *more):
-        """The status, the rows of instances by planner and scenario, and those of planners."""
-        status, out, err = self.score("--json", *more)
-        self.assertEqual(err, "")
-        rows = [json.loads(line) for line in out.splitlines()]
-        instances = {(row["planner"], row["scenario"]): row for row in rows if row["scenario"]}
-        return status, instances, [row for row in rows if not row["scenario"]]
-
+class Scores(WithPlanners):
     def test_planners_by_a_series(self):
         self.plans(
             best={"bay_2": OPTIMUM, "crossing_2": AROUND}, late={"bay_2": LATE, "crossing_2": CLASH},
@@ -121,34 +82,36 @@ class Scores(unittest.TestCase):
         lines = {key[0]: row["verdict"] for key, row in rows.items() if key[1] == "bay.scen"}
         self.assertEqual((status, lines), (0, {"of-eecbs": "valid 4", "of-moves": "valid 4", "plans": "valid 4"}))
 
-    def test_csv_and_tables(self):
-        self.plans(best={"bay_2": OPTIMUM}, late={"bay_2": LATE})
-        status, out, _ = self.score("--csv")
-        rows = list(csv.DictReader(io.StringIO(out)))
-        planners = ["best", "best", "late", "late", "best", "late"]
-        self.assertEqual((status, [row["planner"] for row in rows]), (0, planners))
-        self.assertEqual([row["mean_ratio"] for row in rows], ["", "", "", "", "1.0", "1.5"])
-        status, out, _ = self.score()
-        self.assertIn("| late | bay.map | bay.scen | 2 | valid 6 | 6 | 6 | 4 |  | 1.5 | 0 |\n", out)
-        self.assertTrue(out.endswith("| late | 2 | 1 | 1 | 1.5 | 1.5 | 0 |\n"))
+    def test_a_valid_plan_refutes_the_bound_of_another_planner(self):
+        cases = (("none 4\n", 5, 1), ("none 3\n", 4, 0), ("gave up 7 5\n", 5, 1), ("gave up 7 4\n", 4, 0))
+        for rows in ([], BOUNDS):
+            self.bounds(rows)
+            for text, bound, wrong in cases:
+                with self.subTest(text, rows=rows):
+                    self.plans(good={"bay_2": OPTIMUM}, late={"bay_2": LATE}, proud={"bay_2": text})
+                    status, scores, totals = self.rows()
+                    row = scores["proud", "bay.scen"]
+                    self.assertEqual((status, row["stated_bound"], row["wrong_claim"]), (wrong, bound, wrong))
+                    self.assertEqual(row["message"], "a valid plan of good costs 4" if wrong else None)
+                    self.assertEqual([total["wrong_claims"] for total in totals], [0, 0, wrong])
 
-    def test_files_that_do_not_fit(self):
-        cases = (
-            ("one/bay.plan", OPTIMUM, "no plan by its name"), ("one/lost-2.plan", OPTIMUM, "no scenario for a plan"),
-            ("one/again/bay-2.plan", OPTIMUM, "two plans of one instance"),
-            ("../rows.csv", "mine\n", "no head at line 1"))
-        for name, text, said in cases:
-            with self.subTest(name):
-                self.plans(one={"bay_2": OPTIMUM})
-                path = written(self.folder, os.path.join("plans", name), text)
-                status, out, err = self.score()
-                os.remove(path)
-                self.assertEqual((status, out), (3, ""))
-                self.assertIn(said, err)
-        os.remove(os.path.join(self.folder, "plans/one/bay-2.plan"))
-        self.bounds(BOUNDS)
-        status, _, err = self.score()
-        self.assertEqual((status, "no plans" in err), (3, True))
+    def test_plans_with_faults_refute_nothing(self):
+        self.bounds([])
+        self.plans(bad={"crossing_2": CLASH}, sure={"crossing_2": "none 4\n"})
+        _, rows, _ = self.rows()
+        self.assertEqual([rows[name, "crossing.scen"]["wrong_claim"] for name in ("bad", "sure")], [1, 0])
+
+    def test_means_over_what_all_planners_solved(self):
+        # Ratios of bay and crossing: 1 and 1.25; 1.5 and none; 1.5 and 1.25.
+        self.plans(a={"bay_2": OPTIMUM, "crossing_2": AROUND}, b={"bay_2": LATE, "crossing_2": CLASH},
+                   c={"bay_2": LATE, "crossing_2": AROUND})
+        _, _, totals = self.rows()
+        names = "mean_ratio", "common", "common_mean_ratio"
+        said = [tuple(total[name] for name in names) for total in totals]
+        self.assertEqual(said, [(1.125, 1, 1.0), (1.5, 1, 1.5), (1.375, 1, 1.5)])
+        self.plans(d={"bay_2": "none 3\n"})
+        _, _, totals = self.rows()
+        self.assertEqual({(total["common"], total["common_mean_ratio"]) for total in totals}, {(0, None)})
 
     def test_check_finds_scenarios_as_series_does(self):
         self.plans(best={"bay_2": OPTIMUM, "crossing_2": CLASH, "lost_2": OPTIMUM})
@@ -173,8 +136,8 @@ class Examples(unittest.TestCase):
             plans = os.path.join(EXAMPLES, "plans")
             status, out, _ = command("score", *files, "--plans", plans, "--bounds", rows)
             self.assertEqual(status, 1)
-            self.assertIn("\n| moves | 4 | 2 | 2 | 1.0 | 1.0 | 0 |\n", out)
-            self.assertIn("\n| plans | 4 | 4 | 2 | 1.0 | 1.0 | 2 |\n", out)
+            self.assertIn("\n| moves | 4 | 2 | 2 | 1.0 | 1.0 | 0 | 0 | 1 | 1.0 |\n", out)
+            self.assertIn("\n| plans | 4 | 4 | 2 | 1.0 | 1.0 | 2 | 0 | 1 | 1.0 |\n", out)
             with open(rows, newline="") as file:
                 known = {(row["map"], row["scenario"], row["agents"]): row["cost"] for row in csv.DictReader(file)}
             _, out, _ = command("check", "--out", "csv", *files, plans)

@@ -5,23 +5,26 @@ import argparse
 import os
 import sys
 from concurrent.futures import ThreadPoolExecutor
-from itertools import chain
-from typing import Any, Dict, Iterator, List, Optional, Sequence
+from typing import Any, Dict, List, Optional, Sequence, TextIO, Tuple
 
 from ... import calls
 from ...commands.check import Job, text_of
 from ...commands.report import writer
+from ...commands.status import status_of
 from ...converters import FORMATS
-from ...faults import Fault, PlanFault
-from ...scenarios import Scenario, scenarios_in
+from ...faults import Fault
+from ...scenarios import Scenario, Scenarios, refuse_missing, scenarios_in
 from ..scores.bounds import Bound, bounds_of
 from ..scores.plans import PlanFile, Planners, planners_in, suffixes_of
-from ..scores.score import Score, Total, judged, missing, total
+from ..scores.score import Score, judged, missing, with_refuted
+from ..scores.total import Total, totals
 from ..series.rows import Key
+from . import tell_lost
 
 ABOUT = """Judges the plans of planners, each in a folder of its own, and divides their costs by the optima, or else the
-lower bounds, of a series: a row for each planner and instance, and at the end one for each planner. The status is 1
-where a claim is wrong, a file was refused, or a plan is cheaper than the series' bound; else 0."""
+lower bounds, of a series: a row for each planner and instance, and in a second table one for each planner. The status
+is 1 where a claim is wrong, a file is stray or refused, or a plan is cheaper than the series' bound; else 0."""
+Tables = Sequence[Tuple[Sequence[str], Sequence[Any]]]
 
 
 def add(commands: Any) -> None:
@@ -35,9 +38,12 @@ def add(commands: Any) -> None:
     parser.add_argument("--from", dest="source", choices=FORMATS, default="plan", help="the format of those (plan)")
     parser.add_argument("--no-following", action="store_true", help="judge by the rule of a series with --no-following")
     parser.add_argument("--jobs", type=int, default=os.cpu_count() or 1, metavar="N", help="so many at a time")
+    parser.add_argument("--summary", action="store_true", help="the table of planners alone")
     out = parser.add_mutually_exclusive_group()
-    out.add_argument("--csv", dest="out", action="store_const", const="csv", help="print CSV")
-    out.add_argument("--json", dest="out", action="store_const", const="json", help="print JSON lines")
+    out.add_argument(
+        "--csv", nargs="*", metavar="FILE",
+        help="print CSV, an empty line between the tables; or write it into these new files, one of each table")
+    out.add_argument("--json", action="store_true", help="print JSON lines")
     parser.set_defaults(run=run, parser=parser)
 
 
@@ -45,34 +51,41 @@ def run(asked: argparse.Namespace) -> int:
     """Prints the rows."""
     if asked.jobs < 1:
         asked.parser.error("--jobs is 1 at least")
-    scenarios = scenarios_in(asked.maps, asked.scens).found
+    _refuse_files(asked)
+    scenarios = scenarios_in(asked.maps, asked.scens)
     bounds = bounds_of(asked.bounds, "no_following" if asked.no_following else "following")
-    planners = planners_in(asked.plans, suffixes_of(asked.source, asked.suffix))
+    planners, strays = planners_in(asked.plans, suffixes_of(asked.source, asked.suffix), scenarios)
 
     def judge(task: Score) -> Score:
-        plan = planners[task.planner].get((task.scenario, task.agents))
-        return _score(plan, scenarios[task.scenario], asked.no_following, task)
+        plan = planners[task.planner].get(task.key)
+        return _score(plan, scenarios.found[task.scenario], asked.no_following, task)
 
     with ThreadPoolExecutor(asked.jobs) as threads:
-        scores = list(threads.map(judge, _tasks(planners, scenarios, bounds)))
-    totals = [total(planner, [score for score in scores if score.planner == planner]) for planner in sorted(planners)]
-    _write(asked.out, scores, totals)
-    return 1 if any(score.wrong_claim or score.message for score in scores) else 0
+        scores = with_refuted(list(threads.map(judge, _tasks(planners, scenarios, bounds))))
+    scores += [_refused(Score(stray.planner, plan=stray.path), stray.fault) for stray in strays]
+    tables = (Score._fields, scores), (Total._fields, list(totals(sorted(planners), scores)))
+    _write(asked, tables[asked.summary:])
+    if asked.summary or not (asked.json or asked.csv is not None):
+        _tell(scores)
+    return tell_lost(scenarios) | any(score.wrong_claim or score.message for score in scores)
 
 
-def _tasks(planners: Planners, scenarios: Dict[str, Scenario], bounds: Dict[Key, Bound]) -> List[Score]:
+def _refuse_files(asked: argparse.Namespace) -> None:
+    """Refuses too few or too many files to write, those that are there, and folders that aren't."""
+    count = 1 if asked.summary else 2
+    if len(asked.csv or ()) not in (0, count):
+        asked.parser.error(f"--csv has no FILE or {count}")
+    for path in asked.csv or ():
+        if os.path.lexists(path):
+            raise Fault(None, "the file is there already", path, "a file", "a new name")
+        refuse_missing(os.path.dirname(path) or os.curdir, os.sep)
+
+
+def _tasks(planners: Planners, scenarios: Scenarios, bounds: Dict[Key, Bound]) -> List[Score]:
     """For each planner each instance that the series or a planner has, without a verdict."""
-    keys = {key for key in bounds if key[1] in scenarios and scenarios[key[1]].map_name == key[0]}
-    keys.update(_keys(planners, scenarios))
+    known = {(one.map_name, one.name) for one in scenarios.found.values()}
+    keys = {key for key in bounds if key[:2] in known}.union(*planners.values())
     return [missing(planner, key, bounds.get(key, Bound())) for planner in sorted(planners) for key in sorted(keys)]
-
-
-def _keys(planners: Planners, scenarios: Dict[str, Scenario]) -> Iterator[Key]:
-    """The instances of all plans."""
-    for (name, agents), plan in chain.from_iterable(plans.items() for plans in planners.values()):
-        if name not in scenarios:
-            raise PlanFault(None, "no scenario for a plan", plan.path, name, "the name of a scenario of --scens")
-        yield scenarios[name].map_name, name, agents
 
 
 def _score(plan: Optional[PlanFile], scenario: Scenario, no_following: bool, task: Score) -> Score:
@@ -84,19 +97,44 @@ def _score(plan: Optional[PlanFile], scenario: Scenario, no_following: bool, tas
         text, given = text_of(plan.source, Job(plan.path, scenario.map_path, scenario.path, task.agents))
         verdict = calls.check(scenario.map_path, scenario.path, given, task.agents, no_following)
     except Fault as fault:
-        return task._replace(verdict=fault.text, message=str(fault))
+        return _refused(task, fault)
     return judged(task, text, verdict)
 
 
-def _write(kind: Any, scores: Sequence[Score], totals: Sequence[Total]) -> None:
-    if kind:
-        columns = tuple(dict.fromkeys((*Score._fields, *Total._fields)))
-        write = writer(kind, sys.stdout, columns)
-        for row in (*scores, *totals):
-            write(_shown(row))
-    else:
-        print("\n".join([*_table(Score._fields[:4] + Score._fields[5:-1], scores), "", *_table(Total._fields, totals)]))
+def _refused(score: Score, fault: Fault) -> Score:
+    """The score of a file that was refused."""
+    return score._replace(status=status_of(fault), verdict=fault.text, message=str(fault))
+
+
+def _tell(scores: Sequence[Score]) -> None:
+    """Says the messages, which the table of planners and tables for readers don't have."""
+    for score in scores:
+        if score.message:
+            place = "" if score.plan and score.message.startswith(score.plan) else f"{score.plan}: "
+            print(f"mapf: {place}{score.message}", file=sys.stderr)
+
+
+def _write(asked: argparse.Namespace, tables: Tables) -> None:
+    """Writes these tables."""
+    if asked.csv:
+        for path, table in zip(asked.csv, tables):
+            with open(path, "x", newline="", encoding="utf-8", errors="surrogateescape") as file:
+                _rows("csv", file, *table)
+        return
+    for number, (columns, rows) in enumerate(tables):
+        if number and not asked.json:
+            print()
+        if asked.json or asked.csv is not None:
+            _rows("json" if asked.json else "csv", sys.stdout, columns, rows)
+        else:
+            print("\n".join(_table([name for name in columns if name not in ("plan", "message")], rows)))
     sys.stdout.flush()
+
+
+def _rows(kind: str, out: TextIO, columns: Sequence[str], rows: Sequence[Any]) -> None:
+    write = writer(kind, out, columns)
+    for row in rows:
+        write(_shown(row))
 
 
 def _shown(row: Any) -> Dict[str, Any]:
