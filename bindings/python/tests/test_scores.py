@@ -7,7 +7,7 @@ import tempfile
 import unittest
 
 from scores_support import AROUND, BOUNDS, CLASH, LATE, OPTIMUM, WithPlanners
-from support import EXAMPLES, backends, command, with_program, written
+from support import BAY, EXAMPLES, backends, command, with_program, written
 
 
 @unittest.skipUnless(backends(), "neither library nor program is built")
@@ -114,7 +114,8 @@ class Scores(WithPlanners):
         self.assertEqual({(total["common"], total["common_mean_ratio"]) for total in totals}, {(0, None)})
 
     def test_check_finds_scenarios_as_series_does(self):
-        self.plans(best={"bay_2": OPTIMUM, "crossing_2": CLASH, "lost_2": OPTIMUM})
+        self.plans(best={"bay_2": OPTIMUM, "crossing_2": CLASH, "lost_2": OPTIMUM, "off_2": OPTIMUM})
+        written(self.folder, "scens/off.scen", BAY[1].replace(b"map.map", b"off.map"))
         words = ("--maps", os.path.join(self.folder, "maps"), "--scens", os.path.join(self.folder, "scens"))
         status, out, _ = command("check", *words, os.path.join(self.folder, "plans"))
         rows = [json.loads(line) for line in out.splitlines()]
@@ -122,7 +123,7 @@ class Scores(WithPlanners):
         self.assertEqual((status, said), (1, [
             ("bay.map", "bay.scen", 2, "valid 4"),
             ("crossing.map", "crossing.scen", 2, "66 vertex conflict agents 0 1 cell 1,1 time 1"),
-            ("", "", None, "no scenario for a plan")]))
+            ("", "", None, "no scenario for a plan"), ("", "", None, "no map for a scenario")]))
         status, _, err = command("check", *words[:2], os.path.join(self.folder, "plans"))
         self.assertEqual((status, "give --map and --scen" in err), (2, True))
 

@@ -64,10 +64,11 @@ def run(asked: argparse.Namespace) -> int:
         scores = with_refuted(list(threads.map(judge, _tasks(planners, scenarios, bounds))))
     scores += [_refused(Score(stray.planner, plan=stray.path), stray.fault) for stray in strays]
     tables = (Score._fields, scores), (Total._fields, list(totals(sorted(planners), scores)))
-    _write(asked, tables[asked.summary:])
+    _write(asked, tables[1:] if asked.summary else tables)
     if asked.summary or not (asked.json or asked.csv is not None):
         _tell(scores)
-    return tell_lost(scenarios) | any(score.wrong_claim or score.message for score in scores)
+    wrong = any(score.wrong_claim or score.message for score in scores)
+    return max(tell_lost(scenarios), 1 if wrong else 0)
 
 
 def _refuse_files(asked: argparse.Namespace) -> None:

@@ -116,7 +116,7 @@ def _runs(asked: argparse.Namespace, path: str) -> int:
     finally:
         progress.end()
         table.close()
-    return tell_lost(scenarios) | _status(path, table.rows)
+    return max(tell_lost(scenarios), _status(path, table.rows))
 
 
 def _status(path: str, rows: Sequence[Row]) -> int:
