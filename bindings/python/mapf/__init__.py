@@ -9,6 +9,7 @@ True
 
 What the program answers is proved, by its contracts; this package and its converters are tested only.
 """
+from .arrays import Instance
 from .calls import check, read_plan, solve, version
 from .faults import (
     ArgumentFault,
@@ -36,6 +37,7 @@ __all__ = [
     "Fault",
     "FileFault",
     "GaveUp",
+    "Instance",
     "InstanceFault",
     "MapFault",
     "NoPlan",

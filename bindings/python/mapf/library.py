@@ -58,7 +58,7 @@ class Library:
     ) -> Ended:
         """How the search ended, as by a `Program`: in a Python of its own, since nothing stops a call here."""
         self._solver(options)
-        words = [sys.executable, "-S", "-E", "-c", CHILD, os.path.dirname(HERE), self.path, json.dumps(options)]
+        words = [*options.around(), sys.executable, "-S", "-E", "-c", CHILD, os.path.dirname(HERE), self.path, json.dumps(options)]
         telling = seconds is not None or progress is not None
         return run_on([*words, "telling" if telling else ""], [map_file, scen_file], seconds, progress)
 

@@ -43,7 +43,8 @@ class Program:
     ) -> Ended:
         """How the run ended: with the answer's text, or the refusal's line without `mapf: `, as `out`."""
         telling = [] if seconds is None and progress is None else ["--progress"]
-        return run_on([self.path, "solve", *options.words(), *telling], [map_file, scen_file], seconds, progress)
+        words = [*options.around(), self.path, "solve", *options.words(), *telling]
+        return run_on(words, [map_file, scen_file], seconds, progress)
 
     def check(
         self, map_file: Input, scen_file: Input, plan: Input, agents: int, no_following: bool

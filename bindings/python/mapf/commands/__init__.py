@@ -36,8 +36,8 @@ def main(words: Optional[List[str]] = None) -> int:
         return 5
     except OSError as error:
         return _ends(str(error), 5)
-    except KeyboardInterrupt:
-        return 130
+    except KeyboardInterrupt as stopped:
+        return _ends(str(stopped), 130) if stopped.args else 130
 
 
 def _ends(message: str, status: int) -> int:

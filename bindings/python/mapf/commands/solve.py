@@ -33,6 +33,7 @@ def add(commands: Any) -> None:
     parser.add_argument(
         "--any-optimum", action="store_true", help="of several plans that cost least any will do, by another search")
     parser.add_argument("--seconds", type=float, metavar="S", help="a limit on time")
+    parser.add_argument("--memory", type=int, metavar="MB", help="a limit on address space, 16 at least")
     parser.add_argument("--progress", action="store_true", help="say how far the search is")
     parser.add_argument("--json", action="store_true", help="print a JSON object")
     parser.set_defaults(run=run)
@@ -45,7 +46,7 @@ def run(asked: argparse.Namespace) -> int:
         asked.agents = most_agents(read_input("scenario", asked.scen).contents)
     answer = calls.solve(
         asked.map, asked.scen, asked.agents, asked.bound, asked.nodes, asked.no_following, asked.workers, asked.seconds,
-        _tell if asked.progress else None, asked.any_optimum)
+        _tell if asked.progress else _hear, asked.any_optimum, asked.memory)
     seconds = time.monotonic() - begin
     sys.stdout.write(json.dumps(object_of(asked, answer, seconds)) + "\n" if asked.json else answer.text())
     sys.stdout.flush()
@@ -60,6 +61,10 @@ def object_of(asked: argparse.Namespace, answer: Answer, seconds: float) -> dict
         "map": asked.map, "scenario": asked.scen, "agents": asked.agents, "status": STATUSES[type(answer)][0],
         "cost": plan and plan.cost, "lower_bound": bound, "nodes": getattr(answer, "nodes", None),
         "seconds": round(seconds, 3), "paths": plan and plan.paths}
+
+
+def _hear(nodes: int, lower_bound: int) -> None:
+    """Says nothing; what was told last is said after Ctrl-C."""
 
 
 def _tell(nodes: int, lower_bound: int) -> None:
