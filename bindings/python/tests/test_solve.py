@@ -106,10 +106,10 @@ class Limits(unittest.TestCase):
             with self.assertRaises(mapf.OutOfMemory) as refused:
                 solve_by(backend, *ENDLESS, 2, 1000000, None, False, memory=24)
             self.assertEqual((refused.exception.number, refused.exception.text), (43, "43 no memory"))
-        for memory in (0, 15, -1, 10**9 + 1, "64", 64.5):
+        for memory in (0, 15, -1, 2**30 + 1, "64", 64.5):
             with self.assertRaises(mapf.ArgumentFault) as refused:
                 mapf.solve(*BAY, 2, memory=memory)
-            found = f"no memory: found {memory!r}, wanted a whole number of MB, 16 to 1,000,000,000"
+            found = f"no memory: found {memory!r}, wanted a whole number of MB, 16 to 1,073,741,824"
             self.assertEqual(str(refused.exception), found)
 
     def test_options_become_words(self):
@@ -183,7 +183,7 @@ class Command(unittest.TestCase):
         cases = ((("--workers", 65), 3, "mapf: 42 workers: found 65, wanted 1 to 64\n"),
                  (("--bound", -5), 3, "mapf: 41 bound: found -5, wanted 0 to 1,000,000\n"),
                  (("--seconds", 0), 3, "mapf: no time: found 0.0, wanted a number of seconds, more than 0\n"),
-                 (("--memory", 8), 3, "mapf: no memory: found 8, wanted a whole number of MB, 16 to 1,000,000,000\n"),
+                 (("--memory", 8), 3, "mapf: no memory: found 8, wanted a whole number of MB, 16 to 1,073,741,824\n"),
                  (("--agents", 3), 3, f"mapf: {BAY_FILES[1]}: 22 too few rows: 2: found 2 rows for 3 agents, "
                   "wanted as many rows as agents\n"))
         for more, status, text in cases:

@@ -40,15 +40,16 @@ def add(commands: Any) -> None:
     parser.add_argument("--from", dest="source", choices=FORMATS, default="plan", help="the format of the plans (plan)")
     parser.add_argument("--map", help="the map of all plans")
     parser.add_argument("--scen", help="the scenario of all plans")
+    parser.add_argument("--plan", help="one plan, whose verdict is printed as the program does")
     parser.add_argument("--instances", metavar="DIR", help="the folder of maps and scenarios, where plans are called SCENARIO-AGENTS")
     parser.add_argument("--maps", metavar="DIR", help="the folder of maps, where plans are called SCENARIO-AGENTS")
     parser.add_argument("--scens", action="append", metavar="DIR", help="a folder of scenarios; may be given again")
     parser.add_argument("--agents", type=int, metavar="N", help="the number of agents (the name's, or else the plan's)")
     parser.add_argument("--no-following", action="store_true", help="no agent may enter a cell in the step in which another leaves it")
     parser.add_argument("--suffix", help="how files of a folder end that are plans (a dot and the format's name)")
-    parser.add_argument("--out", choices=("json", "csv"), default="json", help="JSON lines or CSV (json)")
+    parser.add_argument("--out", choices=("json", "csv"), help="JSON lines or CSV (json)")
     parser.add_argument("--jobs", type=int, default=os.cpu_count() or 1, metavar="N", help="so many at a time")
-    parser.add_argument("plans", nargs="+", metavar="PLAN", help="a plan, or a folder of plans")
+    parser.add_argument("files", nargs="*", metavar="PLAN", help="a plan, or a folder of plans")
     parser.set_defaults(run=run, parser=parser)
 
 
@@ -59,9 +60,13 @@ def run(asked: argparse.Namespace) -> int:
         asked.parser.error("give --map and --scen, --maps and --scens, or --instances")
     if asked.jobs < 1:
         asked.parser.error("--jobs is 1 at least")
+    if bool(asked.files) == (asked.plan is not None):
+        asked.parser.error("give PLAN, which may be some or folders, or --plan")
     asked.found = {one.name: one for one in scenarios_in(asked.maps, asked.scens)} if asked.maps else None
+    if asked.plan and not asked.out:
+        return _as_the_program(asked)
     plans, backend = list(plans_of(asked)), chosen()
-    write, bad = writer(asked.out, sys.stdout), 0
+    write, bad = writer(asked.out or "json", sys.stdout), 0
     with ThreadPoolExecutor(asked.jobs) as threads:
         for row in threads.map(lambda path: judged(backend, asked, path), plans):
             write(row)
@@ -70,9 +75,18 @@ def run(asked: argparse.Namespace) -> int:
     return 1 if bad else 0
 
 
+def _as_the_program(asked: argparse.Namespace) -> int:
+    """Prints a plan's verdict, or fails by the refusal's line."""
+    job = job_of(asked, asked.plan)
+    _, given = text_of(asked.source, job)
+    verdict = calls.check_by(chosen(), job.map, job.scenario, given, job.agents, asked.no_following)
+    print(verdict.line, flush=True)
+    return 0 if verdict.valid else 1
+
+
 def plans_of(asked: argparse.Namespace) -> Iterator[str]:
     """The files that were named, and those of the folders that were named."""
-    for named in asked.plans:
+    for named in asked.files or [asked.plan]:
         if not os.path.isdir(named):
             yield named
             continue

@@ -13,6 +13,7 @@ from ..instance import most_agents
 from ..options import MOST_BOUND
 from ..plan import GaveUp, NoPlan, OutOfTime, Plan
 from ..plan_text import Answer
+from .files import add_files
 
 STATUSES = {Plan: ("solved", 0), NoPlan: ("none", 1), GaveUp: ("gave_up", 6), OutOfTime: ("out_of_time", 6)}
 
@@ -22,8 +23,7 @@ def add(commands: Any) -> None:
     parser = commands.add_parser(
         "solve", help="find a plan that costs least",
         description="Finds a plan that costs least. The status is 1 where none costs at most the bound, 6 at a limit.")
-    parser.add_argument("map", metavar="MAP", help="the map")
-    parser.add_argument("scen", metavar="SCEN", help="the scenario")
+    add_files(parser, "map", "scen")
     parser.add_argument("--agents", type=int, metavar="N", help="the number of agents (all rows up to 1000)")
     parser.add_argument("--bound", type=int, default=MOST_BOUND, metavar="B", help="the bound on the cost (1000000)")
     parser.add_argument("--workers", type=int, default=1, metavar="W", help="so many threads (1)")
