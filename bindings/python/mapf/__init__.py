@@ -24,7 +24,7 @@ from .faults import (
     PlanFault,
     ScenarioFault,
 )
-from .plan import GaveUp, NoPlan, OutOfTime, Plan
+from .plan import GaveUp, NoPlan, OutOfTime, Plan, Unsolved
 from .plan_text import read_text
 from .verdict import Verdict
 
@@ -47,6 +47,7 @@ __all__ = [
     "Plan",
     "PlanFault",
     "ScenarioFault",
+    "Unsolved",
     "Verdict",
     "check",
     "read_plan",

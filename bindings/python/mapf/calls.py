@@ -13,7 +13,7 @@ from .backend import Backend, chosen
 from .faults import ArgumentFault, PlanFault
 from .instance import most_agents
 from .options import LEAST_MEMORY, MOST_BOUND, MOST_MEMORY, Options
-from .plan import GaveUp, NoPlan, OutOfTime, Path, Plan
+from .plan import GaveUp, NoPlan, OutOfTime, Path, Plan, Unsolved
 from .plan_text import Answer, agents_stated, read_text, shown
 from .run import Progress
 from .verdict import Verdict, read_verdict
@@ -70,13 +70,13 @@ def check(
 
 
 def read_plan(path: Given, format: str = "plan", map: Optional[Given] = None, scen: Optional[Given] = None) -> Answer:
-    """The plan of a file in one of `converters.FORMATS`, cut behind each agent's last arrival.
+    """The plan of a file in one of `converters.READ`, cut behind each agent's last arrival, or `Unsolved`.
 
-    map: positions outside of it are refused; `eecbs-stdout` needs it. scen: `moves` and `tracker` need it. What doesn't
+    format: with `auto` it is known by the content. map: positions outside of it are refused; `eecbs-stdout` needs it. scen: `moves` and `tracker` need it. What doesn't
     fit is a `ConversionFault`.
     """
-    if format not in converters.FORMATS:
-        raise ArgumentFault(None, "no such format", None, repr(format), ", ".join(converters.FORMATS))
+    if format not in converters.READ:
+        raise ArgumentFault(None, "no such format", None, repr(format), ", ".join(converters.READ))
     file = read_input("plan", path)
     map_contents = None if map is None else read_input("map", map).contents
     scen_contents = None if scen is None else read_input("scenario", scen).contents
@@ -140,7 +140,7 @@ def _files(map: Optional[Given], scen: Optional[Given], grid: Any, starts: Any, 
 
 
 def _plan_text(plan: Union[Given, Answer, Paths]) -> Input:
-    if isinstance(plan, (NoPlan, GaveUp, OutOfTime)):
+    if isinstance(plan, (NoPlan, GaveUp, OutOfTime, Unsolved)):
         return Input("plan", NoPlan(0).text().encode(), None)
     if isinstance(plan, (list, tuple)):
         plan = Plan(tuple(_path(agent, path) for agent, path in enumerate(plan)))

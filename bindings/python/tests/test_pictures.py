@@ -1,4 +1,5 @@
 """`python3 -m mapf show -o FILE.svg`: what the pictures show, by their XML and in a browser; and a full disk."""
+import contextlib
 import itertools
 import os
 import re
@@ -10,29 +11,24 @@ import unittest
 from xml.etree import ElementTree
 
 import mapf
-from support import BAY, CROSSING, PACKAGE, backends, command, map_of, scen_of, small_instances, written
+from support import BAY, CROSSING, PACKAGE, ROOT, backends, command, map_of, scen_of, small_instances, written
+
+sys.path.append(os.path.join(ROOT, "bindings", "page", "tests"))
+import browser
 
 BAY_TEXT = "plan 2 4\n1,0 1,1 1,0\n0,0 1,0 2,0\n"
 CROSSING_TEXT = "plan 2 4\n1,0 1,1 1,2\n0,1 1,1 2,1\n"
 SVG = "{http://www.w3.org/2000/svg}"
-BROWSER = next(filter(None, map(shutil.which, ("chromium", "chromium-browser", "google-chrome"))), None)
 HAS_SMALL_DISKS = subprocess.run(["unshare", "-m", "true"], stderr=subprocess.DEVNULL).returncode == 0 if shutil.which("unshare") else False
-# Asks the browser where the agents are at each step, and writes the answers into the document.
-ASKING = """<body>{svg}<pre></pre><script>
-const svg = document.querySelector("svg"), agents = [...svg.querySelectorAll("g")];
-const frame = () => new Promise(requestAnimationFrame);
-const at = async (time) => {{
-  svg.setCurrentTime(time * 0.4);
-  await frame();
-  return agents.map((one) => one.transform.animVal[0].matrix).map((m) => `${{m.e}},${{m.f}}`).join(" ");
-}};
-onload = async () => {{
-  svg.pauseAnimations();
-  const lines = [];
-  for (let time = 0; time < {steps}; time++) lines.push(await at(time));
-  document.querySelector("pre").textContent = lines.join("\\n");
-}};
-</script></body>"""
+# Asks the browser where the agents are at a step.
+AT = """new Promise((done) => {{
+  document.documentElement.pauseAnimations();
+  document.documentElement.setCurrentTime({seconds});
+  requestAnimationFrame(() => requestAnimationFrame(() => done([...document.querySelectorAll("g")].map((one) => {{
+    const {{ e, f }} = one.transform.animVal[0].matrix;
+    return [Math.round(1000 * e) / 1000, Math.round(1000 * f) / 1000];
+  }}))));
+}})"""
 
 
 def place(words):
@@ -131,19 +127,16 @@ class Moving(Pictures):
                 rings = [(float(one.get("cx")), float(one.get("cy"))) for one in root.findall(SVG + "circle")]
                 self.assertEqual(rings, [where] if where else [])
 
-    @unittest.skipUnless(BROWSER, "no Chromium")
+    @unittest.skipUnless(browser.PROGRAM, "no Chromium")
     def test_in_a_browser(self):
         instance, plan = thousand()
         self.shows(instance, plan.text())
-        with open(self.picture, encoding="utf-8") as file:
-            page = written(self.folder, "page.html", ASKING.format(svg=file.read(), steps=plan.makespan + 1))
-        words = [BROWSER, "--headless", "--no-sandbox", "--disable-gpu", "--virtual-time-budget=60000", f"--user-data-dir={self.folder}/profile", "--dump-dom", page]
-        shown = subprocess.run(words, stdout=subprocess.PIPE, stderr=subprocess.DEVNULL, timeout=120).stdout.decode()
-        found = re.search("<pre>(.*?)</pre>", shown, re.DOTALL).group(1).split("\n")
-        for time, line in enumerate(found):
-            places = [place(words.split(",")) for words in line.split(" ")]
-            self.assertEqual([(round(x, 3), round(y, 3)) for x, y in places], [plan.at(agent, time) for agent in range(1000)])
-        self.assertEqual(len(found), plan.makespan + 1)
+        with contextlib.closing(browser.Browser()) as page:
+            page.send("Page.navigate", url=f"file://{self.picture}")
+            page.until("document.readyState === 'complete' && document.querySelectorAll('g').length === 1000")
+            for step in range(plan.makespan + 1):
+                places = page.value(AT.format(seconds=0.4 * step))
+                self.assertEqual(places, [list(plan.at(agent, step)) for agent in range(1000)])
 
 
 @unittest.skipUnless(backends(), "neither library nor program is built")

@@ -11,10 +11,11 @@ from typing import Any, Iterator, NamedTuple, Optional, Tuple, Union
 from .. import calls
 from ..backend import Backend, chosen
 from .._input import read_input
-from ..converters import FORMATS, read_plan
+from ..converters import FORMATS, READ, format_of, read_plan
 from ..faults import Fault, PlanFault, ScenarioFault
 from ..instance import rows_of
-from ..plan_text import agents_stated
+from ..plan import GaveUp
+from ..plan_text import Answer, agents_stated
 from ..series.scenarios import scenarios_in
 from ..verdict import Verdict
 from .report import writer
@@ -37,7 +38,7 @@ def add(commands: Any) -> None:
     parser = commands.add_parser(
         "check", help="judge plans",
         description="Judges plans: one JSON object or CSV row for each. The status is 0 where all are valid, 1 else.")
-    parser.add_argument("--from", dest="source", choices=FORMATS, default="plan", help="the format of the plans (plan)")
+    parser.add_argument("--from", dest="source", choices=READ, default="plan", help="the format of the plans (plan)")
     parser.add_argument("--map", help="the map of all plans")
     parser.add_argument("--scen", help="the scenario of all plans")
     parser.add_argument("--plan", help="one plan, whose verdict is printed as the program does")
@@ -90,10 +91,11 @@ def plans_of(asked: argparse.Namespace) -> Iterator[str]:
         if not os.path.isdir(named):
             yield named
             continue
-        suffix = asked.suffix or "." + asked.source
-        found = sorted(os.path.join(folder, name) for folder, _, names in os.walk(named) for name in names if name.endswith(suffix))
+        formats = FORMATS if asked.source == "auto" else (asked.source,)
+        suffixes = (asked.suffix,) if asked.suffix else tuple(f".{name}" for name in formats)
+        found = sorted(os.path.join(folder, name) for folder, _, names in os.walk(named) for name in names if name.endswith(suffixes))
         if not found:
-            asked.parser.error(f"no plan *{suffix} in {named}")
+            asked.parser.error(f"no plan {' or '.join(f'*{suffix}' for suffix in suffixes)} in {named}")
         yield from found
 
 
@@ -131,14 +133,17 @@ def job_of(asked: argparse.Namespace, path: str) -> Job:
     return Job(path, os.path.join(asked.instances, rows[0].map_name), scen, agents)
 
 
-def text_of(source: str, job: Job) -> Tuple[bytes, Union[str, bytes]]:
-    """The plan text, which is converted where the plan is in another format; and what is judged: the file or that text."""
+def text_of(source: str, job: Job) -> Tuple[bytes, Union[str, Answer]]:
+    """The plan text, converted where the plan is in another format; and what is judged: the file, or the plan that it has.
+
+    Where a planner says that it found none, the text states nothing of the instance.
+    """
     contents = read_input("plan", job.plan).contents
-    if source == "plan":
+    if format_of(source, contents, job.plan) == "plan":
         return contents, job.plan
     map_contents, scen_contents = read_input("map", job.map).contents, read_input("scenario", job.scenario).contents
-    text = read_plan(source, contents, job.plan, map_contents, scen_contents).text().encode()
-    return text, text
+    answer = read_plan(source, contents, job.plan, map_contents, scen_contents)
+    return (answer or GaveUp(1, 0)).text().encode(), answer
 
 
 def _named(job: Job) -> dict:

@@ -10,10 +10,10 @@ from typing import Any
 from .. import calls, page, picture
 from .._input import read_input
 from .._output import write_whole
-from ..converters import FORMATS
+from ..converters import READ
 from ..faults import ArgumentFault, Fault
 from ..instance import lines_of, rows_of
-from ..plan import Plan
+from ..plan import Plan, Unsolved
 from ..plan_text import agents_stated
 from ..verdict import Verdict
 from ..ways import spent
@@ -28,7 +28,7 @@ MOST_CELLS = 2**18
 def add(commands: Any) -> None:
     """Adds the command."""
     parser = commands.add_parser("show", help="a page or a picture that shows a plan", description=ABOUT)
-    parser.add_argument("--from", dest="source", choices=FORMATS, default="plan", help="the format of PLAN (plan)")
+    parser.add_argument("--from", dest="source", choices=READ, default="plan", help="the format of PLAN (plan)")
     parser.add_argument(
         "--no-following", action="store_true", help="no agent may enter a cell in the step in which another leaves it")
     parser.add_argument("-o", dest="out", metavar="FILE", help="FILE.html or FILE.svg (a page beside the plan, by its name)")
@@ -48,20 +48,23 @@ def run(asked: argparse.Namespace) -> int:
         asked.parser.error("--step and --waits make pictures: give -o FILE.svg")
     _refuse_another_file(path, picture.BEGINS if draws else page.BEGINS)
     text, given = text_of(asked.source, Job(asked.plan, asked.map, asked.scen, None))
+    text = given.text().encode() if isinstance(given, Unsolved) else text
     verdict = calls.check(asked.map, asked.scen, given, None, asked.no_following)
-    write_whole(path, (_picture_of(asked, text, verdict) if draws else _page_of(asked, text, verdict)).encode())
+    stem = os.path.basename(asked.plan)
+    name = stem if isinstance(given, str) else os.path.splitext(stem)[0] + ".plan"
+    shown = _picture_of(asked, text, verdict) if draws else _page_of(asked, name, text, verdict)
+    write_whole(path, shown.encode())
     print(f"{path}: {verdict.line}")
     if asked.open:
         webbrowser.open(pathlib.Path(path).resolve().as_uri())
     return 0
 
 
-def _page_of(asked: argparse.Namespace, text: bytes, verdict: Verdict) -> str:
-    name = os.path.basename(asked.plan)
+def _page_of(asked: argparse.Namespace, name: str, text: bytes, verdict: Verdict) -> str:
     files = {
         "map": (os.path.basename(asked.map), read_input("map", asked.map).contents),
         "scen": (os.path.basename(asked.scen), read_input("scenario", asked.scen).contents),
-        "plan": (name if asked.source == "plan" else os.path.splitext(name)[0] + ".plan", text)}
+        "plan": (name, text)}
     return page.page_of(page.Shown(files, agents_stated(text) or 1, asked.no_following, (0 if verdict.valid else 1, verdict.line)))
 
 
