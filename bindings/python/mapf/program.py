@@ -36,6 +36,8 @@ class Program:
         self.path = path or program_path()
         if not os.access(self.path, os.X_OK):
             raise NotBuilt(f"no program {self.path}: ./mapf --version builds it")
+        if os.fsencode(self.path).decode("utf-8", "replace") != self.path:
+            raise NotBuilt(f"the program's path {self.path} isn't UTF-8, as its words are: name a copy by MAPF_PROGRAM")
 
     def solve(
         self, map_file: Input, scen_file: Input, options: Options, seconds: Optional[float] = None,
@@ -65,7 +67,7 @@ def run_on(
 ) -> Ended:
     """Runs a command on a map, a scenario and a plan, and answers its text or, without `mapf: `, its refusal's line."""
     with ExitStack() as stack:
-        paths = [os.path.abspath(stack.enter_context(given.file())) for given in files]
+        paths = [stack.enter_context(given.file()) for given in files]
         named = [f"--{kind}={path}" for kind, path in zip(("map", "scen", "plan"), paths)]
         ended = run([*words, *named], seconds, progress)
     if ended.status is None or ended.status in ANSWERED and ended.out:
