@@ -50,7 +50,7 @@ class SameWords(unittest.TestCase):
 class Places(unittest.TestCase):
     def test_by_places_options_and_both(self):
         for words in (BAY, FILES, (BAY[0], "--agents", 2, BAY[1]), ("--map", BAY[0], BAY[1]), (BAY[0], "--scen", BAY[1]),
-                      ("--seconds", 60, *BAY, "--workers", 1)):
+                      ("--seconds", 60, *BAY, "--workers", 1), ("--", *BAY), (BAY[0], "--agents", 2, "--", BAY[1])):
             with self.subTest(words):
                 self.assertEqual(command("solve", *words), (0, BAY_TEXT, ""))
 

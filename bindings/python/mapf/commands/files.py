@@ -20,10 +20,11 @@ def add_files(parser: Any, *kinds: str) -> None:
 
 def take_files(asked: argparse.Namespace, more: List[str]) -> None:
     """Gives a command its files, some of which may stand behind options, and refuses words that it doesn't have."""
-    if [word for word in more if word.startswith("-")] or more and not hasattr(asked, "files"):
+    end = more.index("--") if "--" in more else len(more)
+    if [word for word in more[:end] if word.startswith("-")] or more and not hasattr(asked, "files"):
         asked.parser.error(f"unrecognized arguments: {' '.join(more)}")
     if more:
-        asked.files = [*asked.files, *more]
+        asked.files = [*asked.files, *more[:end], *more[end + 1:]]
     missing = [kind for kind in getattr(asked, "kinds", ()) if getattr(asked, kind) is None]
     if hasattr(asked, "kinds") and len(asked.files) != len(missing):
         wanted = " ".join(kind.upper() for kind in missing) or "none, since each has its option"

@@ -43,7 +43,7 @@ def add(commands: Any) -> None:
 def run(asked: argparse.Namespace) -> int:
     """Judges the plan, and writes the page or the picture."""
     path = asked.out or os.path.splitext(asked.plan)[0] + ".html"
-    draws = path.endswith(".svg")
+    draws = path.lower().endswith(".svg")
     if not draws and (asked.waits or asked.step is not None):
         asked.parser.error("--step and --waits make pictures: give -o FILE.svg")
     _refuse_another_file(path, picture.BEGINS if draws else page.BEGINS)
