@@ -181,6 +181,12 @@ class Waits(Pictures):
                 waits, least, detours = (int(word) for word in re.search(r": (\d+) waits, (\d+) at least, (\d+) of detours", words).groups())
                 self.assertEqual((least, waits + least + detours), (sum(alone), plan.cost))
 
+    def test_detours_are_counted_on_maps_of_some_size(self):
+        for side, words in ((362, "valid 1: 0 waits, 1 at least, 0 of detours"), (363, "valid 1: 0 waits")):
+            instance = map_of(" ".join(["." * side] * side)), scen_of(side, side, (0, 0, 0, 1))
+            root = self.shows(instance, "plan 1 1\n0,0 0,1\n", "--waits")
+            self.assertEqual(root.findall(SVG + "text")[-1].text, words)
+
     def test_a_plan_with_a_fault_has_no_detours(self):
         root = self.shows(CROSSING, CROSSING_TEXT, "--waits")
         self.assertEqual(root.findall(SVG + "text")[-1].text, "66 vertex conflict agents 0 1 cell 1,1 time 1: 0 waits")

@@ -44,6 +44,7 @@ class SameWords(unittest.TestCase):
             status, out, err = command(*words)
             self.assertEqual((status, err), (0, ""))
             self.assertIn("usage: ", out)
+            self.assertEqual("The program" in out, words != ("help",))
 
 
 @unittest.skipUnless(backends(), "neither library nor program is built")

@@ -37,7 +37,9 @@ def add(commands: Any) -> None:
     """Adds the command."""
     parser = commands.add_parser(
         "check", help="judge plans",
-        description="Judges plans: one JSON object or CSV row for each. The status is 0 where all are valid, 1 else.")
+        description="Judges plans: one JSON object or CSV row for each. The status is 0 where all are valid, 1 else.",
+        epilog="""The program judges one plan, and takes --map, --scen, --agents, --plan and --no-following alone; by these words
+        this command prints what the program does.""")
     parser.add_argument("--from", dest="source", choices=READ, default="plan", help="the format of the plans (plan)")
     parser.add_argument("--map", help="the map of all plans")
     parser.add_argument("--scen", help="the scenario of all plans")

@@ -22,7 +22,7 @@ from .files import add_files
 
 ABOUT = """Writes a page, one HTML file, that shows a plan on its map with the checker's verdict and the first fault; or, where
 FILE ends with .svg, a picture that moves. Prints the file's name and the verdict; the status is 0 where it is written."""
-MOST_CELLS = 2**18
+MOST_CELLS = 2**17
 
 
 def add(commands: Any) -> None:

@@ -22,7 +22,9 @@ def add(commands: Any) -> None:
     """Adds the command."""
     parser = commands.add_parser(
         "solve", help="find a plan that costs least",
-        description="Finds a plan that costs least. The status is 1 where none costs at most the bound, 6 at a limit.")
+        description="Finds a plan that costs least. The status is 1 where none costs at most the bound, 6 at a limit.",
+        epilog="""The program takes these words, too, but its files by --map and --scen alone; it wants --agents, --bound and
+        --workers, and has no --seconds, --memory and --json.""")
     add_files(parser, "map", "scen")
     parser.add_argument("--agents", type=int, metavar="N", help="the number of agents (all rows up to 1000)")
     parser.add_argument("--bound", type=int, default=MOST_BOUND, metavar="B", help="the bound on the cost (1000000)")
