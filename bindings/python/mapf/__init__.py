@@ -9,6 +9,7 @@ True
 
 What the program answers is proved, by its contracts; this package and its converters are tested only.
 """
+from .arrays import Instance
 from .calls import check, read_plan, solve, version
 from .faults import (
     ArgumentFault,
@@ -23,7 +24,7 @@ from .faults import (
     PlanFault,
     ScenarioFault,
 )
-from .plan import GaveUp, NoPlan, OutOfTime, Plan
+from .plan import GaveUp, NoPlan, OutOfTime, Plan, Unsolved
 from .plan_text import read_text
 from .verdict import Verdict
 
@@ -36,6 +37,7 @@ __all__ = [
     "Fault",
     "FileFault",
     "GaveUp",
+    "Instance",
     "InstanceFault",
     "MapFault",
     "NoPlan",
@@ -45,6 +47,7 @@ __all__ = [
     "Plan",
     "PlanFault",
     "ScenarioFault",
+    "Unsolved",
     "Verdict",
     "check",
     "read_plan",

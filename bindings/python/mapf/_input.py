@@ -23,9 +23,10 @@ class Input:
 
     @contextlib.contextmanager
     def file(self) -> Iterator[str]:
-        """The path of a file with these contents, for as long as it is wanted."""
-        if self.path and os.path.isfile(self.path) and self.path.isprintable():
-            yield self.path
+        """The whole path of a file with these contents, in UTF-8 as the program's words are, for as long as it is wanted."""
+        path = os.path.abspath(self.path) if self.path else ""
+        if os.path.isfile(path) and path.isprintable():
+            yield path
             return
         with tempfile.NamedTemporaryFile(prefix="mapf-") as file:
             file.write(self.contents)

@@ -16,6 +16,7 @@ from .run import Ended, Progress
 
 HERE = os.path.dirname(os.path.realpath(__file__))
 REFUSED = 3
+NO_MEMORY = 4
 GAVE_UP = 6
 TOO_SHORT = 7
 VERDICT_ROOM = 512
@@ -56,11 +57,19 @@ class Library:
         self, map_file: Input, scen_file: Input, options: Options, seconds: Optional[float] = None,
         progress: Optional[Progress] = None,
     ) -> Ended:
-        """How the search ended, as by a `Program`: in a Python of its own, since nothing stops a call here."""
+        """How the search ended, as by a `Program`: in a Python of its own, since nothing stops a call here.
+
+        A limit on memory is one of that Python, too, which ends in other ways where it has too little.
+        """
         self._solver(options)
-        words = [sys.executable, "-S", "-E", "-c", CHILD, os.path.dirname(HERE), self.path, json.dumps(options)]
+        words = [*options.around(), sys.executable, "-S", "-E", "-c", CHILD, os.path.dirname(HERE), self.path, json.dumps(options)]
         telling = seconds is not None or progress is not None
-        return run_on([*words, "telling" if telling else ""], [map_file, scen_file], seconds, progress)
+        try:
+            return run_on([*words, "telling" if telling else ""], [map_file, scen_file], seconds, progress)
+        except BackendFailure:
+            if options.memory is None:
+                raise
+            return Ended(NO_MEMORY, "43 no memory\n", "", 0, 0)
 
     def solve_here(self, map_file: Input, scen_file: Input, options: Options) -> Tuple[int, str]:
         """The status, and the answer's text or the refusal's line, by a call that nothing stops."""

@@ -108,3 +108,12 @@ class OutOfTime(_Without):
     def text(self) -> str:
         """The text, as ``python3 -m mapf solve`` prints it."""
         return f"out of time {self.nodes} {self.lower_bound}\n"
+
+
+@dataclass(frozen=True)
+class Unsolved(_Without):
+    """A planner's file says that it found no plan, which says nothing of the instance."""
+
+    def text(self) -> str:
+        """What ``mapf check`` says of such a file."""
+        return "no plan given\n"

@@ -5,9 +5,9 @@ import re
 from typing import Optional, Tuple, Union
 
 from .faults import PlanFault
-from .plan import GaveUp, NoPlan, OutOfTime, Path, Plan
+from .plan import GaveUp, NoPlan, OutOfTime, Path, Plan, Unsolved
 
-Answer = Union[Plan, NoPlan, GaveUp, OutOfTime]
+Answer = Union[Plan, NoPlan, GaveUp, OutOfTime, Unsolved]
 
 NUMBER = r"(?:0|[1-9][0-9]{0,9})"
 PLAN = re.compile(rf"plan ({NUMBER}) ({NUMBER})")

@@ -36,6 +36,8 @@ class Program:
         self.path = path or program_path()
         if not os.access(self.path, os.X_OK):
             raise NotBuilt(f"no program {self.path}: ./mapf --version builds it")
+        if os.fsencode(self.path).decode("utf-8", "replace") != self.path:
+            raise NotBuilt(f"the program's path {self.path} isn't UTF-8, as its words are: name a copy by MAPF_PROGRAM")
 
     def solve(
         self, map_file: Input, scen_file: Input, options: Options, seconds: Optional[float] = None,
@@ -43,7 +45,8 @@ class Program:
     ) -> Ended:
         """How the run ended: with the answer's text, or the refusal's line without `mapf: `, as `out`."""
         telling = [] if seconds is None and progress is None else ["--progress"]
-        return run_on([self.path, "solve", *options.words(), *telling], [map_file, scen_file], seconds, progress)
+        words = [*options.around(), self.path, "solve", *options.words(), *telling]
+        return run_on(words, [map_file, scen_file], seconds, progress)
 
     def check(
         self, map_file: Input, scen_file: Input, plan: Input, agents: int, no_following: bool
@@ -64,7 +67,7 @@ def run_on(
 ) -> Ended:
     """Runs a command on a map, a scenario and a plan, and answers its text or, without `mapf: `, its refusal's line."""
     with ExitStack() as stack:
-        paths = [os.path.abspath(stack.enter_context(given.file())) for given in files]
+        paths = [stack.enter_context(given.file()) for given in files]
         named = [f"--{kind}={path}" for kind, path in zip(("map", "scen", "plan"), paths)]
         ended = run([*words, *named], seconds, progress)
     if ended.status is None or ended.status in ANSWERED and ended.out:

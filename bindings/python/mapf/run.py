@@ -41,6 +41,11 @@ class Told:
         self._progress = progress
         self._place = 0
 
+    def said(self) -> Tuple[str, ...]:
+        """What a `KeyboardInterrupt` says of it; nothing where it told nothing."""
+        line = f"stopped after {self.nodes} nodes: no plan costs less than {self.lower_bound}"
+        return (line,) if self._place else ()
+
     def hear(self, err: bytes) -> None:
         """Reads on in what the run has written."""
         for line in TOLD.finditer(err, self._place):
@@ -54,7 +59,7 @@ def run(words: Sequence[str], seconds: Optional[float] = None, progress: Optiona
     """Runs a program until it ends or its time is over.
 
     Ctrl-C ends it, and is raised here: in the main thread as ever; in another one where the program had it too, as from
-    a terminal or a notebook, or where it ended what the main thread did.
+    a terminal or a notebook, or where it ended what the main thread did. It says what the program told last.
     """
     end, told, seen = time.monotonic() + (math.inf if seconds is None else seconds), Told(progress), _interrupt()
     with Child(words) as child:
@@ -68,12 +73,14 @@ def run(words: Sequence[str], seconds: Optional[float] = None, progress: Optiona
                 told.hear(err)
                 if _interrupt() not in (None, seen):
                     raise KeyboardInterrupt
-        except BaseException:
+        except BaseException as raised:
             child.kill()
             child.wait()
+            if isinstance(raised, KeyboardInterrupt):
+                raised.args = told.said()
             raise
     if child.returncode == -signal.SIGINT:
-        raise KeyboardInterrupt
+        raise KeyboardInterrupt(*told.said())
     late = child.returncode == -signal.SIGKILL and time.monotonic() >= end
     said = TOLD.sub(b"", err).decode("utf-8", "replace")
     return Ended(None if late else child.returncode, out.decode("utf-8", "replace"), said, told.nodes, told.lower_bound)

@@ -53,8 +53,9 @@ SPOILED = {
         (("(0 -->2)", "(-1 -->2)"), 1), (("(0 -->2): ", "(0 -->2):"), 1), (("(0 -->2): ", ": "), 1),
         (("(2 -->2)", "(2 -->1000000000)"), 2), (("4->", "6->"), 1), (("4->", "(1,1)->"), 1), (("4->", "04->"), 1),
         (("4->", "-4->"), 1), (("4->", "4 ->"), 1), (("2->\n", "2\n"), 2), (("0->1->2->", ""), 2),
-        (("\nAgent 1", "\n\nAgent 1"), 2), (("2->\n", "2->\nEECBS:Succeed,4,0.001\n"), 3),
-        ((READ["eecbs-stdout"], ""), 1),
+        (("\nAgent 1", "\n\nAgent 1"), 2), (("\nAgent 1", "\nEECBS:Succeed,4\nAgent 1"), 2), (("\nAgent 1", "\nx\n\nAgent 1"), 2),
+        (("2->\n", "2->\nAgent 3 (0 -->0): 3->\n"), 3), (("2->\n", "2->\nEnd\nAgent 2 (0 -->0): 3->\n"), 3),
+        ((READ["eecbs-stdout"], ""), 1), ((READ["eecbs-stdout"], "EECBS:Succeed,4\n"), 2),
     ),
     "tracker": (
         (("solution_plan", "plan"), 1), (("agents", "count"), 1), (("lower_cost", "agents"), 1), (("bay,", ""), 2),
@@ -83,7 +84,8 @@ SPOILED = {
         (("    y: 1\n", "    y: 2\n"), 8), (("    x: 2", "    x: 3"), 20), (("  agent1:", "  agent0:"), 12),
         (("  agent1:", "  agent2:"), 12), (("  - t: 0\n    x: 0\n    y: 0\n", "  - {t: 0, x: 0, y: 0}\n"), 13),
         (("    x: 0", "    x: 0.0"), 14), (("statistics:", "statistics: {}"), 22), (("statistics:", "schedule:"), 22),
-        (("cost: 4", "cost: x"), 23), (("    x: 0", "    z: 0"), 14),
+        (("cost: 4", "cost: x"), 23), (("    x: 0", "    z: 0"), 14), (("schedule:", "cost: 4\nschedule:"), 24),
+        (("schedule:", "cost: 4.5\nschedule:"), 1), (("schedule:", "schedule:\ncost: 4"), 3), (("schedule:", "cost: {}\nschedule:"), 1),
     ),
 }
 
@@ -134,6 +136,32 @@ class Read(unittest.TestCase):
                 read_plan(name, {**READ, **TEXTS}[name].encode(), None, *instance)
             self.assertIn(found, refused.exception.found)
         self.assertEqual(read_plan("robot-runners", READ["robot-runners"].encode()), PLAN)
+
+    def test_a_cost_outside_of_the_schedule(self):
+        schedule = REDUMPED.partition("statistics:")[0]
+        for text in ("cost: 4\n" + schedule, schedule + "cost: 4\n", "cost: 4\nruntime: 0.25\n" + schedule + "status: 1\n"):
+            for ends in ("\n", "\r\n"):
+                plan = read_plan("libmultirobotplanning", text.replace("\n", ends).encode(), None, *BAY)
+                self.assertEqual((plan, plan.stated), (PLAN, 4))
+
+    def test_what_pyyaml_dumps(self):
+        try:
+            import yaml
+        except ImportError:
+            self.skipTest("no PyYAML")
+        paths = {f"agent{agent}": [{"t": t, "x": x, "y": y} for t, (x, y) in enumerate(path)] for agent, path in enumerate(PLAN.paths * 6)}
+        for more in ({"cost": 24}, {"statistics": {"cost": 24, "makespan": 2}}):
+            for sort in (True, False):
+                text = yaml.safe_dump({"schedule": paths, **more}, sort_keys=sort)
+                plan = read_plan("libmultirobotplanning", text.encode())
+                self.assertEqual((plan.paths, plan.stated), (PLAN.paths * 6, 24))
+
+    def test_what_planners_print_beside_their_paths(self):
+        before, behind = "EECBS: 4 agents\n\nsolution=\n", "\nEECBS:Succeed,4,0.001\n  Agents: 2\n\n"
+        text = before + READ["eecbs-stdout"] + behind
+        for name in ("eecbs-stdout", "auto"):
+            plan = read_plan(name, text.encode(), None, *BAY)
+            self.assertEqual((plan, plan.stated), (PLAN, 4))
 
     def test_agents_in_the_order_of_their_names(self):
         agents = sorted(range(12), key=str)

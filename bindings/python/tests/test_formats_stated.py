@@ -82,7 +82,13 @@ class Unsolved(unittest.TestCase):
     def test_converted(self):
         with tempfile.TemporaryDirectory() as folder:
             path = written(folder, "plan.lacam", self.TEXTS["lacam"][0])
-            self.assertEqual(command("convert", "--from", "lacam", path), (0, "gave up 1 0\n", ""))
-            status, out, err = command("convert", "--from", "lacam", "--to", "eecbs", path)
-            self.assertEqual((status, out), (3, ""))
-            self.assertIn("no plan given", err)
+            for words in (("--from", "lacam"), ("--from", "auto"), ("--from", "lacam", "--to", "eecbs")):
+                self.assertEqual(command("convert", *words, path), (1, "", f"mapf: {path}: no plan given\n"))
+
+    @unittest.skipUnless(backends(), "neither library nor program is built")
+    def test_shown(self):
+        with tempfile.TemporaryDirectory() as folder:
+            words = [written(folder, name, text) for name, text in (("a.map", BAY[0]), ("a.scen", BAY[1]))]
+            path = written(folder, "a.lacam", self.TEXTS["lacam"][0])
+            status, out, err = command("show", "--from", "lacam", *words, path)
+            self.assertEqual((status, out, err), (0, f"{folder}/a.html: no plan given\n", ""))

@@ -75,7 +75,7 @@ class Show(unittest.TestCase):
         for page in ((), ("-o", words[0]), ("-o", self.folder)):
             status, out, err = command("show", *words, *page)
             self.assertEqual((status, out), (3, ""))
-            self.assertIn("no page of mapf show", err)
+            self.assertIn("no page or picture of mapf show", err)
         with open(path, encoding="ascii") as file:
             self.assertEqual(file.read(), "<!doctype html>\n<p>mine</p>\n")
 

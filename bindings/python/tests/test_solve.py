@@ -94,10 +94,23 @@ class Limits(unittest.TestCase):
             self.assertEqual(refused.exception.text, "22 too few rows: 0")
 
     def test_no_time(self):
-        for seconds in (0, -1, float("nan")):
+        for seconds in (0, -1, float("nan"), "3", [3]):
             with self.assertRaises(mapf.ArgumentFault) as refused:
                 mapf.solve(*BAY, 2, seconds=seconds)
-            self.assertEqual((refused.exception.found, refused.exception.wanted), (f"{seconds} seconds", "more than 0"))
+            found = f"no time: found {seconds!r}, wanted a number of seconds, more than 0"
+            self.assertEqual(str(refused.exception), found)
+
+    def test_memory(self):
+        for backend in self.each():
+            self.assertEqual(solve_by(backend, *BAY, 2, 100, None, False, memory=1000).text(), BAY_TEXT)
+            with self.assertRaises(mapf.OutOfMemory) as refused:
+                solve_by(backend, *ENDLESS, 2, 1000000, None, False, memory=24)
+            self.assertEqual((refused.exception.number, refused.exception.text), (43, "43 no memory"))
+        for memory in (0, 15, -1, 2**30 + 1, "64", 64.5):
+            with self.assertRaises(mapf.ArgumentFault) as refused:
+                mapf.solve(*BAY, 2, memory=memory)
+            found = f"no memory: found {memory!r}, wanted a whole number of MB, 16 to 1,073,741,824"
+            self.assertEqual(str(refused.exception), found)
 
     def test_options_become_words(self):
         words = "--agents 2 --workers 3 --bound 9 --nodes 4 --no-following --any-optimum"
@@ -148,6 +161,10 @@ class Command(unittest.TestCase):
         gave_up = {**nothing, "status": "gave_up", "nodes": 5, "lower_bound": 4}
         self.assertEqual(of("--bound", 4, "--nodes", 5), (6, gave_up))
 
+    def test_out_of_memory(self):
+        found = "mapf: 43 no memory: found too little, wanted more memory\n"
+        self.assertEqual(self.endless("--memory", 24), (4, "", found))
+
     def test_json_out_of_time(self):
         row = json.loads(self.out_of_time("--json"))
         self.assertEqual((row["status"], row["agents"]), ("out_of_time", 2))
@@ -165,7 +182,8 @@ class Command(unittest.TestCase):
     def test_refusals(self):
         cases = ((("--workers", 65), 3, "mapf: 42 workers: found 65, wanted 1 to 64\n"),
                  (("--bound", -5), 3, "mapf: 41 bound: found -5, wanted 0 to 1,000,000\n"),
-                 (("--seconds", 0), 3, "mapf: no time: found 0.0 seconds, wanted more than 0\n"),
+                 (("--seconds", 0), 3, "mapf: no time: found 0.0, wanted a number of seconds, more than 0\n"),
+                 (("--memory", 8), 3, "mapf: no memory: found 8, wanted a whole number of MB, 16 to 1,073,741,824\n"),
                  (("--agents", 3), 3, f"mapf: {BAY_FILES[1]}: 22 too few rows: 2: found 2 rows for 3 agents, "
                   "wanted as many rows as agents\n"))
         for more, status, text in cases:

@@ -2,18 +2,21 @@
 import contextlib
 import glob
 import os
+import re
 import signal
 import subprocess
 import sys
 import tempfile
 import time
 import unittest
+from unittest import mock
 
 from support import PACKAGE, backends, map_of, process, scen_of, with_program, written
 
 WAIT = 300
 TRIES = 20
 SOON = 0.5
+STOPPED = "stopped after [0-9]+ nodes: no plan costs less than ([0-9]+)"
 # Two agents in a corridor have to change places: the search has no end.
 ENDLESS = map_of("." * 9), scen_of(9, 1, (0, 0, 8, 0), (8, 0, 0, 0), name="a.map")
 IN_MAIN = "solve()"
@@ -129,7 +132,8 @@ class CtrlC(Stopping):
     def test_in_the_main_thread(self):
         for backend in self.each():
             status, _, err = self.interrupted(IN_MAIN, backend)
-            self.assertEqual((status, err.splitlines()[-1]), (-signal.SIGINT, "KeyboardInterrupt"))
+            self.assertEqual(status, -signal.SIGINT)
+            self.assertRegex(err.splitlines()[-1], rf"\AKeyboardInterrupt: {STOPPED}\Z")
 
     def test_in_a_second_thread(self):
         for backend in self.each():
@@ -153,6 +157,21 @@ class CtrlC(Stopping):
     def test_the_command(self):
         for backend in self.each():
             self.assertEqual(self.interrupted(COMMAND, backend), (130, "", ""))
+
+    def test_the_command_says_the_last_bound(self):
+        words = [os.path.join(self.folder, name) for name in ("a.map", "a.scen")]
+        for backend in self.each():
+            with mock.patch.dict(os.environ, {"MAPF_BACKEND": backend}):
+                running = process("solve", *words, stdout=subprocess.PIPE, stderr=subprocess.PIPE)
+            self.addCleanup(running.kill)
+            self.until(lambda: running.poll() is not None or self.searching())
+            time.sleep(3)
+            running.send_signal(signal.SIGINT)
+            out, err = running.communicate(timeout=WAIT)
+            self.assertEqual((running.returncode, out), (130, b""))
+            bound = re.fullmatch(rf"mapf: {STOPPED}\n", err.decode())
+            self.assertTrue(bound, err)
+            self.assertGreaterEqual(int(bound.group(1)), 16)
 
 
 @unittest.skipUnless(backends(), "neither library nor program is built")

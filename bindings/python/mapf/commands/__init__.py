@@ -9,6 +9,7 @@ from typing import List, Optional
 
 from .. import __version__
 from ..faults import BackendFailure, Fault, NotBuilt
+from .files import take_files
 from .status import status_of
 
 # Looked up by name, here alone: the benchmark imports the rest of the package, and nothing of the rest imports the benchmark.
@@ -21,11 +22,12 @@ def main(words: Optional[List[str]] = None) -> int:
     parser = argparse.ArgumentParser(
         prog=name if name == "mapf" else "python3 -m mapf",
         description="Find plans, convert and judge those of any planner, and run series.")
-    parser.add_argument("--version", action="version", version=f"mapf {__version__}")
+    parser.add_argument("-V", "--version", action="version", version=f"mapf {__version__}")
     commands = parser.add_subparsers(dest="command", metavar="COMMAND", required=True)
     for name in COMMANDS:
         importlib.import_module(name, __package__).add(commands)
-    asked = parser.parse_args(words)
+    asked, more = parser.parse_known_args(_asked(sys.argv[1:] if words is None else words))
+    take_files(asked, more)
     try:
         return asked.run(asked)
     except Fault as fault:
@@ -37,8 +39,13 @@ def main(words: Optional[List[str]] = None) -> int:
         return 5
     except OSError as error:
         return _ends(str(error), 5)
-    except KeyboardInterrupt:
-        return 130
+    except KeyboardInterrupt as stopped:
+        return _ends(str(stopped), 130) if stopped.args else 130
+
+
+def _asked(words: List[str]) -> List[str]:
+    """The words, of which `help COMMAND` is what the program has for `COMMAND --help`."""
+    return [*words[1:], "--help"] if words[:1] == ["help"] else words
 
 
 def _ends(message: str, status: int) -> int:

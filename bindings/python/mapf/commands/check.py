@@ -11,10 +11,11 @@ from typing import Any, Iterator, NamedTuple, Optional, Tuple, Union
 from .. import calls
 from ..backend import Backend, chosen
 from .._input import read_input
-from ..converters import FORMATS, read_plan
+from ..converters import FORMATS, READ, format_of, read_plan
 from ..faults import Fault, PlanFault, ScenarioFault
 from ..instance import rows_of
-from ..plan_text import agents_stated
+from ..plan import GaveUp
+from ..plan_text import Answer, agents_stated
 from ..scenarios import scenarios_in
 from ..verdict import Verdict
 from .report import writer
@@ -36,19 +37,22 @@ def add(commands: Any) -> None:
     """Adds the command."""
     parser = commands.add_parser(
         "check", help="judge plans",
-        description="Judges plans: one JSON object or CSV row for each. The status is 0 where all are valid, 1 else.")
-    parser.add_argument("--from", dest="source", choices=FORMATS, default="plan", help="the format of the plans (plan)")
+        description="Judges plans: one JSON object or CSV row for each. The status is 0 where all are valid, 1 else.",
+        epilog="""The program judges one plan, and takes --map, --scen, --agents, --plan and --no-following alone; by these words
+        this command prints what the program does.""")
+    parser.add_argument("--from", dest="source", choices=READ, default="plan", help="the format of the plans (plan)")
     parser.add_argument("--map", help="the map of all plans")
     parser.add_argument("--scen", help="the scenario of all plans")
+    parser.add_argument("--plan", help="one plan, whose verdict is printed as the program does")
     parser.add_argument("--instances", metavar="DIR", help="the folder of maps and scenarios, where plans are called SCENARIO-AGENTS")
     parser.add_argument("--maps", metavar="DIR", help="the folder of maps, where plans are called SCENARIO-AGENTS")
     parser.add_argument("--scens", action="append", metavar="DIR", help="a folder of scenarios; may be given again")
     parser.add_argument("--agents", type=int, metavar="N", help="the number of agents (the name's, or else the plan's)")
     parser.add_argument("--no-following", action="store_true", help="no agent may enter a cell in the step in which another leaves it")
     parser.add_argument("--suffix", help="how files of a folder end that are plans (a dot and the format's name)")
-    parser.add_argument("--out", choices=("json", "csv"), default="json", help="JSON lines or CSV (json)")
+    parser.add_argument("--out", choices=("json", "csv"), help="JSON lines or CSV (json)")
     parser.add_argument("--jobs", type=int, default=os.cpu_count() or 1, metavar="N", help="so many at a time")
-    parser.add_argument("plans", nargs="+", metavar="PLAN", help="a plan, or a folder of plans")
+    parser.add_argument("files", nargs="*", metavar="PLAN", help="a plan, or a folder of plans")
     parser.set_defaults(run=run, parser=parser)
 
 
@@ -59,9 +63,13 @@ def run(asked: argparse.Namespace) -> int:
         asked.parser.error("give --map and --scen, --maps and --scens, or --instances")
     if asked.jobs < 1:
         asked.parser.error("--jobs is 1 at least")
+    if bool(asked.files) == (asked.plan is not None):
+        asked.parser.error("give PLAN, which may be some or folders, or --plan")
     asked.found = scenarios_in(asked.maps, asked.scens) if asked.maps else None
+    if asked.plan and not asked.out:
+        return _as_the_program(asked)
     plans, backend = list(plans_of(asked)), chosen()
-    write, bad = writer(asked.out, sys.stdout), 0
+    write, bad = writer(asked.out or "json", sys.stdout), 0
     with ThreadPoolExecutor(asked.jobs) as threads:
         for row in threads.map(lambda path: judged(backend, asked, path), plans):
             write(row)
@@ -70,16 +78,26 @@ def run(asked: argparse.Namespace) -> int:
     return 1 if bad else 0
 
 
+def _as_the_program(asked: argparse.Namespace) -> int:
+    """Prints a plan's verdict, or fails by the refusal's line."""
+    job = job_of(asked, asked.plan)
+    _, given = text_of(asked.source, job)
+    verdict = calls.check_by(chosen(), job.map, job.scenario, given, job.agents, asked.no_following)
+    print(verdict.line, flush=True)
+    return 0 if verdict.valid else 1
+
+
 def plans_of(asked: argparse.Namespace) -> Iterator[str]:
     """The files that were named, and those of the folders that were named."""
-    for named in asked.plans:
+    for named in asked.files or [asked.plan]:
         if not os.path.isdir(named):
             yield named
             continue
-        suffix = asked.suffix or "." + asked.source
-        found = sorted(os.path.join(folder, name) for folder, _, names in os.walk(named) for name in names if name.endswith(suffix))
+        formats = FORMATS if asked.source == "auto" else (asked.source,)
+        suffixes = (asked.suffix,) if asked.suffix else tuple(f".{name}" for name in formats)
+        found = sorted(os.path.join(folder, name) for folder, _, names in os.walk(named) for name in names if name.endswith(suffixes))
         if not found:
-            asked.parser.error(f"no plan *{suffix} in {named}")
+            asked.parser.error(f"no plan {' or '.join(f'*{suffix}' for suffix in suffixes)} in {named}")
         yield from found
 
 
@@ -115,14 +133,17 @@ def job_of(asked: argparse.Namespace, path: str) -> Job:
     return Job(path, os.path.join(asked.instances, rows[0].map_name), scen, agents)
 
 
-def text_of(source: str, job: Job) -> Tuple[bytes, Union[str, bytes]]:
-    """The plan text, which is converted where the plan is in another format; and what is judged: the file or that text."""
+def text_of(source: str, job: Job) -> Tuple[bytes, Union[str, Answer]]:
+    """The plan text, converted where the plan is in another format; and what is judged: the file, or the plan that it has.
+
+    Where a planner says that it found none, the text states nothing of the instance.
+    """
     contents = read_input("plan", job.plan).contents
-    if source == "plan":
+    if format_of(source, contents, job.plan) == "plan":
         return contents, job.plan
     map_contents, scen_contents = read_input("map", job.map).contents, read_input("scenario", job.scenario).contents
-    text = read_plan(source, contents, job.plan, map_contents, scen_contents).text().encode()
-    return text, text
+    answer = read_plan(source, contents, job.plan, map_contents, scen_contents)
+    return (answer or GaveUp(1, 0)).text().encode(), answer
 
 
 def _named(job: Job) -> dict:

@@ -13,6 +13,7 @@ from ..instance import most_agents
 from ..options import MOST_BOUND
 from ..plan import GaveUp, NoPlan, OutOfTime, Plan
 from ..plan_text import Answer
+from .files import add_files
 
 STATUSES = {Plan: ("solved", 0), NoPlan: ("none", 1), GaveUp: ("gave_up", 6), OutOfTime: ("out_of_time", 6)}
 
@@ -21,9 +22,10 @@ def add(commands: Any) -> None:
     """Adds the command."""
     parser = commands.add_parser(
         "solve", help="find a plan that costs least",
-        description="Finds a plan that costs least. The status is 1 where none costs at most the bound, 6 at a limit.")
-    parser.add_argument("map", metavar="MAP", help="the map")
-    parser.add_argument("scen", metavar="SCEN", help="the scenario")
+        description="Finds a plan that costs least. The status is 1 where none costs at most the bound, 6 at a limit.",
+        epilog="""The program takes these words, too, but its files by --map and --scen alone; it wants --agents, --bound and
+        --workers, and has no --seconds, --memory and --json.""")
+    add_files(parser, "map", "scen")
     parser.add_argument("--agents", type=int, metavar="N", help="the number of agents (all rows up to 1000)")
     parser.add_argument("--bound", type=int, default=MOST_BOUND, metavar="B", help="the bound on the cost (1000000)")
     parser.add_argument("--workers", type=int, default=1, metavar="W", help="so many threads (1)")
@@ -33,6 +35,7 @@ def add(commands: Any) -> None:
     parser.add_argument(
         "--any-optimum", action="store_true", help="of several plans that cost least any will do, by another search")
     parser.add_argument("--seconds", type=float, metavar="S", help="a limit on time")
+    parser.add_argument("--memory", type=int, metavar="MB", help="a limit on address space, 16 at least")
     parser.add_argument("--progress", action="store_true", help="say how far the search is")
     parser.add_argument("--json", action="store_true", help="print a JSON object")
     parser.set_defaults(run=run)
@@ -45,7 +48,7 @@ def run(asked: argparse.Namespace) -> int:
         asked.agents = most_agents(read_input("scenario", asked.scen).contents)
     answer = calls.solve(
         asked.map, asked.scen, asked.agents, asked.bound, asked.nodes, asked.no_following, asked.workers, asked.seconds,
-        _tell if asked.progress else None, asked.any_optimum)
+        _tell if asked.progress else _hear, asked.any_optimum, asked.memory)
     seconds = time.monotonic() - begin
     sys.stdout.write(json.dumps(object_of(asked, answer, seconds)) + "\n" if asked.json else answer.text())
     sys.stdout.flush()
@@ -60,6 +63,10 @@ def object_of(asked: argparse.Namespace, answer: Answer, seconds: float) -> dict
         "map": asked.map, "scenario": asked.scen, "agents": asked.agents, "status": STATUSES[type(answer)][0],
         "cost": plan and plan.cost, "lower_bound": bound, "nodes": getattr(answer, "nodes", None),
         "seconds": round(seconds, 3), "paths": plan and plan.paths}
+
+
+def _hear(nodes: int, lower_bound: int) -> None:
+    """Says nothing; what was told last is said after Ctrl-C."""
 
 
 def _tell(nodes: int, lower_bound: int) -> None:

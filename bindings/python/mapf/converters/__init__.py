@@ -1,7 +1,7 @@
 """Plans of other planners, to and from this project's plans.
 
-Whether the row or the column comes first, and whether paths are padded, is stated by the format's name alone. What doesn't
-fit is refused by its line; nothing is guessed. What can be read but is no plan of the instance (x and y swapped on a square
+Whether the row or the column comes first, and whether paths are padded, is stated by the format's name alone, or known by
+how its lines begin, which no two formats share (`format_of`). What doesn't fit is refused by its line; nothing is guessed. What can be read but is no plan of the instance (x and y swapped on a square
 map, positions counted from 1) is for `check` to judge.
 """
 from __future__ import annotations
@@ -10,10 +10,11 @@ from typing import Dict, Optional, Union
 
 from ..faults import ConversionFault
 from ..instance import map_size, rows_of
-from ..plan import GaveUp, NoPlan, Plan
-from ..plan_text import MOST_AGENTS, read_text
+from ..plan import Plan, Unsolved
+from ..plan_text import MOST_AGENTS, read_text, shown
 from . import eecbs, lacam, libmultirobotplanning, moves, robot_runners, tracker
 from .lines import Lines
+from .signs import signed
 from .shape import PlannersPlan, Shape, without_padding
 
 SHAPES: Dict[str, Shape] = {
@@ -31,25 +32,35 @@ SHAPES: Dict[str, Shape] = {
     "robot-runners": Shape(robot_runners.read, None, "League of Robot Runners: JSON of the action model MAPF"),
 }
 FORMATS = ("plan", *SHAPES)
+READ = ("auto", *FORMATS)
 WRITTEN = ("plan", *(name for name, shape in SHAPES.items() if shape.write))
 
-# What a planner answers that found no plan: it says nothing of the instance.
-UNSOLVED = GaveUp(1, 0)
+UNSOLVED = Unsolved()
+
+
+def format_of(format_name: str, contents: bytes, path: Optional[str]) -> str:
+    """The format that is named, or for `auto` the one that the content has; what has none is refused."""
+    found = signed(contents) if format_name == "auto" else format_name
+    if found is None:
+        first = contents.split(b"\n", 1)[0].decode("latin-1")
+        raise ConversionFault("known format", 1, path, shown(first), ", ".join(FORMATS))
+    return found
 
 
 def read_plan(
     format_name: str, contents: bytes, path: Optional[str] = None, map_contents: Optional[bytes] = None,
     scen_contents: Optional[bytes] = None,
-) -> Union[Plan, GaveUp]:
+) -> Union[Plan, Unsolved]:
     """The plan that a file in this format states, cut behind each agent's last arrival, or `UNSOLVED` where it says so.
 
     Where the file states a cost, the plan has it as `stated`, and its text states it, right or wrong. The path is for
     messages alone. With a map, positions outside it are refused; `eecbs-stdout` needs one, `moves` and `tracker` need a
     scenario.
     """
+    format_name = format_of(format_name, contents, path)
     if format_name == "plan":
         answer = read_text(contents, path)
-        if isinstance(answer, (NoPlan, GaveUp)):
+        if not isinstance(answer, Plan):
             raise ConversionFault("plan", 1, path, f"`{answer.text().strip()}`", "`plan N C`")
         return answer
     lines = Lines(format_name, contents, path, map_size(map_contents) if map_contents is not None else None)
@@ -62,13 +73,11 @@ def read_plan(
     return PlannersPlan(tuple(without_padding(path) for path in found.paths), found.stated)
 
 
-def write_plan(format_name: str, answer: Union[Plan, GaveUp]) -> str:
-    """The text of a plan in this format; without a plan there is one for `plan` alone."""
+def write_plan(format_name: str, plan: Plan) -> str:
+    """The text of a plan in this format."""
     if format_name == "plan":
-        return answer.text()
-    if not isinstance(answer, Plan):
-        raise ConversionFault(format_name, 1, None, "no plan given", "a plan")
+        return plan.text()
     write = SHAPES[format_name].write
     if write is None:
         raise ValueError(f"plans are only read in the format {format_name}")
-    return write(answer)
+    return write(plan)

@@ -2,13 +2,15 @@
 
 In path files a step is `(row,column)`. EECBS (`--outputPaths`) has a blank before the first, `Agent 0: (0,1)->`, and
 LNS has none, `Agent 0:(0,1)->`. On standard output EECBS has `Agent 0 (I -->C): 1->`, where C is what the path costs,
-and a cell is the number row * width + column. All count from 0, and no path is padded.
+and a cell is the number row * width + column; other lines may stand before and behind the agents', which all begin with
+`Agent `. All count from 0, and no path is padded.
 """
 from __future__ import annotations
 
 import re
-from typing import Iterator, List, Match, Pattern
+from typing import Iterator, List, Match, Optional, Pattern
 
+from ..faults import ConversionFault
 from ..plan import Plan, Position
 from .lines import COORDINATE, Lines
 from .shape import Found, Starts
@@ -42,13 +44,22 @@ def read_printed(lines: Lines, starts: Starts) -> Found:
         raise lines.fault(1, "no map with a size", "the map, whose width parts cells into rows and columns")
     paths: List[List[Position]] = []
     stated = 0
+    behind: Optional[ConversionFault] = None
     for line in lines:
+        wanted = f"`Agent {len(paths)} (I -->C): cell->..`"
+        if not line.startswith("Agent "):
+            behind = behind or (lines.unfit(line, wanted) if paths else None)
+            continue
+        if behind:
+            raise behind
         head = PRINTED.match(line)
         if not head or head.group(1) != str(len(paths)):
-            raise lines.unfit(line, f"`Agent {len(paths)} (I -->C): cell->..`")
+            raise lines.unfit(line, wanted)
         stated = lines.cost(lines.last, str(stated + int(head.group(2))))
         steps = _steps(lines, line, head.end(), CELL, "cell->")
         paths.append(lines.path_of(lines.cell(int(step.group(1))) for step in steps))
+    if not paths:
+        raise lines.unfit(None, "`Agent 0 (I -->C): cell->..`")
     return Found(paths, stated)
 
 

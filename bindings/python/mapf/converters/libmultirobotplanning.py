@@ -2,8 +2,8 @@
 
 `schedule:` has for each agent `  agent0:`, and for each time three lines, of x, y and t, as `    - x: X`,
 `      y: Y` and `      t: T`, or with two blanks less. They may be in any order, and so may the agents. `statistics:`
-may stand before or behind: `  cost:` states the cost, and the other ones are passed over. x is the column and y the
-row, both from 0; no path is padded.
+may stand before or behind: `  cost:` states the cost, or a line `cost:` outside of both, and the other ones are passed
+over. x is the column and y the row, both from 0; no path is padded.
 """
 from __future__ import annotations
 
@@ -15,7 +15,8 @@ from .lines import COORDINATE, Lines
 from .shape import Found, Starts, cost_stated
 
 SCHEDULE, STATISTICS = "schedule:", "statistics:"
-STATISTIC = re.compile(r"  ([A-Za-z_]+): (\S+)")
+STATISTIC = re.compile(r"(?:  )?([A-Za-z_]+): (\S+)")
+OUTSIDE = re.compile(r"[A-Za-z_]+: [\w.+-]+")
 AGENT = re.compile(rf"  agent{COORDINATE}:")
 FIELD = re.compile(rf"( *(?:- )?)([xyt]): {COORDINATE}")
 
@@ -31,6 +32,8 @@ def read(lines: Lines, starts: Starts) -> Found:
         if line in to_come:
             to_come.remove(line)
             section = line
+        elif OUTSIDE.fullmatch(line):
+            section, stated = "", _cost(lines, line, stated)
         elif section == SCHEDULE:
             _take(lines, line, agents)
         elif section == STATISTICS:
