@@ -7,7 +7,7 @@ import json
 import pkgutil
 from typing import Dict, NamedTuple, Optional, Tuple
 
-SCRIPTS = ("reading.js", "calling.js", "drawing.js", "playing.js", "judging.js", "acting.js")
+SCRIPTS = ("reading.js", "formats.js", "calling.js", "drawing.js", "trails.js", "delays.js", "playing.js", "judging.js", "acting.js")
 BEGINS = '<!doctype html>\n<html lang="en" data-page="mapf">\n'
 
 
