@@ -1,19 +1,21 @@
-"""What pyproject.toml can't say: the platform of built files, and the command bdist_wheel where there is none."""
+"""What pyproject.toml can't say: the platform of built files, and a wheel that has the same bytes each time."""
 import atexit
 import base64
 import hashlib
 import os
 import shutil
 import tempfile
+import time
 import zipfile
 
-from setuptools import Command, Distribution, setup
+from setuptools import Command, setup
 from setuptools.command.build_py import build_py
 
 HERE = os.path.dirname(os.path.realpath(__file__))
 FILES = (os.path.join(HERE, "../out/libmapf.so"), os.path.join(HERE, "../../crates/mapf/out/mapf"))
 BUILT = [path for path in FILES if os.path.isfile(path)]
 PARTS = {"PKG-INFO": "METADATA", "entry_points.txt": "entry_points.txt", "top_level.txt": "top_level.txt"}
+WHEN = time.gmtime(int(os.environ.get("SOURCE_DATE_EPOCH", "315532800")))[:6]
 TAG = "Wheel-Version: 1.0\nGenerator: mapf\nRoot-Is-Purelib: true\nTag: py3-none-{}\n"
 
 
@@ -30,7 +32,10 @@ class WithBuilt(build_py):
 
 
 class Wheel(Command):
-    """The command bdist_wheel: a zip file of the package, its metadata and, at last, the hashes of all of them."""
+    """The command bdist_wheel: a zip file of the package, its metadata and, at last, the hashes of all of them.
+
+    Nothing in it depends on the folder, on the files' times or on their modes; the time is SOURCE_DATE_EPOCH, or 1980.
+    """
 
     user_options = [("dist-dir=", "d", "the folder for the wheel"), ("plat-name=", "p", "the platform")]
 
@@ -59,31 +64,29 @@ class Wheel(Command):
         path = os.path.join(self.dist_dir, f"{name}-py3-none-{self.plat_name}.whl")
         files = sorted(os.path.join(parent, file) for parent, _, files in os.walk(folder) for file in files)
         with zipfile.ZipFile(path, "w", zipfile.ZIP_DEFLATED) as wheel:
-            lines = [added(wheel, file, folder) for file in files]
-            wheel.writestr(record, "".join([*lines, f"{record},,\n"]))
+            lines = [added(wheel, file, os.path.relpath(file, folder)) for file in files]
+            wheel.writestr(entry(record), "".join([*lines, f"{record},,\n"]))
 
 
-def added(wheel, path, folder):
+def entry(name):
+    """The head of a file in a wheel: the program alone can be run."""
+    head, mode = zipfile.ZipInfo(name, WHEN), 0o100755 if name == "mapf/built/mapf" else 0o100644
+    head.compress_type, head.external_attr = zipfile.ZIP_DEFLATED, mode << 16
+    return head
+
+
+def added(wheel, path, name):
     """Adds a file to a wheel, and answers its line of hashes."""
-    name = os.path.relpath(path, folder)
-    wheel.write(path, name)
     with open(path, "rb") as file:
         contents = file.read()
+    wheel.writestr(entry(name), contents)
     digest = base64.urlsafe_b64encode(hashlib.sha256(contents).digest()).decode().rstrip("=")
     return f"{name},sha256={digest},{len(contents)}\n"
-
-
-def makes_wheels():
-    """Whether setuptools, or the package wheel, has the command."""
-    try:
-        return bool(Distribution().get_command_class("bdist_wheel"))
-    except Exception:
-        return False
 
 
 work = tempfile.mkdtemp()
 atexit.register(shutil.rmtree, work, ignore_errors=True)
 platform = {"plat_name": "linux_x86_64"} if BUILT else {}
 setup(
-    cmdclass={"build_py": WithBuilt, **({} if makes_wheels() else {"bdist_wheel": Wheel})},
+    cmdclass={"build_py": WithBuilt, "bdist_wheel": Wheel},
     options={"bdist_wheel": platform, "build": {"build_base": work}, "egg_info": {"egg_base": work}})

@@ -3,9 +3,10 @@ import os
 import shutil
 import subprocess
 import tempfile
+import time
 import unittest
 
-from browser import Browser
+from browser import DEADLINE, Browser
 from support import ROOT, backends, written
 
 PAGE = os.path.join(ROOT, "bindings", "out", "mapf.html")
@@ -34,6 +35,18 @@ class PageTest(unittest.TestCase):
             path = written(self.folder, f"{PageTest.files}.{kind}", text)
             self.browser.choose(f"#file-{kind}", path)
             self.browser.until(f"$('name-{kind}').textContent === '{PageTest.files}.{kind}' && {SETTLED}")
+
+    def saved(self, name):
+        """What the browser saved in a file."""
+        path, ends = os.path.join(self.browser.folder, name), time.monotonic() + DEADLINE
+        while not os.path.exists(path) and time.monotonic() < ends:
+            time.sleep(0.05)
+        with open(path, "rb") as file:
+            return file.read()
+
+    def note(self):
+        """What is said below the verdict's line."""
+        return self.browser.value("$('note').textContent")
 
     def enter(self, field, number):
         """Enters a number in a field, as a reader does."""

@@ -5,6 +5,10 @@ from pages import PageTest
 from support import BAY, CROSSING, command, map_of, scen_of, written
 
 SIDE, AGENTS, STEPS = 2048, 1000, 300
+# The pictures in a second while the plan plays from time 200 on.
+RATE = """new Promise((done) => { const began = performance.now(); let frames = 0;
+  const seen = () => ++frames < 20 ? requestAnimationFrame(seen) : done(20000 / (performance.now() - began));
+  stay(200), setPlaying(true), requestAnimationFrame(seen); })"""
 
 
 class Shown(PageTest):
@@ -19,6 +23,7 @@ class Shown(PageTest):
         self.page(CROSSING, "plan 2 4\n1,0 1,1 1,2\n0,1 1,1 2,1\n")
         self.assertEqual(self.shown(), ("A conflict", "66 vertex conflict agents 0 1 cell 1,1 time 1"))
         self.assertEqual(self.browser.value("[$('count').value, $('solve').disabled, state.plan.end]"), ["2", True, 2])
+        self.assertEqual(self.browser.value("$('why').innerText"), "This page can't solve: it was made with one plan.")
         self.assertIn("Not proved", self.browser.value("document.querySelector('footer').innerText"))
         self.browser.key("c")
         self.assertEqual(self.browser.value("state.time"), 1)
@@ -47,3 +52,7 @@ class Shown(PageTest):
         self.assertEqual(self.browser.value("$('agents').children.length"), AGENTS)
         self.browser.value("stay(150.5)")
         self.assertEqual(self.pixel(150.5, 2 * AGENTS - 2), self.hue(AGENTS - 1))
+        self.browser.value("flip('trails'), Object.assign(camera, { x: 150, y: 300, scale: 12 })")
+        rates = [self.browser.value(RATE) for _ in range(3)]
+        self.assertGreater(max(rates), 15, rates)
+        self.assertNotEqual(self.pixel(100, 600), self.browser.value("colours.floor"))

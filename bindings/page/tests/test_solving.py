@@ -1,9 +1,8 @@
 """The page solves: the program's bytes, a stop, a limit, and no request at all."""
 import os
 import socket
-import time
+import struct
 
-from browser import DEADLINE
 from pages import PAGE, PageTest, program_solve
 from support import EXAMPLES, map_of, scen_of
 
@@ -68,11 +67,12 @@ class Solving(PageTest):
 
     def test_saves_the_plan(self):
         self.browser.click("#save")
-        saved, ends = os.path.join(self.browser.folder, "solved.plan"), time.monotonic() + DEADLINE
-        while not os.path.exists(saved) and time.monotonic() < ends:
-            time.sleep(0.05)
-        with open(saved, encoding="ascii") as file:
-            self.assertEqual(file.read(), self.plan())
+        self.assertEqual(self.saved("solved.plan").decode(), self.plan())
+
+    def test_saves_the_picture(self):
+        self.browser.click("#picture")
+        picture, size = self.saved("solved.png"), self.browser.value("[view.width, view.height]")
+        self.assertEqual((picture[:8], list(struct.unpack(">II", picture[16:24]))), (b"\x89PNG\r\n\x1a\n", size))
 
     def test_stops_a_long_solve(self):
         self.load(map=ENDLESS[0], scen=ENDLESS[1])
@@ -124,5 +124,6 @@ class OldBrowser(PageTest):
         self.assertEqual(self.shown(), ("This browser can't run the checker", ""))
         self.assertIn("64-bit memory", self.browser.value("$('note').textContent"))
         self.load(map=map_of("..."), scen=scen_of(3, 1, (0, 0, 2, 0)), plan="plan 1 2\n0,0 1,0 2,0\n")
+        self.assertIn("64-bit memory", self.browser.value("$('why').innerText"))
         disabled = self.browser.value("[$('solve').disabled, $('play').disabled]")
         self.assertEqual((disabled, self.pixel(0.3, 0)), ([True, False], self.hue()))

@@ -65,7 +65,7 @@ class Verdicts(PageTest):
                 self.assertEqual(self.browser.value("[state.time, state.playing]"), [time, False])
                 self.assertTrue(self.browser.value(f"isSeen(...onScreen({x}, {y}), 20)"))
                 self.browser.value("camera.scale = 100, redraw()")
-                ring = 0.8 * math.sqrt(0.5)
+                ring = 0.56 * math.sqrt(0.5)
                 self.assertEqual(self.pixel(x + ring, y + ring), self.browser.value("colours.bad"))
 
     def test_the_pin_and_the_button_go_to_the_fault(self):
@@ -76,12 +76,33 @@ class Verdicts(PageTest):
             self.assertEqual(self.browser.value("state.time"), 1)
 
     def test_faults_without_a_place(self):
-        for plan, line in (("plan 1 2\n0,0 1,0 2,0\n", "61 agent count 1"), ("none 5\n", "no plan given"),
-                           ("plan 2 5\n" + STRAIGHT, "67 wrong cost stated 5 found 4")):
+        for plan, line in (("none 5\n", "no plan given"), ("plan 2 5\n" + STRAIGHT, "67 wrong cost stated 5 found 4")):
             with self.subTest(line):
                 self.assertEqual(self.judge(OPEN, plan), ("Not valid", line))
                 hidden = self.browser.value("[state.fault, $('go').hidden, $('pin').hidden]")
                 self.assertEqual(hidden, [None, True, True])
+
+    def test_another_number_of_agents_is_no_fault(self):
+        self.assertEqual(self.judge(OPEN, "plan 1 2\n0,0 1,0 2,0\n"), ("Another number of agents", "61 agent count 1"))
+        self.assertEqual(self.browser.value("$('verdict').className"), "card idle")
+        self.assertEqual(self.note(), "The plan has 1: enter 1 above, or solve anew.")
+        self.enter("count", 1)
+        self.assertEqual(self.shown(), ("Valid, cost 2", "valid 2"))
+
+    def test_the_mark_of_a_conflict_hides_no_agent(self):
+        """All nine cells of a map have an agent but one; the first goes over the second's cell."""
+        cells = [(x, y) for y in range(3) for x in range(3)][:8]
+        scen = scen_of(3, 3, (0, 0, 2, 2), *(cell + cell for cell in cells[1:]))
+        plan = "plan 8 4\n0,0 1,0 2,0 2,1 2,2\n" + "".join(f"{x},{y}\n" for x, y in cells[1:])
+        self.load(map=OPEN[0], scen=scen, plan=plan)
+        self.enter("count", 8)
+        self.assertEqual(self.shown()[1], "66 vertex conflict agents 0 1 cell 1,0 time 1")
+        self.browser.key("c")
+        self.browser.value("fit()")
+        for agent, (x, y) in list(enumerate(cells))[2:]:
+            for side, down in ((0.3, 0), (-0.3, 0), (0, 0.3), (0, -0.3)):
+                self.assertEqual(self.pixel(x + side, y + down), self.hue(agent), (agent, side, down))
+        self.assertEqual([self.pixel(0.77, 0.17), self.pixel(1.23, 0.17)], [self.hue(0), self.hue(1)])
 
     def test_a_valid_plan(self):
         self.assertEqual(self.judge(OPEN, "plan 2 4\n" + STRAIGHT), ("Valid, cost 4", "valid 4"))
@@ -95,11 +116,14 @@ class Verdicts(PageTest):
                 self.load(**files)
                 self.enter("count", 2)
                 self.assertEqual(self.shown(), ("Refused", line))
+                name = self.browser.value(f"$('name-{kind}').textContent")
+                self.assertEqual(self.note(), f"{name}: this is the first fault of that file.")
                 self.assertEqual(program_check(files["map"], files["scen"], files["plan"], 2), (3, line))
         self.load(map=OPEN[0], scen=OPEN[1], plan="plan 2 4\n" + STRAIGHT)
         for count in (0, 1001, 2**64 + 2):
             self.enter("count", count)
             self.assertEqual(self.shown(), ("Refused", "21 agent count"))
+            self.assertEqual(self.note(), "Ask for 1 to 1,000 agents.")
 
     def test_the_text_is_judged_as_it_is_typed(self):
         self.load(map=OPEN[0], scen=OPEN[1], plan="plan 2 4\n" + STRAIGHT)

@@ -7,7 +7,7 @@ import json
 import pkgutil
 from typing import Dict, NamedTuple, Optional, Tuple
 
-SCRIPTS = ("reading.js", "calling.js", "drawing.js", "playing.js", "judging.js", "acting.js")
+SCRIPTS = ("reading.js", "formats.js", "calling.js", "drawing.js", "trails.js", "delays.js", "playing.js", "judging.js", "acting.js")
 BEGINS = '<!doctype html>\n<html lang="en" data-page="mapf">\n'
 
 
@@ -29,7 +29,7 @@ def page_of(shown: Shown, module: bytes = b"") -> str:
     """The page; with a module of WebAssembly it judges and solves by itself."""
     files = [[kind, name, contents.decode("latin-1")] for kind, (name, contents) in shown.files.items()]
     given = {"files": files, "agents": shown.agents, "rule": shown.no_following, "verdict": shown.verdict}
-    packed = base64.b64encode(gzip.compress(module, 9)).decode() if module else ""
+    packed = base64.b64encode(gzip.compress(module, 9, mtime=0)).decode() if module else ""
     parts = {
         "@STYLE@": _part("style.css"), "@SCRIPT@": "\n".join(_part(name) for name in SCRIPTS), "@MODULE@": packed,
         "@GIVEN@": json.dumps(given).replace("<", "\\u003c")}

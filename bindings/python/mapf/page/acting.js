@@ -1,4 +1,5 @@
 // What the reader does, and how the page begins.
+const REFUSED = "refused";
 /** @param {string} kind @param {Source | null} source */
 function take(kind, source) {
   const bytes = source?.bytes ?? new Uint8Array(0);
@@ -17,13 +18,47 @@ function take(kind, source) {
 }
 /** @param {FileList} files */
 async function openAll(files) {
+  let note = "";
   for (const file of files) {
     const bytes = new Uint8Array(await file.arrayBuffer()), head = textOf(bytes.subarray(0, 4));
     const kind = { type: "map", vers: "scen" }[head] ?? /\.(map|scen)$/.exec(file.name)?.[1] ?? "plan";
-    take(kind, { name: file.name, bytes });
-    if (kind === "plan" && state.plan) $("count").value = state.plan.paths.length;
+    if (kind === "plan") note = takePlan({ name: file.name, bytes });
+    else take(kind, { name: file.name, bytes });
+    if (note === REFUSED) return;
   }
-  await judge();
+  await judge(note);
+}
+/** Takes a plan of any format that is read here; says of which, or why it is none. */
+function takePlan(/** @type {Source} */ source) {
+  const none = (/** @type {string} */ title, /** @type {string} */ line, /** @type {string} */ note) => {
+    engine.stop();
+    take("plan", null);
+    state.fault = null;
+    show("bad", title, line, note);
+    return REFUSED;
+  };
+  try {
+    const { source: plan, note } = asPlan(source);
+    if (!plan) return none("Not valid", "no plan given", `${source.name} has ${note}.`);
+    take("plan", plan);
+    if (state.plan) $("count").value = state.plan.paths.length;
+    return note;
+  } catch (error) {
+    return none("Refused", /** @type {Error} */ (error).message, firstOf(source.name));
+  }
+}
+/** Saves a file by the browser. */
+function save(/** @type {string | undefined} */ download, /** @type {Blob} */ contents) {
+  const href = URL.createObjectURL(contents);
+  Object.assign(document.createElement("a"), { href, download }).click();
+  URL.revokeObjectURL(href);
+}
+/** Saves what the view shows, by the name of the plan or the map. */
+function savePicture() {
+  const named = state.files.plan ?? state.files.map;
+  if (!named) return;
+  draw();
+  view.toBlob((contents) => { if (contents) save(named.name.replace(/\.[^.]*$/, "") + ".png", contents); });
 }
 /** All beside the canvas that depends on the state. */
 function refresh() {
@@ -32,14 +67,17 @@ function refresh() {
   $("info-map").textContent = grid ? `${grid.width} × ${grid.height}` : "";
   $("info-scen").textContent = files.scen ? `${rows.length} rows` : "";
   $("info-plan").textContent = plan ? `${plan.end} steps` : "";
-  $("solve").disabled = !files.map || !files.scen || !engine.module;
+  $("why").textContent = solverLacks();
+  $("solve").disabled = solverLacks() !== "";
   $("solve").textContent = solving ? "Stop" : "Solve";
   $("save").disabled = !files.plan;
+  $("picture").disabled = !files.map;
   $("time").max = plan?.end ?? 0;
   $("time").disabled = $("play").disabled = $("who").hidden = !plan;
   $("pin").hidden = $("go").hidden = !fault;
   $("pin").style.left = `calc(8px + ${(fault?.at ?? 0) / Math.max(1, plan?.end ?? 0)} * (100% - 16px))`;
   $("moving").setAttribute("d", plan ? onTheWay(plan) : "");
+  drawDelays();
   $("agents").innerHTML = plan?.lasts.map(chip).join("") ?? "";
   painted = "";
   redraw();
@@ -62,7 +100,7 @@ function choose(i) {
   state.chosen = state.chosen === i ? null : i;
   refresh();
 }
-/** @param {"trails" | "goals"} what */
+/** @param {"trails" | "goals" | "delays"} what */
 function flip(what) {
   $(what).setAttribute("aria-pressed", String(state[what] = !state[what]));
   refresh();
@@ -71,13 +109,14 @@ function flip(what) {
 const keys = {
   " ": () => setPlaying(!state.playing), ArrowLeft: () => stay(Math.ceil(state.time) - 1), Home: () => stay(0),
   ArrowRight: () => stay(Math.floor(state.time) + 1), End: () => stay(Infinity), c: goToFault, s: solve,
-  t: () => flip("trails"), g: () => flip("goals"), "[": () => pace(-1), "]": () => pace(1), "+": () => zoom(1.25),
+  t: () => flip("trails"), g: () => flip("goals"), d: () => flip("delays"), p: savePicture,
+  "[": () => pace(-1), "]": () => pace(1), "+": () => zoom(1.25),
   "=": () => zoom(1.25), "-": () => zoom(0.8), 0: fit, Escape: () => choose(null),
   "⇧ArrowLeft": () => slide(-60, 0), "⇧ArrowRight": () => slide(60, 0), "⇧ArrowUp": () => slide(0, -60),
   "⇧ArrowDown": () => slide(0, 60),
 };
-const buttons = { play: " ", back: "ArrowLeft", step: "ArrowRight", solve: "s", trails: "t", goals: "g", pin: "c",
-  go: "c", in: "+", out: "-", fit: "0" };
+const buttons = { play: " ", back: "ArrowLeft", step: "ArrowRight", solve: "s", trails: "t", goals: "g",
+  delays: "d", picture: "p", pin: "c", go: "c", in: "+", out: "-", fit: "0" };
 for (const [id, key] of Object.entries(buttons)) $(id).onclick = () => keys[key]();
 addEventListener("keydown", (event) => {
   const at = /** @type {HTMLElement} */ (event.target), { key } = event;
@@ -89,11 +128,7 @@ addEventListener("keydown", (event) => {
 });
 $("time").oninput = () => stay(Number($("time").value));
 $("count").onchange = $("rule").onchange = () => judge();
-$("save").onclick = () => {
-  const { plan } = state.files, href = URL.createObjectURL(new Blob([plan?.bytes ?? ""]));
-  Object.assign(document.createElement("a"), { href, download: plan?.name }).click();
-  URL.revokeObjectURL(href);
-};
+$("save").onclick = () => save(state.files.plan?.name, new Blob([state.files.plan?.bytes ?? ""]));
 $("agents").onclick = (/** @type {any} */ { target }) => {
   const i = [...$("agents").children].indexOf(target.closest("button"));
   if (i >= 0) choose(i);

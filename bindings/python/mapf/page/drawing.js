@@ -4,12 +4,12 @@ const state = {
   /** @type {Record<string, Source | null>} */ files: { map: null, scen: null, plan: null },
   grid: /** @type {?Grid} */ (null), rows: /** @type {number[][]} */ ([]), chosen: /** @type {?number} */ (null),
   plan: /** @type {?Plan} */ (null), fault: /** @type {?Fault} */ (null),
-  time: 0, playing: false, trails: false, goals: true, solving: false,
+  time: 0, playing: false, trails: false, goals: true, delays: false, solving: false,
 };
 /** The pixels of a cell, and the middle of the view in cells. */
 const camera = { scale: 20, x: 0, y: 0 };
 /** @type {HTMLCanvasElement} */ const view = $("view");
-const walls = document.createElement("canvas"), ground = document.createElement("canvas");
+const [walls, heat, ground, sheet] = [1, 2, 3, 4].map(() => document.createElement("canvas"));
 const penOf = (/** @type {any} */ canvas) => /** @type {CanvasRenderingContext2D} */ (canvas.getContext("2d"));
 const pen = penOf(view), paint = penOf(ground), dark = matchMedia("(prefers-color-scheme: dark)");
 const colours = /** @type {Record<string, string>} */ ({}), hues = /** @type {string[]} */ ([]);
@@ -25,14 +25,19 @@ function readColours() {
   probe.remove();
   for (let i = 0; i < 1000; i++) hues[i] = `hsl(${(i * 137.508 + 5) % 360} ${dark.matches ? "75% 68%" : "65% 45%"})`;
 }
-/** The walls as one pixel a cell; the floor is left out. */
+/** Cells as one pixel each, in a colour; how much of it, from 0 to 255, is asked for each.
+ * @param {HTMLCanvasElement} canvas @param {string} colour @param {(cell: number) => number} much */
+function paintCells(canvas, /** @type {number} */ width, /** @type {number} */ height, colour, much) {
+  [canvas.width, canvas.height] = [width, height];
+  const image = penOf(canvas).createImageData(width, height), pixels = new Uint32Array(image.data.buffer);
+  const [red, green, blue] = numbers(colour);
+  for (let i = 0; i < pixels.length; i++) pixels[i] = (much(i) << 24) | (blue << 16) | (green << 8) | red;
+  penOf(canvas).putImageData(image, 0, 0);
+}
+/** The walls; the floor is left out. */
 function drawWalls() {
   const { width, height, free } = state.grid ?? { width: 1, height: 1, free: [1] };
-  [walls.width, walls.height] = [width, height];
-  const image = penOf(walls).createImageData(width, height), pixels = new Uint32Array(image.data.buffer);
-  const [red, green, blue] = (colours.wall.match(/\d+/g) ?? []).map(Number);
-  for (let i = 0; i < pixels.length; i++) if (!free[i]) pixels[i] = (255 << 24) | (blue << 16) | (green << 8) | red;
-  penOf(walls).putImageData(image, 0, 0);
+  paintCells(walls, width, height, colours.wall, (cell) => (free[cell] ? 0 : 255));
 }
 /** @param {Plan} plan @param {number} i @param {number} time @returns {[number, number]} between two cells, too */
 function place(plan, i, time) {
@@ -60,9 +65,10 @@ function draw() {
   pen.setTransform(1, 0, 0, 1, 0, 0);
   pen.drawImage(ground, 0, 0);
   pen.setTransform(ratio, 0, 0, ratio, 0, 0);
-  if (plan) plan.paths.forEach((_, i) => { if (state.trails || i === state.chosen) drawTrail(plan, i); });
-  agents().forEach(([x, y], i) => drawAgent(i, ...onScreen(x, y)));
-  if (plan && fault) drawFault(plan, fault);
+  if (plan) drawTrails(plan, look, ratio);
+  const beside = plan && fault ? inOnePlace(plan, fault) : [];
+  agents().forEach(([x, y], i) => { if (!beside.includes(i)) drawAgent(i, ...onScreen(x, y)); });
+  if (fault) drawFault(fault, beside);
 }
 /** @param {number[]} size in the screen's pixels @param {number} ratio of those to the page's */
 function drawGround(size, ratio) {
@@ -79,7 +85,7 @@ function drawGround(size, ratio) {
   for (let x = left; s >= 7 && x < right; x += s) fill(colours.grid, [Math.round(x), top, Math.round(x) + 1, bottom]);
   for (let y = top; s >= 7 && y < bottom; y += s) fill(colours.grid, [left, Math.round(y), right, Math.round(y) + 1]);
   paint.imageSmoothingEnabled = s < 1;
-  paint.drawImage(walls, left, top, right - left, bottom - top);
+  for (const cells of [heat, walls]) paint.drawImage(cells, left, top, right - left, bottom - top);
   if (state.goals) agents().forEach((_, i) => drawGoal(i));
 }
 /** @param {number} i */
@@ -95,21 +101,8 @@ function drawGoal(i) {
   paint.fillRect(x - half, y - half, 2 * half, 2 * half);
   paint.globalAlpha = 1;
 }
-/** Where agent i went; of the chosen one all of its way. */
-function drawTrail(/** @type {Plan} */ plan, /** @type {number} */ i) {
-  const path = plan.paths[i], now = i === state.chosen ? plan.lasts[i] : Math.min(state.time, plan.lasts[i]);
-  pen.strokeStyle = hues[i];
-  pen.lineJoin = pen.lineCap = "round";
-  pen.lineWidth = Math.max(1.2, camera.scale * 0.13);
-  pen.globalAlpha = faint(i) ? 0.12 : 0.6;
-  pen.beginPath();
-  for (let t = 0; t <= now; t++) pen.lineTo(...onScreen(path[2 * t], path[2 * t + 1]));
-  pen.lineTo(...onScreen(...place(plan, i, now)));
-  pen.stroke();
-  pen.globalAlpha = 1;
-}
-/** @param {number} i @param {number} x @param {number} y of its middle on the screen */
-function drawAgent(i, x, y) {
+/** @param {number} i @param {number} x @param {number} y of its middle on the screen @param {number} size in cells */
+function drawAgent(i, x, y, size = 0.4) {
   const s = camera.scale;
   if (!isSeen(x, y, -s)) return;
   pen.globalAlpha = faint(i) ? 0.3 : 1;
@@ -117,10 +110,10 @@ function drawAgent(i, x, y) {
   pen.strokeStyle = i === state.chosen ? colours.ink : colours.floor;
   pen.lineWidth = Math.max(0.8, s * 0.05);
   pen.beginPath();
-  pen.arc(x, y, Math.max(3, s * 0.4), 0, 7);
+  pen.arc(x, y, Math.max(3, s * size), 0, 7);
   pen.fill();
   if (s >= 8 || i === state.chosen) pen.stroke();
-  if (s >= 15) drawWords(String(i), x, y, s * (i < 100 ? 0.42 : 0.32), colours.number);
+  if (s * size >= 6) drawWords(String(i), x, y, s * size * (i < 100 ? 1.05 : 0.8), colours.number);
   pen.globalAlpha = 1;
 }
 /** @param {string} text @param {number} x @param {number} y @param {number} size @param {string} colour */
@@ -130,12 +123,17 @@ function drawWords(text, x, y, size, colour) {
   [pen.textAlign, pen.textBaseline] = ["center", "middle"];
   pen.fillText(text, x, y + size * 0.05);
 }
-/** A ring; near its time what it is; two agents in one place side by side. */
-function drawFault(/** @type {Plan} */ plan, /** @type {Fault} */ fault) {
-  const [x, y] = onScreen(...fault.middle), s = Math.max(camera.scale, 9), radius = 0.8 * s;
-  const near = 1 - Math.abs(state.time - fault.at) / 1.5, at = fault.agents.map((i) => place(plan, i, state.time));
-  const apart = at[1] && Math.hypot(at[0][0] - at[1][0], at[0][1] - at[1][1]);
-  if (apart < 0.3) fault.agents.forEach((i, side) => drawAgent(i, x + (side - 0.5) * s * 0.7, y));
+/** The two agents of a fault, while they are in one place. */
+function inOnePlace(/** @type {Plan} */ plan, /** @type {Fault} */ { agents: [a, b] }) {
+  const [at, other] = [a, b ?? a].map((i) => place(plan, i, state.time));
+  return a !== (b ?? a) && Math.hypot(at[0] - other[0], at[1] - other[1]) < 0.3 ? [a, b] : [];
+}
+/** A ring around a cell, and two agents in one place side by side in it; near its time what it is.
+ * @param {Fault} fault @param {number[]} beside */
+function drawFault({ middle, at, says }, beside) {
+  const [x, y] = onScreen(...middle), s = Math.max(camera.scale, 9), radius = 0.56 * s;
+  const near = 1 - Math.abs(state.time - at) / 1.5, apart = Math.max(3, 0.23 * s);
+  beside.forEach((i, side) => drawAgent(i, x + (2 * side - 1) * apart, y, 0.23));
   pen.globalAlpha = 0.35 + 0.65 * Math.max(0, near);
   pen.strokeStyle = pen.fillStyle = colours.bad;
   pen.lineWidth = Math.max(1.5, s * 0.08);
@@ -145,8 +143,19 @@ function drawFault(/** @type {Plan} */ plan, /** @type {Fault} */ fault) {
   pen.globalAlpha = 1;
   if (near <= 0) return;
   pen.font = "600 13px system-ui, sans-serif";
-  const half = pen.measureText(fault.says).width / 2 + 10, top = Math.max(8, y - radius - 36);
-  const middle = Math.min(Math.max(8 + half, x), view.clientWidth - half - 8);
-  pen.fillRect(middle - half, top, 2 * half, 26);
-  drawWords(fault.says, middle, top + 13, 13, colours.card);
+  const half = pen.measureText(says).width / 2 + 10, [left, top] = roomFor(half, x, y, radius);
+  pen.fillRect(left - half, top - 13, 2 * half, 26);
+  drawWords(says, left, top, 13, colours.card);
+}
+/** The middle of a box, 26 high, that hides no agent: at a place, or else at the view's edge.
+ * @param {number} half its width @param {number} x @param {number} y @param {number} radius @returns {number[]} */
+function roomFor(half, x, y, radius) {
+  const { clientWidth: wide, clientHeight: high } = view, middle = Math.min(Math.max(8 + half, x), wide - half - 8);
+  const spots = [[middle, y - radius - 23], [middle, y + radius + 23], [x + radius + half + 10, y],
+    [x - radius - half - 10, y], [middle, 14], [middle, high - 14]];
+  const taken = agents().map(([x, y]) => onScreen(x, y)), body = Math.max(3, camera.scale * 0.4);
+  const isFree = (/** @type {number[]} */ [left, top]) =>
+    left >= half && left + half <= wide && top >= 14 && top + 14 <= high &&
+    taken.every(([x, y]) => Math.abs(x - left) > half + body || Math.abs(y - top) > 13 + body);
+  return spots.find(isFree) ?? spots[4];
 }

@@ -10,16 +10,33 @@ function show(look, title, line, note) {
   refresh();
 }
 const spent = (/** @type {number} */ ms) => (ms < 1000 ? `${Math.ceil(ms)} ms` : `${(ms / 1000).toFixed(1)} s`);
+const firstOf = (/** @type {string | undefined} */ name) => `${name}: this is the first fault of that file.`;
+/** Of which file a refusal is, and where none is: of which number. */
+function causeOf(/** @type {string} */ line) {
+  const number = parseInt(line);
+  const long = { map: "map", scenario: "scen", plan: "plan" }[line.replace("53 too long ", "")];
+  const kind = long ?? (number < 10 ? "map" : number < 30 ? "scen" : number < 40 ? "plan" : "");
+  if (number === 21) return "Ask for 1 to 1,000 agents.";
+  return kind ? firstOf(state.files[kind]?.name) : "Ask for another number.";
+}
+/** Why nothing can be solved; empty where it can. */
+function solverLacks() {
+  if (!engine.size) return "This page can't solve: it was made with one plan.";
+  if (!engine.module) return "This browser can't solve: it lacks 64-bit memory.";
+  return state.files.map && state.files.scen ? "" : "Solve needs a map and a scenario.";
+}
 /** Says what the checker answered. */
 function tell(/** @type {number} */ status, /** @type {string} */ line, /** @type {string} */ note) {
   if (status === 1 && state.plan) state.fault = readFault(line, state.plan);
   if (status === 0) show("good", `Valid, cost ${line.split(" ")[1]}`, line, note);
+  else if (line.startsWith("61")) show("idle", "Another number of agents", line, other(line.split(" ")[3]));
   else if (status === 1) show("bad", line.startsWith("66") ? "A conflict" : "Not valid", line, note);
   else if (status === STOPPED) show("idle", "Stopped", "", "");
   else if (status === FAILED) show("bad", "No verdict", line, "The page or the browser failed.");
   else if (status === 4) show("bad", "Out of memory", line, "Take fewer agents, or a limit on nodes.");
-  else show("bad", "Refused", line, "The line names the first fault of the files and numbers.");
+  else show("bad", "Refused", line, causeOf(line));
 }
+const other = (/** @type {string} */ count) => `The plan has ${count}: enter ${count} above, or solve anew.`;
 /** Judges the plan by the proved checker, if all three files are there. */
 async function judge(/** @type {string} */ note = "") {
   const { map, scen, plan } = state.files;
