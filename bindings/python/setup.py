@@ -37,10 +37,12 @@ class Wheel(Command):
     Nothing in it depends on the folder, on the files' times or on their modes; the time is SOURCE_DATE_EPOCH, or 1980.
     """
 
-    user_options = [("dist-dir=", "d", "the folder for the wheel"), ("plat-name=", "p", "the platform")]
+    user_options = [
+        ("dist-dir=", "d", "the folder for the wheel"), ("plat-name=", "p", "the platform"),
+        ("dist-info-dir=", None, "metadata that newer setuptools made before; it is made here again")]
 
     def initialize_options(self):
-        self.dist_dir = self.plat_name = None
+        self.dist_dir = self.plat_name = self.dist_info_dir = None
 
     def finalize_options(self):
         self.dist_dir, self.plat_name = self.dist_dir or "dist", self.plat_name or "any"

@@ -123,10 +123,10 @@ class Playing(PageTest):
         """Agent 0 leaves its goal for the bay: a step away is 2. In the other plan it waits there before: one more."""
         floor = self.browser.value("colours.floor")
         self.browser.click("#delays")
-        for plan, said in (("plan 2 4\n1,0 1,1 1,0\n0,0 1,0 2,0\n", "2 steps, on a cell 2 at most"),
-                           ("plan 2 6\n1,0 1,0 1,1 1,0\n0,0 0,0 1,0 2,0\n", "4 steps, on a cell 3 at most")):
+        for plan, said in (("plan 2 4\n1,0 1,1 1,0\n0,0 1,0 2,0\n", "2, on a cell 2 at most"),
+                           ("plan 2 6\n1,0 1,0 1,1 1,0\n0,0 0,0 1,0 2,0\n", "4, on a cell 3 at most")):
             self.load(map=BAY[0], scen=BAY[1], plan=plan)
-            self.assertEqual(self.browser.value("$('delay').innerText"), "Waiting and detours: " + said)
+            self.assertEqual(self.browser.value("$('delay').innerText"), "Steps of waiting and detours: " + said)
         self.browser.value("stay(1)")
         waited, delayed, other = (self.pixel(x + 0.45, 0.45) for x in range(3))
         self.assertEqual(len({delayed, waited, floor}), 3)

@@ -43,15 +43,20 @@ class Shown(PageTest):
         self.assertEqual(self.shown(), ("No verdict", ""))
 
     def test_the_largest_map_and_a_thousand_agents(self):
-        """Each agent goes along a row of its own."""
+        """Each agent goes along a row of its own; the last waits once."""
         ends = [(0, 2 * i, STEPS, 2 * i) for i in range(AGENTS)]
         lines = [" ".join(f"{x},{y}" for x in range(STEPS + 1)) for _, y, _, _ in ends]
-        plan = "\n".join([f"plan {AGENTS} {AGENTS * STEPS}", *lines, ""])
+        lines[-1] = lines[-1].replace("100,1998", "100,1998 100,1998")
+        cost = AGENTS * STEPS + 1
+        plan = "\n".join([f"plan {AGENTS} {cost}", *lines, ""])
         self.page((map_of(" ".join(["." * SIDE] * SIDE)), scen_of(SIDE, SIDE, *ends)), plan)
-        self.assertEqual(self.shown(), (f"Valid, cost {AGENTS * STEPS}", f"valid {AGENTS * STEPS}"))
+        self.assertEqual(self.shown(), (f"Valid, cost {cost}", f"valid {cost}"))
         self.assertEqual(self.browser.value("$('agents').children.length"), AGENTS)
         self.browser.value("stay(150.5)")
-        self.assertEqual(self.pixel(150.5, 2 * AGENTS - 2), self.hue(AGENTS - 1))
+        self.assertEqual(self.pixel(149.5, 2 * AGENTS - 2), self.hue(AGENTS - 1))
+        self.browser.click("#delays")
+        self.assertEqual(self.browser.value("$('delay').innerText"), "Steps of waiting: 1, on a cell 1 at most")
+        self.browser.click("#delays")
         self.browser.value("flip('trails'), Object.assign(camera, { x: 150, y: 300, scale: 12 })")
         rates = [self.browser.value(RATE) for _ in range(3)]
         self.assertGreater(max(rates), 15, rates)

@@ -90,19 +90,19 @@ class Verdicts(PageTest):
         self.assertEqual(self.shown(), ("Valid, cost 2", "valid 2"))
 
     def test_the_mark_of_a_conflict_hides_no_agent(self):
-        """All nine cells of a map have an agent but one; the first goes over the second's cell."""
-        cells = [(x, y) for y in range(3) for x in range(3)][:8]
-        scen = scen_of(3, 3, (0, 0, 2, 2), *(cell + cell for cell in cells[1:]))
-        plan = "plan 8 4\n0,0 1,0 2,0 2,1 2,2\n" + "".join(f"{x},{y}\n" for x, y in cells[1:])
+        """All nine cells of a map have an agent but one; the first goes over the second's, in the middle."""
+        cells = [(0, 1), (1, 1), (0, 0), (1, 0), (2, 0), (2, 1), (0, 2), (1, 2)]
+        scen = scen_of(3, 3, (0, 1, 2, 2), *(cell + cell for cell in cells[1:]))
+        plan = "plan 8 3\n0,1 1,1 2,1 2,2\n" + "".join(f"{x},{y}\n" for x, y in cells[1:])
         self.load(map=OPEN[0], scen=scen, plan=plan)
         self.enter("count", 8)
-        self.assertEqual(self.shown()[1], "66 vertex conflict agents 0 1 cell 1,0 time 1")
+        self.assertEqual(self.shown()[1], "66 vertex conflict agents 0 1 cell 1,1 time 1")
         self.browser.key("c")
         self.browser.value("fit()")
         for agent, (x, y) in list(enumerate(cells))[2:]:
-            for side, down in ((0.3, 0), (-0.3, 0), (0, 0.3), (0, -0.3)):
+            for side, down in ((0.22, 0), (-0.22, 0), (0, 0.22), (0, -0.22), (0, 0.33), (0, -0.33)):
                 self.assertEqual(self.pixel(x + side, y + down), self.hue(agent), (agent, side, down))
-        self.assertEqual([self.pixel(0.77, 0.17), self.pixel(1.23, 0.17)], [self.hue(0), self.hue(1)])
+        self.assertEqual([self.pixel(0.77, 1.17), self.pixel(1.23, 1.17)], [self.hue(0), self.hue(1)])
 
     def test_a_valid_plan(self):
         self.assertEqual(self.judge(OPEN, "plan 2 4\n" + STRAIGHT), ("Valid, cost 4", "valid 4"))
