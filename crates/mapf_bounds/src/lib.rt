@@ -11,4 +11,4 @@ mod turn;
 mod waiting;
 
 pub use bound::Bound;
-pub use solving::{finish_by_bounds, solve_alone};
+pub use solving::{finish_by_bounds, solve_by_bounds};

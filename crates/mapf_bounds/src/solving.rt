@@ -16,7 +16,7 @@ use crate::waiting::{Waiting, admit_own};
 use mapf_grid::NoMemory;
 use mapf_optimum::{NoWatch, Watch, solve_any_up_to};
 use mapf_plan::Answer;
-use mapf_tree::{Key, OpenList, OwnPaths, Problem, Progress, Search};
+use mapf_tree::{Key, OpenList, OwnPaths, Problem, Progress, Search, solve_alone};
 use std::alloc::Global;
 use std::collections::BTreeMap;
 
@@ -26,21 +26,21 @@ const KEYED_NODES: u64 = 256;
 /// How many nodes the search for the optimal cost expands, at most.
 const OPTIMUM_NODES: u64 = 300;
 
-/// Solves a problem on this thread.
+/// Solves a problem on this thread. The answer is that of [`solve_alone`], mostly from a small part of the nodes where there is no limit
+/// on them.
 ///
-/// The answer is the plan of the constraint tree's first solution, or none; with a limit on nodes, it may be that the search gave up.
 /// An error is that memory ran out.
-pub fn solve_alone(alloc: Global, problem: &Problem) -> Result<Answer, NoMemory>
+pub fn solve_by_bounds(alloc: Global, problem: &Problem) -> Result<Answer, NoMemory>
     ensures answer { IfOk result (IsAnswerOf problem.now) }
     ensures best { IfOk result (IsBestAnswer problem.now) }
 {
+    if problem.nodes().is_some() {
+        return solve_alone(alloc, problem);
+    }
     let mut paths = OwnPaths::new(alloc, problem)?;
     let mut search = Search::new(alloc, problem)?;
-    if problem.nodes().is_some() {
-        return search.finish(&mut paths);
-    }
     if let Progress::Finished = search.go(&mut paths, KEYED_NODES)? {
-        return search.into_answer().ok_or(NoMemory);
+        return search.finish(&mut paths);
     }
     finish_by_bounds(alloc, search, paths, &mut NoWatch)
 }

@@ -24,7 +24,7 @@ pub use answers::{answer, answer_watched};
 pub use any_answers::{answer_any, answer_any_alone, answer_any_watched};
 pub use any_runs::{run_any, run_any_watched};
 pub use ask::Ask;
-pub use mapf_bounds::solve_alone;
+pub use mapf_bounds::solve_by_bounds;
 pub use mapf_optimum::{NoWatch, Watch};
 pub use means::Means;
 pub use pace::{MOST_SESSION_NODES, MOST_WORKER_TURNS, Pace};

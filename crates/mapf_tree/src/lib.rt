@@ -1,6 +1,7 @@
 //! The constraint tree of conflict-based search, and the search in it.
 #![tactic(auto)]
 
+mod alone;
 pub mod laws;
 mod node;
 mod open_list;
@@ -8,6 +9,7 @@ mod own_paths;
 mod search;
 mod tree;
 
+pub use alone::solve_alone;
 pub use node::Node;
 pub use node::current_paths::CurrentPaths;
 pub use open_list::{First, OpenList};
