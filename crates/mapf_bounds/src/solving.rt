@@ -5,7 +5,7 @@ ghost use Rattle.mapf_tree.specs.Answered.{IsAnswerOf, IsBestAnswer};
 ghost use Rattle.mapf_optimum.specs.AnyAnswer.{IsAnyAnswerUpTo};
 ghost use Rattle.mapf_bounds.specs.Bounds.{IsRange};
 ghost use Rattle.mapf_tree.specs.Answered.{IsStated};
-ghost use Rattle.mapf_tree.specs.LowerBound.{IsBelowAll, least_stated};
+ghost use Rattle.mapf_tree.specs.LowerBound.{IsBelowAll};
 ghost use Rattle.mapf_tree.specs.Problem.{Problem};
 ghost use Rattle.mapf_bounds.specs.Below.{IsEnough};
 ghost use Rattle.mapf_bounds.specs.Waiting.{IsCovering, IsMoving};
@@ -16,7 +16,7 @@ use crate::waiting::{Waiting, admit_own};
 use mapf_grid::NoMemory;
 use mapf_optimum::{NoWatch, Watch, solve_any_up_to};
 use mapf_plan::Answer;
-use mapf_tree::{Key, OpenList, OwnPaths, Problem, Progress, Search, solve_alone};
+use mapf_tree::{Key, OpenList, OwnPaths, Problem, Progress, Search, least_stated, solve_alone};
 use std::alloc::Global;
 use std::collections::BTreeMap;
 
@@ -155,16 +155,5 @@ fn search_by_bounds<W: Watch>(
                 return Ok(answer);
             }
         }
-    }
-}
-
-/// What each plan without conflict costs at least, as an answer states it.
-fn least_stated(answer: &Answer) -> u64
-    ensures { result ≡ least_stated answer.now }
-{
-    match answer {
-        Answer::Plan { stated, .. } => *stated,
-        Answer::None { bound } => u64::from(*bound) + 1,
-        Answer::GaveUp { least, .. } => *least,
     }
 }

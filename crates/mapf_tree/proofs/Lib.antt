@@ -31,4 +31,4 @@ pub mod OpenNodes
 pub mod Expansions
 pub mod Remaining
 pub mod GoingOn
-mod LowerBounds
+pub mod LowerBounds

@@ -9,7 +9,8 @@ use Rattle.mapf_bounds.specs.Bounds.{Bounding, IsRange}
 use Rattle.mapf_bounds.specs.Below.{IsEnough}
 use Rattle.mapf_bounds.specs.Waiting.{IsCovering, IsMoving}
 use Rattle.mapf_bounds.proofs.Moving.{moves_first}
-use Rattle.mapf_bounds.proofs.Turns.{stated_answer, stated_below}
+use Rattle.mapf_tree.proofs.LowerBounds.{stated_below}
+use Rattle.mapf_bounds.proofs.Turns.{stated_answer}
 use Rattle.mapf_bounds.proofs.solving.finish_by_bounds.Goals as goal
 
 pub nodes_expanded-requires : goal.nodes_expanded-requires

@@ -4,7 +4,8 @@ use Rattle.mapf_tree.specs.Problem.{Problem}
 use Rattle.mapf_bounds.specs.Bounds.{Bounding}
 use Rattle.mapf_bounds.specs.Below.{IsEnough}
 use Rattle.mapf_bounds.specs.Waiting.{IsCovering, IsTurn}
-use Rattle.mapf_bounds.proofs.Turns.{branches_cover, raises_cover, stated_below}
+use Rattle.mapf_tree.proofs.LowerBounds.{stated_below}
+use Rattle.mapf_bounds.proofs.Turns.{branches_cover, raises_cover}
 use Rattle.mapf_bounds.proofs.Weights.{branches_fall, raises_fall, total}
 use Rattle.mapf_bounds.proofs.solving.search_by_bounds.Goals as goal
 
