@@ -14,7 +14,7 @@ mod order;
 
 use crate::PairBound;
 use crate::agents::{copy_paths, copy_sets, empty_sets};
-use crate::guesses::{Occupancy, branching_conflict, colliding_pairs};
+use crate::guesses::{Occupancy, branching_conflict, colliding_pairs, conflicts_without};
 use crate::least_paths::LeastPaths;
 use crate::low_level::LowLevel;
 use crate::pair_bounds::{pair_bounds, pairs_without};
@@ -39,8 +39,10 @@ pub struct FreeNode {
     collisions: usize,
     /// Whether the label was found from the pairs.
     is_bounded: bool,
-    /// The conflicts of the plan that were found then.
+    /// The conflicts of the plan that were found then; before, those that it has in common with its parent.
     conflicts: Vec<Conflict>,
+    /// Whose path differs from its parent's.
+    changed: Option<usize>,
 }
 
 // By hand, so that a proof about what holds one sees a call where it is dropped, and not its fields.
@@ -54,6 +56,7 @@ impl Drop for FreeNode {
             collisions: _,
             is_bounded: _,
             conflicts: _,
+            changed: _,
         } = self;
     }
 }
@@ -106,6 +109,7 @@ impl FreeNode {
             collisions: 0,
             is_bounded: false,
             conflicts: Vec::new(alloc),
+            changed: None,
         }
     }
 
@@ -161,6 +165,7 @@ impl FreeNode {
             collisions: _,
             is_bounded: _,
             conflicts: _,
+            changed: _,
         } = self;
         plan
     }
@@ -184,9 +189,10 @@ impl FreeNode {
             label,
             collisions: _,
             is_bounded: _,
-            conflicts: _,
+            conflicts,
+            changed,
         } = self;
-        let (plan, conflicts) = settled(alloc, low, &sets, &plan, occupancy)?;
+        let (plan, conflicts) = settled(alloc, low, &sets, &plan, changed, conflicts, occupancy)?;
         let pairs = pair_bounds(alloc, low, &sets, &plan, known, &conflicts)?;
         let surplus = disjoint_surplus(alloc, &plan, &pairs)?;
         let label = label.max(plan.cost().saturating_add(surplus));
@@ -202,6 +208,7 @@ impl FreeNode {
             collisions,
             is_bounded: true,
             conflicts,
+            changed: None,
         }))
     }
 
@@ -257,7 +264,8 @@ impl FreeNode {
             label,
             collisions: self.collisions,
             is_bounded: false,
-            conflicts: Vec::new(alloc),
+            conflicts: conflicts_without(alloc, &self.conflicts, agent)?,
+            changed: Some(agent),
         })
     }
 

@@ -69,7 +69,7 @@ fn search_from<W: Watch>(
 {
     let waiting = begin(alloc, problem, paths)?;
     let low = LowLevel::new(alloc, problem)?;
-    let mut occupancy = Occupancy::new(alloc, problem.instance().map())?;
+    let mut occupancy = Occupancy::new(alloc, problem)?;
     search(alloc, &low, waiting, &mut occupancy, nodes, watch)
 }
 

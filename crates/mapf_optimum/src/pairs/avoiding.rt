@@ -78,8 +78,9 @@ fn add_next(
 ) -> Result<(), NoMemory> {
     let next = time.saturating_add(1);
     let (was, is) = (other.at(time), other.at(next));
+    let is_forbidden = agent.is_forbidden_at(next);
     for from in cells {
-        for to in agent.moves(alloc, *from, next)?.as_slice() {
+        for to in agent.moves(alloc, *from, next, is_forbidden)?.as_slice() {
             if !do_steps_collide(rule, *from, *to, was, is) {
                 reached.add(*to)?;
             }
