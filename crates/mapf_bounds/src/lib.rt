@@ -5,7 +5,6 @@ mod bound;
 mod collisions;
 pub mod laws;
 mod node_bounds;
-mod pair_costs;
 mod solving;
 mod turn;
 mod waiting;

@@ -15,3 +15,4 @@ pub mod TwoAgents
 mod StartTables
 mod Bounding
 pub mod Steps
+pub mod KnownPairs

@@ -6,3 +6,4 @@ pub mod Laws
 pub mod Dependence
 pub mod Steps
 pub mod TwoAgents
+pub mod KnownPairs

@@ -8,6 +8,7 @@ ghost use Rattle.mapf_plan.specs.declared.answer.TheConstants.{MOST_BOUND};
 ghost use Rattle.mapf_tree.specs.Family.{Leaves, AreRootPaths};
 ghost use Rattle.mapf_optimum.specs.FreeTree.{IsFreeNode, IsChoice};
 ghost use Rattle.mapf_optimum.specs.FreeSearch.{IsRootOf, IsSideOf, IsBounded};
+ghost use Rattle.mapf_optimum.specs.KnownPairs.{AreKnown};
 ghost use Rattle.mapf_optimum.specs.TwoAgents.{IsFreshNode};
 
 mod order;
@@ -18,6 +19,7 @@ use crate::guesses::{Occupancy, branching_conflict, colliding_pairs, conflicts_w
 use crate::least_paths::LeastPaths;
 use crate::low_level::LowLevel;
 use crate::pair_bounds::{pair_bounds, pairs_without};
+use crate::pair_costs::PairCosts;
 use crate::pairs::disjoint_surplus;
 use crate::settling::settled;
 use mapf_grid::NoMemory;
@@ -177,9 +179,12 @@ impl FreeNode {
         alloc: Global,
         low: &LowLevel<'_>,
         occupancy: &mut Occupancy,
+        costs: &mut PairCosts,
     ) -> Result<Option<FreeNode>, NoMemory>
-        requires { IsFreeNode low.now self }
-        ensures { IfOk result (IsBounded low.now self) }
+        requires node { IsFreeNode low.now self }
+        requires costs { AreKnown low.now costs.old }
+        ensures costs { AreKnown low.now costs.new }
+        ensures bounded { IfOk result (IsBounded low.now self) }
     {
         let problem = low.problem();
         let FreeNode {
@@ -193,7 +198,7 @@ impl FreeNode {
             changed,
         } = self;
         let (plan, conflicts) = settled(alloc, low, &sets, &plan, changed, conflicts, occupancy)?;
-        let pairs = pair_bounds(alloc, low, &sets, &plan, known, &conflicts)?;
+        let pairs = pair_bounds(alloc, low, &sets, &plan, known, &conflicts, costs)?;
         let surplus = disjoint_surplus(alloc, &plan, &pairs)?;
         let label = label.max(plan.cost().saturating_add(surplus));
         if label > u64::from(problem.bound()) {

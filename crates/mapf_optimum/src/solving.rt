@@ -8,6 +8,7 @@ ghost use Rattle.mapf_optimum.specs.FreeSearch.{IsUnderWay};
 use crate::expansion::expand;
 use crate::guesses::Occupancy;
 use crate::low_level::LowLevel;
+use crate::pair_costs::PairCosts;
 use crate::waiting::Waiting;
 use crate::{FreeNode, Watch};
 use mapf_grid::NoMemory;
@@ -99,6 +100,7 @@ fn search<W: Watch>(
 {
     let problem = low.problem();
     let mut waiting = waiting;
+    let mut costs = PairCosts::new(alloc);
     let mut nodes = 0;
     'steps: loop {
         let Some(node) = waiting.take_least() else {
@@ -107,7 +109,7 @@ fn search<W: Watch>(
             return Ok(Answer::None { bound });
         };
         if !node.is_bounded() {
-            waiting.put(node.bounded(alloc, low, occupancy)?)?;
+            waiting.put(node.bounded(alloc, low, occupancy, &mut costs)?)?;
             continue 'steps;
         }
         watch.nodes_expanded(problem, nodes, node.label());
