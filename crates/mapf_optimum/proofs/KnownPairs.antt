@@ -1,5 +1,5 @@
 -- What is remembered of pairs stays so.
-use Rattle.std.proofs.Common.{◌≡◌, ◌⊎◌, ℕ, List, [], ◌∷◌, ◌++◌, Contains, inl, inr, ap, subst, sym, ◌∙◌}
+use Rattle.std.proofs.Common.{◌≡◌, ℕ, List, [], ◌∷◌, ◌++◌, Contains, inl, inr, ap, subst, sym}
 use Rattle.std.proofs.lemmas.List.Elements.{Contains-push_cases}
 use Rattle.mapf_grid.proofs.Members.{nowhere}
 use Rattle.mapf_tree.specs.Problem.{Problem}

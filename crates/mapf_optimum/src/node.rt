@@ -15,7 +15,9 @@ mod order;
 
 use crate::PairBound;
 use crate::agents::{copy_paths, copy_sets, empty_sets};
-use crate::guesses::{Occupancy, branching_conflict, colliding_pairs, conflicts_without};
+use crate::guesses::{
+    KnownCosts, Occupancy, branching_conflict, colliding_pairs, conflicts_without,
+};
 use crate::least_paths::LeastPaths;
 use crate::low_level::LowLevel;
 use crate::pair_bounds::{pair_bounds, pairs_without};
@@ -120,12 +122,13 @@ impl FreeNode {
         &self,
         alloc: Global,
         low: &LowLevel<'_>,
+        costs: &mut KnownCosts,
     ) -> Result<Option<Conflict>, NoMemory>
         requires { IsFreeNode low.now self.now }
         ensures { IfOk result (λ found.
             MatchOption found (HasNoConflict low.now.rule self.now.plan) (IsChoice low.now self.now.plan)) }
     {
-        let guess = branching_conflict(alloc, low, &self.sets, &self.plan, &self.conflicts)?;
+        let guess = branching_conflict(alloc, low, &self.sets, &self.plan, &self.conflicts, costs)?;
         match guess {
             Some(conflict) => Ok(Some(conflict)),
             None => Ok(self.first_conflict(low)),

@@ -6,7 +6,7 @@ ghost use Rattle.mapf_optimum.specs.AnyAnswer.{IsAnyAnswer, IsAnyAnswerUpTo};
 ghost use Rattle.mapf_optimum.specs.FreeSearch.{IsUnderWay};
 
 use crate::expansion::expand;
-use crate::guesses::Occupancy;
+use crate::guesses::{KnownCosts, Occupancy};
 use crate::low_level::LowLevel;
 use crate::pair_costs::PairCosts;
 use crate::waiting::Waiting;
@@ -100,7 +100,8 @@ fn search<W: Watch>(
 {
     let problem = low.problem();
     let mut waiting = waiting;
-    let mut costs = PairCosts::new(alloc);
+    let mut pair_costs = PairCosts::new(alloc);
+    let mut costs = KnownCosts::new(alloc);
     let mut nodes = 0;
     'steps: loop {
         let Some(node) = waiting.take_least() else {
@@ -109,11 +110,11 @@ fn search<W: Watch>(
             return Ok(Answer::None { bound });
         };
         if !node.is_bounded() {
-            waiting.put(node.bounded(alloc, low, occupancy, &mut costs)?)?;
+            waiting.put(node.bounded(alloc, low, occupancy, &mut pair_costs)?)?;
             continue 'steps;
         }
         watch.nodes_expanded(problem, nodes, node.label());
-        let Some(conflict) = node.choice(alloc, low)? else {
+        let Some(conflict) = node.choice(alloc, low, &mut costs)? else {
             let plan = node.into_plan();
             let stated = plan.cost();
             return Ok(Answer::Plan { plan, stated });

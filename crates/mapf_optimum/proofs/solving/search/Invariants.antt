@@ -4,7 +4,7 @@ use Rattle.mapf_optimum.proofs.Work.{work}
 use Rattle.mapf_optimum.proofs.solving.search.Given as goal
 
 abbrev pub invariant-steps : goal.invariant-steps
-invariant-steps g l = record { way : IsUnderWay l.low l.waiting; known : AreKnown l.low l.costs }
+invariant-steps g l = record { way : IsUnderWay l.low l.waiting; known : AreKnown l.low l.pair_costs }
 
 abbrev pub decreases-steps : goal.decreases-steps
 decreases-steps g l = work l.low l.waiting
