@@ -61,8 +61,8 @@ int32_t mapf_solve(const uint8_t *map, size_t map_len, const uint8_t *scen, size
 
 /*
  * Solves the same instance where any plan that costs least will do: which of several is left is not said. Its cost is that of
- * mapf_solve's, and MAPF_NONE comes exactly where it does there. With more than some 30 agents it mostly takes less time. `nodes`
- * limits the nodes of a search of its own.
+ * mapf_solve's, and without a limit on nodes MAPF_NONE comes exactly where it does there. With more than some 30 agents it
+ * mostly takes less time. `nodes` limits the nodes of a search of its own.
  */
 int32_t mapf_solve_any(const uint8_t *map, size_t map_len, const uint8_t *scen, size_t scen_len, uint64_t agents,
                        uint64_t bound, uint64_t nodes, uint8_t no_following, uint8_t *out, size_t out_len, uint64_t *needed);

@@ -6,3 +6,4 @@ mod Entries
 mod Turns
 mod Weights
 mod Moving
+mod Telling

@@ -12,13 +12,14 @@ use Rattle.mapf_tree.specs.Search.{IsChild}
 use Rattle.mapf_tree.proofs.SearchLaws.{obeys_fewer}
 use Rattle.mapf_optimum.specs.declared.pair_bound.PairBound.{PairBound}
 use Rattle.mapf_optimum.specs.FreeTree.{IsCandidate, IsLeastPathOf, IsPairBound, HaveLeastPaths}
+use Rattle.mapf_optimum.specs.declared.pair_costs.AgentPair.{AgentPair}
 use Rattle.mapf_optimum.specs.Pairs.{HaveSurplus}
+use Rattle.mapf_optimum.specs.KnownPairs.{DoCost}
 use Rattle.mapf_optimum.proofs.LeastPaths.{own_is_least}
 use Rattle.mapf_optimum.proofs.TwoAgents.{together_bounds}
 use Rattle.mapf_optimum.proofs.Choosing.{all_map, surplus_raises}
-use Rattle.mapf_bounds.specs.declared.pair_costs.AgentPair.{AgentPair}
 use Rattle.mapf_bounds.specs.Below.{IsCostBound}
-use Rattle.mapf_bounds.specs.Pairs.{AreKnownAt, DoCost}
+use Rattle.mapf_bounds.specs.Pairs.{AreKnownAt}
 use Rattle.mapf_bounds.proofs.Subtrees.{plans_bound_cost}
 
 -- a set that holds the same holds the same the other way round

@@ -15,13 +15,13 @@ use Rattle.mapf_tree.specs.declared.tree.side.Side.TheVariants.{Left, Right}
 use Rattle.mapf_grid.specs.declared.fault.NoMemory.{NoMemory}
 use Rattle.mapf_plan.specs.declared.answer.Answer.{Answer}
 use Rattle.mapf_tree.specs.Answered.{IsStated, IsAnswerOf, IsAnswerUpTo}
-use Rattle.mapf_tree.specs.LowerBound.{IsBelowAll, least_stated}
+use Rattle.mapf_tree.specs.LowerBound.{IsBelowAll}
 use Rattle.mapf_tree.specs.Problem.{Problem}
 use Rattle.mapf_tree.specs.Tree.{TreeNode, PlannedNode, HasPlan, IsMember, IsSolution, side_of, key, key_rank}
 use Rattle.mapf_tree.specs.Family.{IsSide, IsBranching}
 use Rattle.mapf_tree.specs.Nodes.{Node, StandsFor}
 use Rattle.mapf_tree.specs.Search.{IsChild}
-use Rattle.mapf_tree.proofs.Descent.{cheaper_solution, answer_is_optimum, none_is_none}
+use Rattle.mapf_tree.proofs.Descent.{cheaper_solution}
 use Rattle.mapf_tree.proofs.OpenNodes.{conflict_stands, none_stands, IsNodeOf}
 use Rattle.mapf_tree.proofs.Plans.{same_plan}
 use Rattle.std.proofs.lemmas.Bool.{cases_lt}
@@ -250,10 +250,3 @@ module _ (problem : Problem) (most : ℕ) where
 -- an answer as it is stated is the answer where there is no limit on nodes
 pub stated_answer : (p q : Problem) (r : Result Answer NoMemory) → p ≡ q → q.nodes ≡ None → IfOk r (IsStated p) → IfOk r (IsAnswerOf q)
 stated_answer p q r same unlimited is = subst (λ limit. IfOk r (IsAnswerUpTo limit q)) (sym unlimited) (subst (λ s. IfOk r (IsStated s)) same is)
-
--- no valid plan costs less than an answer states
-pub stated_below : (problem : Problem) (given : Answer) → IsStated problem given → IsBelowAll problem (least_stated given)
-stated_below problem given (Some plan, is, e) = subst (λ a. IsBelowAll problem (least_stated a)) (sym e) (λ other valid. (answer_is_optimum problem plan is).least other valid)
-stated_below problem given (None, is, e) =
-    subst (λ a. IsBelowAll problem (least_stated a)) (sym e)
-    (λ other valid. ⊎_elim (λ over. omega (arith, over)) (λ within. absurd ((none_is_none problem).0 is other valid within)) (cases_lt problem.bound (plan_cost other)))

@@ -2,4 +2,5 @@ pub mod Below
 pub mod Bounds
 pub mod Pairs
 pub mod Waiting
+pub mod Told
 pub mod Laws

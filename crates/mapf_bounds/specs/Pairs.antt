@@ -7,11 +7,8 @@ use Rattle.mapf_plan.specs.declared.rule.Rule.{Rule}
 use Rattle.mapf_tree.specs.Problem.{Problem}
 use Rattle.mapf_tree.specs.Nodes.{Node}
 use Rattle.mapf_optimum.specs.declared.pair_bound.PairBound.{PairBound}
-use Rattle.mapf_bounds.specs.declared.pair_costs.AgentPair.{AgentPair}
-use Rattle.mapf_bounds.specs.declared.pair_costs.KnownPair.{KnownPair}
-use Rattle.mapf_optimum.specs.FreeTree.{IsLeastPathOf, IsPairBound}
+use Rattle.mapf_optimum.specs.FreeTree.{IsPairBound}
 use Rattle.mapf_optimum.specs.Pairs.{AreDisjoint}
-use Rattle.mapf_optimum.specs.TwoAgents.{CostTogether}
 
 -- the two agents of the pair collide at some time
 pub record IsCollidingPair (rule : Rule) (plan : List (List ℕ)) (pair : PairBound) : Type 0 where
@@ -28,18 +25,3 @@ HaveCollisions rule plan count =
 -- what is known of pairs of agents at a node
 abbrev pub AreKnownAt : Problem → Node → List PairBound → Type 0
 AreKnownAt problem node = AllByRecursion (IsPairBound problem node.constraints)
-
--- these are least paths of the two agents under what they are forbidden
-pub record HaveLeast (problem : Problem) (pair : AgentPair) (p q : List ℕ) : Type 0 where
-  pub first_inside : pair.first < length problem.inst.starts
-  pub second_inside : pair.second < length problem.inst.starts
-  pub first_least : IsLeastPathOf problem pair.first pair.first_set p
-  pub second_least : IsLeastPathOf problem pair.second pair.second_set q
-
--- they cost together at least so much
-abbrev pub DoCost : Problem → AgentPair → ℕ → Type 0
-DoCost problem p = CostTogether problem p.first p.second p.first_set p.second_set
-
--- what is known of a pair is so
-abbrev pub IsKnownPair : Problem → KnownPair → Type 0
-IsKnownPair problem k = DoCost problem k.pair k.least

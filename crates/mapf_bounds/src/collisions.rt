@@ -6,8 +6,8 @@ ghost use Rattle.mapf_optimum.specs.Pairs.{AreChosenBy};
 ghost use Rattle.mapf_bounds.specs.Pairs.{HaveCollisions, IsCollidingPair};
 
 use mapf_grid::NoMemory;
-use mapf_optimum::{PairBound, do_steps_collide, take};
-use mapf_plan::{AgentPaths, PairConflict, Path, Rule};
+use mapf_optimum::{PairBound, take};
+use mapf_plan::{AgentPaths, PairConflict, Path, Rule, do_steps_collide};
 use std::alloc::Global;
 
 /// How many disjoint pairs collide, of those that may.

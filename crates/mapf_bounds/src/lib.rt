@@ -5,10 +5,9 @@ mod bound;
 mod collisions;
 pub mod laws;
 mod node_bounds;
-mod pair_costs;
 mod solving;
 mod turn;
 mod waiting;
 
 pub use bound::Bound;
-pub use solving::{finish_by_bounds, solve_alone};
+pub use solving::{finish_by_bounds, solve_by_bounds};

@@ -8,10 +8,11 @@ ghost use Rattle.mapf_bounds.specs.Pairs.{AreKnownAt};
 
 use crate::Bound;
 use crate::collisions::disjoint_collisions;
-use crate::pair_costs::{AgentPair, PairCosts};
 use crate::waiting::Stage;
 use mapf_grid::NoMemory;
-use mapf_optimum::{MOST_EXTRA, PairBound, disjoint_surplus, surplus_of};
+use mapf_optimum::{
+    AgentPair, LowLevel, MOST_EXTRA, PairBound, PairCosts, disjoint_surplus, surplus_of,
+};
 use mapf_plan::{AgentPaths, PairConflict};
 use mapf_tree::{CurrentPaths, Node, OwnPaths, Problem};
 use std::alloc::Global;
@@ -21,7 +22,8 @@ use std::marker::Model;
 pub(crate) struct NodeBounds<'p> {
     alloc: Global,
     problem: &'p Problem,
-    costs: PairCosts<'p>,
+    low: LowLevel<'p>,
+    costs: PairCosts,
     /// Solutions that cost more aren't looked for.
     most: u64,
 }
@@ -32,6 +34,7 @@ impl<'p> Drop for NodeBounds<'p> {
         let NodeBounds {
             alloc: _,
             problem: _,
+            low: _,
             costs: _,
             most: _,
         } = self;
@@ -40,13 +43,14 @@ impl<'p> Drop for NodeBounds<'p> {
 
 impl<'p> Model for NodeBounds<'p> {
     ghost use Rattle.std.specs.Prelude.{◌≡◌};
+    ghost use Rattle.mapf_optimum.specs.KnownPairs.{AreKnown};
     ghost use Rattle.mapf_bounds.specs.Bounds.{Bounding};
 
     ghost Value = { Bounding };
 
     ghost view = { λ b. record { problem = b.problem.now; most = b.most } };
 
-    ghost invariant = { λ b. b.costs ≡ b.problem.now };
+    ghost invariant = { λ b. (b.low ≡ b.problem.now) × AreKnown b.low b.costs };
 }
 
 /// A node's bound, and what its pairs cost together at least.
@@ -68,7 +72,8 @@ impl<'p> NodeBounds<'p> {
         Ok(NodeBounds {
             alloc,
             problem,
-            costs: PairCosts::new(alloc, problem)?,
+            low: LowLevel::new(alloc, problem)?,
+            costs: PairCosts::new(alloc),
             most,
         })
     }
@@ -184,7 +189,10 @@ impl<'p> NodeBounds<'p> {
             second_set: node.constraints(self.alloc, second)?,
         };
         let alone = u64::from(one.cost()) + u64::from(other.cost());
-        let least = self.costs.least(pair, one, other, alone + u64::from(most))?;
+        let up_to = alone + u64::from(most);
+        let least = self
+            .costs
+            .least(self.alloc, &self.low, pair, one, other, up_to)?;
         if least <= alone {
             return Ok(None);
         }

@@ -1,12 +1,14 @@
 //! The answer of a problem, by bounds.
 
-ghost use Rattle.std.specs.Prelude.{◌≡◌, ℕ, Option, [], IfOk, None, Ok};
+ghost use Rattle.std.specs.Prelude.{◌≡◌, ◌<◌, ℕ, Option, [], IfOk, None, Ok};
 ghost use Rattle.mapf_tree.specs.Answered.{IsAnswerOf, IsBestAnswer};
 ghost use Rattle.mapf_optimum.specs.AnyAnswer.{IsAnyAnswerUpTo};
 ghost use Rattle.mapf_bounds.specs.Bounds.{IsRange};
 ghost use Rattle.mapf_tree.specs.Answered.{IsStated};
-ghost use Rattle.mapf_tree.specs.LowerBound.{IsBelowAll, least_stated};
+ghost use Rattle.mapf_tree.specs.LowerBound.{IsBelowAll};
 ghost use Rattle.mapf_tree.specs.Problem.{Problem};
+ghost use Rattle.mapf_tree.specs.Search.{TakesBetween};
+ghost use Rattle.mapf_bounds.specs.Told.{IsWatched};
 ghost use Rattle.mapf_bounds.specs.Below.{IsEnough};
 ghost use Rattle.mapf_bounds.specs.Waiting.{IsCovering, IsMoving};
 
@@ -14,9 +16,11 @@ use crate::node_bounds::NodeBounds;
 use crate::turn::{Outcome, turn};
 use crate::waiting::{Waiting, admit_own};
 use mapf_grid::NoMemory;
-use mapf_optimum::{NoWatch, Watch, solve_any_up_to};
+use mapf_optimum::solve_any_up_to;
 use mapf_plan::Answer;
-use mapf_tree::{Key, OpenList, OwnPaths, Problem, Progress, Search};
+use mapf_tree::{
+    Key, NoWatch, OpenList, OwnPaths, Problem, Progress, Search, Watch, least_stated, solve_alone,
+};
 use std::alloc::Global;
 use std::collections::BTreeMap;
 
@@ -26,21 +30,21 @@ const KEYED_NODES: u64 = 256;
 /// How many nodes the search for the optimal cost expands, at most.
 const OPTIMUM_NODES: u64 = 300;
 
-/// Solves a problem on this thread.
+/// Solves a problem on this thread. The answer is that of [`solve_alone`], mostly from a small part of the nodes where there is no limit
+/// on them.
 ///
-/// The answer is the plan of the constraint tree's first solution, or none; with a limit on nodes, it may be that the search gave up.
 /// An error is that memory ran out.
-pub fn solve_alone(alloc: Global, problem: &Problem) -> Result<Answer, NoMemory>
+pub fn solve_by_bounds(alloc: Global, problem: &Problem) -> Result<Answer, NoMemory>
     ensures answer { IfOk result (IsAnswerOf problem.now) }
     ensures best { IfOk result (IsBestAnswer problem.now) }
 {
+    if problem.nodes().is_some() {
+        return solve_alone(alloc, problem);
+    }
     let mut paths = OwnPaths::new(alloc, problem)?;
     let mut search = Search::new(alloc, problem)?;
-    if problem.nodes().is_some() {
-        return search.finish(&mut paths);
-    }
     if let Progress::Finished = search.go(&mut paths, KEYED_NODES)? {
-        return search.into_answer().ok_or(NoMemory);
+        return search.finish(&mut paths);
     }
     finish_by_bounds(alloc, search, paths, &mut NoWatch)
 }
@@ -48,7 +52,8 @@ pub fn solve_alone(alloc: Global, problem: &Problem) -> Result<Answer, NoMemory>
 /// The answer of a search by keys that has none yet, where there is no limit on nodes: what waits there is searched by bounds, with the
 /// own paths that are known.
 ///
-/// The watch is told of the nodes that both searches expanded. An error is that memory ran out.
+/// Before each node that is expanded the watch is told how many both searches expanded before it, with what no plan without conflict
+/// costs less than, and last of the end. An error is that memory ran out.
 pub fn finish_by_bounds<W: Watch>(
     alloc: Global,
     search: Search<'_>,
@@ -60,12 +65,17 @@ pub fn finish_by_bounds<W: Watch>(
     requires paths { paths ≡ search.problem }
     ensures answer { IfOk result (IsAnswerOf search.entry.problem) }
     ensures best { IfOk result (IsBestAnswer search.entry.problem) }
+
+    // The nodes that the search by keys took are counted, too.
+    ensures told { IfOk result (λ given. (taken : ℕ)
+        × (taken < u64.MAX → TakesBetween search.entry.problem None search.entry.last taken)
+        × IsWatched W.told search.entry.problem taken watch.old watch.new given) }
 {
     let nodes = search.taken_nodes();
     let (problem, open_list) = search.into_waiting();
     let Some(range) = cost_range(alloc, problem)? else {
         let bound = problem.bound();
-        watch.nodes_expanded(problem, nodes, u64::from(bound) + 1);
+        watch.nodes_expanded(nodes, u64::from(bound) + 1);
         return Ok(Answer::None { bound });
     };
     let waiting = take_over(alloc, range, open_list)?;
@@ -136,7 +146,8 @@ fn search_by_bounds<W: Watch>(
     requires paths { paths ≡ bounds.problem }
     requires enough { IsEnough bounds.problem bounds.most }
     requires covering { IsCovering bounds.problem bounds.most waiting.entries }
-    ensures { IfOk result (IsStated bounds.entry.problem) }
+    ensures stated { IfOk result (IsStated bounds.entry.problem) }
+    ensures told { IfOk result (IsWatched W.told bounds.entry.problem nodes watch.old watch.new) }
 {
     let mut waiting = waiting;
     let mut paths = paths;
@@ -147,24 +158,13 @@ fn search_by_bounds<W: Watch>(
         match outcome {
             Outcome::Raised => {}
             Outcome::Expanded(least) => {
+                watch.nodes_expanded(nodes, least);
                 nodes = nodes.saturating_add(1);
-                watch.nodes_expanded(bounds.problem(), nodes, least);
             }
             Outcome::Ended(answer) => {
-                watch.nodes_expanded(bounds.problem(), nodes, least_stated(&answer));
+                watch.nodes_expanded(nodes, least_stated(&answer));
                 return Ok(answer);
             }
         }
-    }
-}
-
-/// What each plan without conflict costs at least, as an answer states it.
-fn least_stated(answer: &Answer) -> u64
-    ensures { result ≡ least_stated answer.now }
-{
-    match answer {
-        Answer::Plan { stated, .. } => *stated,
-        Answer::None { bound } => u64::from(*bound) + 1,
-        Answer::GaveUp { least, .. } => *least,
     }
 }

@@ -4,14 +4,12 @@ use Rattle.mapf_grid.specs.Instance.{Instance}
 use Rattle.mapf_grid.specs.Asked.{IsAsked, IsFilesFault}
 use Rattle.mapf_grid.specs.declared.files.FilesFault.{FilesFault}
 use Rattle.mapf_plan.specs.Files.{File, IsTooLong, UpTo}
-use Rattle.mapf_plan.specs.ReadText.{IsTextOf, IsTextFault}
-use Rattle.mapf_plan.specs.declared.answer.Answer.{Answer}
+use Rattle.mapf_plan.specs.ReadText.{IsTextFault}
 use Rattle.mapf_plan.specs.declared.device.fault.DeviceFault.TheVariants as device
 use Rattle.mapf_plan.specs.declared.device.fault.FileName.TheVariants as file
 use Rattle.mapf_plan.specs.declared.rule.Rule.{Rule}
 use Rattle.mapf_plan.specs.declared.text.fault.TextFault.TheVariants as text_fault
-use Rattle.mapf_check.specs.Verdict.{IsVerdict}
-use Rattle.mapf_check.specs.Wording.{verdict_line}
+use Rattle.mapf_check.specs.Judged.{AreJudged}
 use Rattle.mapf_check.specs.declared.verdict.Verdict.{Verdict}
 use Rattle.mapf_check.specs.declared.verdict.Verdict.TheVariants as verdict
 use Rattle.mapf_solve.specs.Out.{of_files}
@@ -31,19 +29,13 @@ abbrev pub status_of_verdict : Verdict → ℕ
 status_of_verdict (verdict.Valid cost) = 0
 status_of_verdict other = 1
 
--- the files are judged with this status and these bytes: the line of the verdict by this rule on the answer that the third file
--- spells, for the instance that the first two ask for
-pub record IsJudged (rule : Rule) (map scen plan : List ℕ) (agents status : ℕ) (bytes : List ℕ) : Type 0 where
+-- the files are judged with this status and these bytes: those of the verdict by this rule
+pub record IsReplied (rule : Rule) (map scen plan : List ℕ) (agents status : ℕ) (bytes : List ℕ) : Type 0 where
   pub map_read : IsRead map
   pub scen_read : IsRead scen
   pub plan_read : IsRead plan
-  pub inst : Instance
-  pub asked : IsAsked map scen agents inst
-  pub answer : Answer
-  pub read : IsTextOf inst.grid plan answer
   pub verdict : Verdict
-  pub judged : IsVerdict rule inst answer verdict
-  pub worded : bytes ≡ verdict_line inst.grid verdict
+  pub judged : AreJudged rule map scen plan agents verdict bytes
   pub status_is : status ≡ status_of_verdict verdict
 
 -- why they aren't: the first file that is too long, or else the first fault of map, scenario, instance and plan text; or that
@@ -61,4 +53,4 @@ pub record Checks (rule : Rule) (map scen plan : List ℕ) (agents : ℕ) (old n
   pub status : ℕ
   pub bytes : List ℕ
   pub put : IsPut status bytes old new needed result
-  pub reply : IsJudged rule map scen plan agents status bytes ⊎ ((named : Fault) × IsCheckFault map scen plan agents named × IsStatusFor named status bytes)
+  pub reply : IsReplied rule map scen plan agents status bytes ⊎ ((named : Fault) × IsCheckFault map scen plan agents named × IsStatusFor named status bytes)

@@ -2,15 +2,15 @@
 
 ghost use Rattle.std.specs.Prelude.{◌≡◌, IfOk, IfErr, string_bytes};
 ghost use Rattle.mapf_c.specs.Asks.{rule_of};
-ghost use Rattle.mapf_c.specs.Checked.{status_of_verdict, IsJudged, IsCheckFault, Checks};
+ghost use Rattle.mapf_c.specs.Checked.{status_of_verdict, IsReplied, IsCheckFault, Checks};
 
 use crate::fault::Fault;
 use crate::files::test_length;
 use crate::reply::{put, put_fault};
 use crate::rule::rule_of;
-use mapf_check::{Verdict, check_by, line};
+use mapf_check::{Verdict, judge};
 use mapf_grid::instance_of;
-use mapf_plan::{FileName, Rule, read_answer};
+use mapf_plan::{FileName, Rule};
 use std::alloc::Global;
 
 /// The status where the plan is valid.
@@ -49,16 +49,14 @@ fn line_and_status(
     agents: u64,
     rule: Rule,
 ) -> Result<(u8, String), Fault>
-    ensures judged { IfOk result (λ r. IsJudged rule map.now scen.now plan.now agents r.0 (string_bytes r.1)) }
+    ensures judged { IfOk result (λ r. IsReplied rule map.now scen.now plan.now agents r.0 (string_bytes r.1)) }
     ensures fault { IfErr result (IsCheckFault map.now scen.now plan.now agents) }
 {
     test_length(map, FileName::Map)?;
     test_length(scen, FileName::Scenario)?;
     test_length(plan, FileName::Plan)?;
     let instance = instance_of(alloc, map, scen, agents)?;
-    let answer = read_answer(alloc, plan, instance.map())?;
-    let verdict = check_by(&instance, &answer, rule);
-    let line = line(alloc, &verdict, instance.map())?;
+    let (verdict, line) = judge(alloc, &instance, plan, rule)?;
     Ok((status_of(&verdict), line))
 }
 

@@ -1,3 +1,4 @@
 pub mod Verdict
 pub mod Positions
 pub mod Wording
+pub mod Judged

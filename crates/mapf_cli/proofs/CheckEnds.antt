@@ -2,7 +2,6 @@
 use Rattle.std.proofs.Common.{◌≡◌, ℕ, ◌⊎◌, inl, inr, List, Option, Result, Ok, Err, IfSome, IfErr, subst, sym}
 use Rattle.std.specs.Result.{IsErrAnd}
 use Rattle.std.proofs.KnownBytes.{Keeps-refl}
-use Rattle.mapf_grid.specs.Grid.{Grid}
 use Rattle.mapf_grid.specs.Instance.{Instance}
 use Rattle.mapf_grid.specs.Asked.{IsAsked}
 use Rattle.mapf_plan.specs.Files.{IsWriteFaultOf}
@@ -14,7 +13,8 @@ use Rattle.mapf_plan.specs.declared.device.fault.DeviceFault.TheVariants as devi
 use Rattle.mapf_plan.specs.declared.rule.Rule.{Rule}
 use Rattle.mapf_plan.proofs.WhatIsLeft.{told, Leaves-part}
 use Rattle.mapf_check.specs.declared.verdict.Verdict.{Verdict}
-use Rattle.mapf_cli.specs.CheckRun.{IsJudged, IsTextsFault, HasOneMemory, of_text, OfFiles, LeavesVerdict}
+use Rattle.mapf_check.specs.Judged.{AreJudged}
+use Rattle.mapf_cli.specs.CheckRun.{IsTextsFault, HasOneMemory, of_text, OfFiles, LeavesVerdict}
 use Rattle.mapf_cli.specs.declared.check_fault.CheckFault.{CheckFault}
 use Rattle.mapf_cli.specs.declared.check_fault.CheckFault.TheVariants as check
 
@@ -38,21 +38,20 @@ of_plan map scen plan agents inst (text_fault.Outside line place) asked (inr h) 
 of_plan map scen plan agents inst text_fault.NoMemory asked (inr h) = tt
 
 -- so what is answered for it is
-pub plan_refused : {T : Type 0} (map scen plan : List ℕ) (agents : ℕ) (inst : Instance) (g : Grid) (fault : TextFault) (result : Result T CheckFault) →
-    IsAsked map scen agents inst → g ≡ inst.grid → (fault ≡ text_fault.NoMemory) ⊎ IsTextFault g plan fault → IsErrAnd result (λ e. e ≡ of_text fault) →
+pub plan_refused : {T : Type 0} (map scen plan : List ℕ) (agents : ℕ) (inst : Instance) (fault : TextFault) (result : Result T CheckFault) →
+    IsAsked map scen agents inst → (fault ≡ text_fault.NoMemory) ⊎ IsTextFault inst.grid plan fault → IsErrAnd result (λ e. e ≡ of_text fault) →
     IfErr result (IsTextsFault map scen plan agents)
-plan_refused map scen plan agents inst g fault (Err e) asked same h is =
-    subst (IsTextsFault map scen plan agents) (sym is)
-    (of_plan map scen plan agents inst fault asked (subst (λ k. (fault ≡ text_fault.NoMemory) ⊎ IsTextFault k plan fault) same h))
-plan_refused map scen plan agents inst g fault (Ok t) asked same h is = tt
+plan_refused map scen plan agents inst fault (Err e) asked h is =
+    subst (IsTextsFault map scen plan agents) (sym is) (of_plan map scen plan agents inst fault asked h)
+plan_refused map scen plan agents inst fault (Ok t) asked h is = tt
 
 -- a line that was written in part is left in part
 pub part_is_left : (rule : Rule) (map scen plan : Option (List ℕ)) (agents : ℕ) (old new : Option (List ℕ)) (verdict : Verdict) (line : List ℕ) (broken : DeviceFault) (result : Result Verdict CheckFault) →
-    OfFiles map scen plan (λ m s p. IsJudged rule m s p agents verdict line) → IsWriteFaultOf line old new broken → IsErrAnd result (λ e. e ≡ check.Device broken) →
+    OfFiles map scen plan (λ m s p. AreJudged rule m s p agents verdict line) → IsWriteFaultOf line old new broken → IsErrAnd result (λ e. e ≡ check.Device broken) →
     LeavesVerdict rule map scen plan agents old new result
 part_is_left rule map scen plan agents old new verdict line broken (Err e) says wrote is =
     subst (λ e. LeavesVerdict rule map scen plan agents old new (Err e)) (sym is)
-    (Leaves-part {R = CheckFault} (λ v l. OfFiles map scen plan (λ m s p. IsJudged rule m s p agents v l)) (λ named. OfFiles map scen plan (λ m s p. IsTextsFault m s p agents named)) old new verdict line broken says wrote)
+    (Leaves-part {R = CheckFault} (λ v l. OfFiles map scen plan (λ m s p. AreJudged rule m s p agents v l)) (λ named. OfFiles map scen plan (λ m s p. IsTextsFault m s p agents named)) old new verdict line broken says wrote)
 part_is_left rule map scen plan agents old new verdict line broken (Ok v) says wrote is = absurd is
 
 -- after a fault of the texts nothing is written

@@ -8,27 +8,16 @@ use Rattle.mapf_grid.specs.declared.fault.InstanceFault.TheVariants as instance_
 use Rattle.mapf_grid.specs.declared.files.FilesFault.{FilesFault}
 use Rattle.mapf_grid.specs.declared.files.FilesFault.TheVariants as files_fault
 use Rattle.mapf_plan.specs.Files.{File, End, Written, Broken, Refused, Leaves}
-use Rattle.mapf_plan.specs.ReadText.{IsTextOf, IsTextFault}
-use Rattle.mapf_plan.specs.declared.answer.Answer.{Answer}
+use Rattle.mapf_plan.specs.ReadText.{IsTextFault}
 use Rattle.mapf_plan.specs.declared.rule.Rule.{Rule}
 use Rattle.mapf_plan.specs.declared.device.fault.DeviceFault.TheVariants as device
 use Rattle.mapf_plan.specs.declared.device.fault.FileName.TheVariants as file
 use Rattle.mapf_plan.specs.declared.text.fault.TextFault.{TextFault}
 use Rattle.mapf_plan.specs.declared.text.fault.TextFault.TheVariants as text_fault
-use Rattle.mapf_check.specs.Verdict.{IsVerdict}
-use Rattle.mapf_check.specs.Wording.{verdict_line}
+use Rattle.mapf_check.specs.Judged.{AreJudged}
 use Rattle.mapf_check.specs.declared.verdict.Verdict.{Verdict}
 use Rattle.mapf_cli.specs.declared.check_fault.CheckFault.{CheckFault}
 use Rattle.mapf_cli.specs.declared.check_fault.CheckFault.TheVariants as check
-
--- the verdict by this rule on the answer that the third file spells, for the instance that the first two ask for, and its line
-pub record IsJudged (rule : Rule) (map scen plan : List ℕ) (agents : ℕ) (verdict : Verdict) (line : List ℕ) : Type 0 where
-  pub inst : Instance
-  pub asked : IsAsked map scen agents inst
-  pub answer : Answer
-  pub read : IsTextOf inst.grid plan answer
-  pub judged : IsVerdict rule inst answer verdict
-  pub worded : line ≡ verdict_line inst.grid verdict
 
 -- the first fault of map, scenario, instance and plan text; or `NoMemory`, in place of any
 abbrev pub IsTextsFault : List ℕ → List ℕ → List ℕ → ℕ → CheckFault → Type 0
@@ -71,5 +60,5 @@ OfFiles map scen plan P = IfSome map (λ m. IfSome scen (λ s. IfSome plan (P m 
 -- the writer got the line of the verdict that is answered, or the files were refused
 abbrev pub LeavesVerdict : Rule → (map scen plan : Option (List ℕ)) → ℕ → (old new : Option (List ℕ)) → Result Verdict CheckFault → Type 0
 LeavesVerdict rule map scen plan agents old new result =
-    Leaves (λ verdict line. OfFiles map scen plan (λ m s p. IsJudged rule m s p agents verdict line))
+    Leaves (λ verdict line. OfFiles map scen plan (λ m s p. AreJudged rule m s p agents verdict line))
     (λ named. OfFiles map scen plan (λ m s p. IsTextsFault m s p agents named)) old new (end_of result)

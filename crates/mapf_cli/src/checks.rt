@@ -3,12 +3,13 @@
 ghost use Rattle.std.specs.Prelude.{◌<◌, string_bytes, IfOk, IfErr};
 ghost use Rattle.mapf_plan.specs.Device.{Counts};
 ghost use Rattle.mapf_plan.specs.Files.{is_read_failure, is_write_failure, AreWithin};
-ghost use Rattle.mapf_cli.specs.CheckRun.{IsJudged, IsTextsFault, HasOneMemory, LeavesVerdict, end_of, files};
+ghost use Rattle.mapf_check.specs.Judged.{AreJudged};
+ghost use Rattle.mapf_cli.specs.CheckRun.{IsTextsFault, HasOneMemory, LeavesVerdict, end_of, files};
 
 use crate::CheckFault;
-use mapf_check::{Verdict, check_by, line};
+use mapf_check::{Verdict, judge};
 use mapf_grid::instance_of;
-use mapf_plan::{FileName, Rule, Sink, Source, read_answer, read_file, write_text};
+use mapf_plan::{FileName, Rule, Sink, Source, read_file, write_text};
 use std::alloc::Global;
 
 /// Reads map, scenario and plan to their ends, in this order, judges the plan by the rule and writes the verdict's line.
@@ -51,13 +52,13 @@ pub fn check_run<M: Source, S: Source, P: Source, O: Sink>(
     let map = read_file(alloc, map, FileName::Map)?;
     let scen = read_file(alloc, scen, FileName::Scenario)?;
     let plan = read_file(alloc, plan, FileName::Plan)?;
-    let (verdict, text) = judge(alloc, &map, &scen, &plan, agents, rule)?;
+    let (verdict, text) = judge_files(alloc, &map, &scen, &plan, agents, rule)?;
     write_text(out, text.as_bytes())?;
     Ok(verdict)
 }
 
 /// The verdict by this rule on the bytes of three files, and its line.
-fn judge(
+fn judge_files(
     alloc: Global,
     map: &[u8],
     scen: &[u8],
@@ -65,12 +66,9 @@ fn judge(
     agents: u64,
     rule: Rule,
 ) -> Result<(Verdict, String), CheckFault>
-    ensures judged { IfOk result (λ r. IsJudged rule map.now scen.now plan.now agents r.0 (string_bytes r.1)) }
+    ensures judged { IfOk result (λ r. AreJudged rule map.now scen.now plan.now agents r.0 (string_bytes r.1)) }
     ensures fault { IfErr result (IsTextsFault map.now scen.now plan.now agents) }
 {
     let instance = instance_of(alloc, map, scen, agents)?;
-    let answer = read_answer(alloc, plan, instance.map())?;
-    let verdict = check_by(&instance, &answer, rule);
-    let text = line(alloc, &verdict, instance.map())?;
-    Ok((verdict, text))
+    Ok(judge(alloc, &instance, plan, rule)?)
 }

@@ -2,7 +2,6 @@
 
 use mapf_plan::{Sink, write_whole};
 use mapf_solve::Watch;
-use mapf_tree::Problem;
 use std::alloc::Global;
 use std::time::{Clock, Duration, Instant};
 
@@ -85,7 +84,7 @@ impl<'a, R: Clock, E: Sink> ProgressLines<'a, R, E> {
 }
 
 impl<R: Clock, E: Sink> Watch for ProgressLines<'_, R, E> {
-    fn nodes_expanded(&mut self, _problem: &Problem, nodes: u64, least: u64) {
+    fn nodes_expanded(&mut self, nodes: u64, least: u64) {
         self.hear(Standing { nodes, least });
     }
 }

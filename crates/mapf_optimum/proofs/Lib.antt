@@ -15,3 +15,5 @@ pub mod TwoAgents
 mod StartTables
 mod Bounding
 pub mod Steps
+pub mod Telling
+pub mod KnownPairs

@@ -18,6 +18,7 @@ use Rattle.mapf_tree.specs.Family.{AreRootPaths, IsRoot}
 use Rattle.mapf_tree.proofs.Descent.{obeyed_is_in_cost}
 use Rattle.mapf_optimum.specs.FreeTree.{FreeNode, unnamed, IsFreeNode, IsChoice, IsCandidate, IsLeastPathOf, HaveLeastPaths, IsPairBound}
 use Rattle.mapf_optimum.specs.FreeSearch.{IsRootOf, IsUnderWay}
+use Rattle.mapf_optimum.specs.Told.{IsBegun}
 use Rattle.mapf_optimum.proofs.LeastPaths.{own_is_least, least_paths_are_below}
 
 -- the first conflict of a node's plan is one that it may branch on
@@ -71,10 +72,16 @@ module _ (p : Problem) where
     sets,
   )
 
--- so it begins
-pub begins : (p : Problem) (found : Option FreeNode) (old new : List FreeNode) → IsRootOf p found → old ≡ [] → IsPermutation (option_to_list found ++ old) new → IsUnderWay p new
-begins p found old new root none put = in_order (option_to_list found ++ []) (subst (λ l. IsPermutation (option_to_list found ++ l) new) none put) (at_root found root)
+-- where a search begins, no valid plan is lost
+pub begins : (p : Problem) (waiting : List FreeNode) → IsBegun p waiting → IsUnderWay p waiting
+begins p waiting begun = record {
+  free = All-permutation (IsFreeNode p) l waiting begun.2 (at_root begun.0 begun.1).free;
+  covers = λ plan valid within. let w = (at_root begun.0 begun.1).covers plan valid within in (w.0, Contains-permutation l waiting w.0 begun.2 w.1, w.2);
+}
   where
+    l : List FreeNode
+    l = option_to_list begun.0 ++ []
+
     at_root : (found : Option FreeNode) → IsRootOf p found → IsUnderWay p (option_to_list found ++ [])
     at_root None is = record { free = All-nil (IsFreeNode p); covers = λ plan valid within. absurd (is plan valid within) }
     at_root (Some node) is = record {
@@ -82,12 +89,6 @@ begins p found old new root none put = in_order (option_to_list found ++ []) (su
       covers = λ plan valid within. (node, here [] refl, subst (λ l. IsCandidate p l plan) (sym is.1) (is_candidate p plan valid within));
     }
 
-    in_order : (l : List FreeNode) → IsPermutation l new → IsUnderWay p l → IsUnderWay p new
-    in_order l same way = record {
-      free = All-permutation (IsFreeNode p) l new same way.free;
-      covers = λ plan valid within. let w = way.covers plan valid within in (w.0, Contains-permutation l new w.0 same w.1, w.2);
-    }
-
--- or with nothing
-pub begins_empty : (p : Problem) (new : List FreeNode) → IsRootOf p None → new ≡ [] → IsUnderWay p new
-begins_empty p new none empty = subst (IsUnderWay p) (sym empty) (record { free = All-nil (IsFreeNode p); covers = λ plan valid within. absurd (none plan valid within) })
+-- what was put in where nothing waited
+pub begun_with : (p : Problem) (found : Option FreeNode) (old new : List FreeNode) → IsRootOf p found → old ≡ [] → IsPermutation (option_to_list found ++ old) new → IsBegun p new
+begun_with p found old new root none put = (found, root, subst (λ l. IsPermutation (option_to_list found ++ l) new) none put)

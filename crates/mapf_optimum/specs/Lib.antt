@@ -6,3 +6,5 @@ pub mod Laws
 pub mod Dependence
 pub mod Steps
 pub mod TwoAgents
+pub mod Told
+pub mod KnownPairs

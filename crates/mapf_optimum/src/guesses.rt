@@ -4,9 +4,13 @@
 mod branching;
 mod conflicts;
 mod few_conflicts;
+mod known_costs;
+mod marks;
 mod occupancy;
+mod visit;
 
 pub(crate) use branching::branching_conflict;
-pub(crate) use conflicts::{colliding_pairs, conflicts_of};
+pub(crate) use conflicts::{colliding_pairs, conflicts_without, partners};
 pub(crate) use few_conflicts::few_conflicts;
+pub(crate) use known_costs::KnownCosts;
 pub(crate) use occupancy::Occupancy;

@@ -11,17 +11,15 @@ mod low_level;
 mod node;
 mod pair_bound;
 mod pair_bounds;
+mod pair_costs;
 mod pairs;
 mod settling;
 mod solving;
 mod waiting;
-mod watch;
 
 pub use low_level::LowLevel;
 pub use node::FreeNode;
 pub use pair_bound::PairBound;
-pub use pairs::{
-    AgentInNode, MOST_EXTRA, cost_together, disjoint_surplus, do_steps_collide, surplus_of, take,
-};
+pub use pair_costs::{AgentPair, PairCosts};
+pub use pairs::{MOST_EXTRA, disjoint_surplus, surplus_of, take};
 pub use solving::{solve_any, solve_any_from, solve_any_up_to};
-pub use watch::{NoWatch, Watch};

@@ -8,16 +8,20 @@ ghost use Rattle.mapf_plan.specs.declared.answer.TheConstants.{MOST_BOUND};
 ghost use Rattle.mapf_tree.specs.Family.{Leaves, AreRootPaths};
 ghost use Rattle.mapf_optimum.specs.FreeTree.{IsFreeNode, IsChoice};
 ghost use Rattle.mapf_optimum.specs.FreeSearch.{IsRootOf, IsSideOf, IsBounded};
+ghost use Rattle.mapf_optimum.specs.KnownPairs.{AreKnown};
 ghost use Rattle.mapf_optimum.specs.TwoAgents.{IsFreshNode};
 
 mod order;
 
 use crate::PairBound;
 use crate::agents::{copy_paths, copy_sets, empty_sets};
-use crate::guesses::{Occupancy, branching_conflict, colliding_pairs};
+use crate::guesses::{
+    KnownCosts, Occupancy, branching_conflict, colliding_pairs, conflicts_without,
+};
 use crate::least_paths::LeastPaths;
 use crate::low_level::LowLevel;
 use crate::pair_bounds::{pair_bounds, pairs_without};
+use crate::pair_costs::PairCosts;
 use crate::pairs::disjoint_surplus;
 use crate::settling::settled;
 use mapf_grid::NoMemory;
@@ -39,8 +43,10 @@ pub struct FreeNode {
     collisions: usize,
     /// Whether the label was found from the pairs.
     is_bounded: bool,
-    /// The conflicts of the plan that were found then.
+    /// The conflicts of the plan that were found then; before, those that it has in common with its parent.
     conflicts: Vec<Conflict>,
+    /// Whose path differs from its parent's.
+    changed: Option<usize>,
 }
 
 // By hand, so that a proof about what holds one sees a call where it is dropped, and not its fields.
@@ -54,6 +60,7 @@ impl Drop for FreeNode {
             collisions: _,
             is_bounded: _,
             conflicts: _,
+            changed: _,
         } = self;
     }
 }
@@ -106,6 +113,7 @@ impl FreeNode {
             collisions: 0,
             is_bounded: false,
             conflicts: Vec::new(alloc),
+            changed: None,
         }
     }
 
@@ -114,12 +122,13 @@ impl FreeNode {
         &self,
         alloc: Global,
         low: &LowLevel<'_>,
+        costs: &mut KnownCosts,
     ) -> Result<Option<Conflict>, NoMemory>
         requires { IsFreeNode low.now self.now }
         ensures { IfOk result (λ found.
             MatchOption found (HasNoConflict low.now.rule self.now.plan) (IsChoice low.now self.now.plan)) }
     {
-        let guess = branching_conflict(alloc, low, &self.sets, &self.plan, &self.conflicts)?;
+        let guess = branching_conflict(alloc, low, &self.sets, &self.plan, &self.conflicts, costs)?;
         match guess {
             Some(conflict) => Ok(Some(conflict)),
             None => Ok(self.first_conflict(low)),
@@ -161,6 +170,7 @@ impl FreeNode {
             collisions: _,
             is_bounded: _,
             conflicts: _,
+            changed: _,
         } = self;
         plan
     }
@@ -172,9 +182,12 @@ impl FreeNode {
         alloc: Global,
         low: &LowLevel<'_>,
         occupancy: &mut Occupancy,
+        costs: &mut PairCosts,
     ) -> Result<Option<FreeNode>, NoMemory>
-        requires { IsFreeNode low.now self }
-        ensures { IfOk result (IsBounded low.now self) }
+        requires node { IsFreeNode low.now self }
+        requires costs { AreKnown low.now costs.old }
+        ensures costs { AreKnown low.now costs.new }
+        ensures bounded { IfOk result (IsBounded low.now self) }
     {
         let problem = low.problem();
         let FreeNode {
@@ -184,10 +197,11 @@ impl FreeNode {
             label,
             collisions: _,
             is_bounded: _,
-            conflicts: _,
+            conflicts,
+            changed,
         } = self;
-        let (plan, conflicts) = settled(alloc, low, &sets, &plan, occupancy)?;
-        let pairs = pair_bounds(alloc, low, &sets, &plan, known, &conflicts)?;
+        let (plan, conflicts) = settled(alloc, low, &sets, &plan, changed, conflicts, occupancy)?;
+        let pairs = pair_bounds(alloc, low, &sets, &plan, known, &conflicts, costs)?;
         let surplus = disjoint_surplus(alloc, &plan, &pairs)?;
         let label = label.max(plan.cost().saturating_add(surplus));
         if label > u64::from(problem.bound()) {
@@ -202,6 +216,7 @@ impl FreeNode {
             collisions,
             is_bounded: true,
             conflicts,
+            changed: None,
         }))
     }
 
@@ -257,7 +272,8 @@ impl FreeNode {
             label,
             collisions: self.collisions,
             is_bounded: false,
-            conflicts: Vec::new(alloc),
+            conflicts: conflicts_without(alloc, &self.conflicts, agent)?,
+            changed: Some(agent),
         })
     }
 

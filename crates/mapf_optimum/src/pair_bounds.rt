@@ -3,10 +3,12 @@
 ghost use Rattle.std.specs.Prelude.{◌≡◌, length, IfOk, MatchOption, Contains, ⊤};
 ghost use Rattle.std.specs.List.{AllByRecursion};
 ghost use Rattle.mapf_optimum.specs.FreeTree.{HaveLeastPaths, IsPairBound};
+ghost use Rattle.mapf_optimum.specs.KnownPairs.{AreKnown};
 
 use crate::PairBound;
 use crate::low_level::LowLevel;
-use crate::pairs::{AgentInNode, MOST_EXTRA, cost_together};
+use crate::pair_costs::{AgentPair, PairCosts};
+use crate::pairs::MOST_EXTRA;
 use mapf_grid::NoMemory;
 use mapf_low::Constraints;
 use mapf_plan::{Conflict, Plan};
@@ -21,11 +23,14 @@ pub(crate) fn pair_bounds(
     plan: &Plan,
     known: Vec<PairBound>,
     conflicts: &[Conflict],
+    costs: &mut PairCosts,
 ) -> Result<Vec<PairBound>, NoMemory>
     requires sets { length sets.now ≡ length low.now.inst.starts }
     requires paths { HaveLeastPaths low.now sets.now plan.now }
     requires known { AllByRecursion (IsPairBound low.now sets.now) known.items }
-    ensures { IfOk result (λ pairs. AllByRecursion (IsPairBound low.now sets.now) pairs.items) }
+    requires costs { AreKnown low.now costs.old }
+    ensures costs { AreKnown low.now costs.new }
+    ensures pairs { IfOk result (λ pairs. AllByRecursion (IsPairBound low.now sets.now) pairs.items) }
 {
     let mut pairs = known;
     for conflict in conflicts {
@@ -34,7 +39,7 @@ pub(crate) fn pair_bounds(
             agent_of(conflict, Side::Right),
         );
         if !is_known(&pairs, first, second) {
-            if let Some(pair) = pair_bound(alloc, low, sets, plan, first, second)? {
+            if let Some(pair) = pair_bound(alloc, low, sets, plan, first, second, costs)? {
                 pairs.push(pair)?;
             }
         }
@@ -74,26 +79,26 @@ fn pair_bound(
     plan: &Plan,
     first: usize,
     second: usize,
+    costs: &mut PairCosts,
 ) -> Result<Option<PairBound>, NoMemory>
     requires sets { length sets.now ≡ length low.now.inst.starts }
     requires paths { HaveLeastPaths low.now sets.now plan.now }
-    ensures { IfOk result (λ found. MatchOption found ⊤ (IsPairBound low.now sets.now)) }
+    requires costs { AreKnown low.now costs.old }
+    ensures costs { AreKnown low.now costs.new }
+    ensures pair { IfOk result (λ found. MatchOption found ⊤ (IsPairBound low.now sets.now)) }
 {
     if first >= second || second >= plan.paths().len() {
         return Ok(None);
     }
-    let one = AgentInNode {
-        agent: first,
-        constraints: &sets[first],
-        path: &plan.paths()[first],
+    let (one, other) = (&plan.paths()[first], &plan.paths()[second]);
+    let pair = AgentPair {
+        first,
+        second,
+        first_set: sets[first].copy()?,
+        second_set: sets[second].copy()?,
     };
-    let other = AgentInNode {
-        agent: second,
-        constraints: &sets[second],
-        path: &plan.paths()[second],
-    };
-    let up_to = u64::from(one.path.cost()) + u64::from(other.path.cost()) + u64::from(MOST_EXTRA);
-    let least = cost_together(alloc, low, &one, &other, up_to)?;
+    let up_to = u64::from(one.cost()) + u64::from(other.cost()) + u64::from(MOST_EXTRA);
+    let least = costs.least(alloc, low, pair, one, other, up_to)?;
     Ok(Some(PairBound {
         first,
         second,

@@ -12,5 +12,4 @@ mod two_agents;
 
 pub(crate) use agent::Agent;
 pub use disjoint::{MOST_EXTRA, disjoint_surplus, surplus_of, take};
-pub use pair_tree::{AgentInNode, cost_together};
-pub use steps::do_steps_collide;
+pub(crate) use pair_tree::{AgentInNode, cost_together};

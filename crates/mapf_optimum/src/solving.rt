@@ -1,30 +1,33 @@
 //! Any optimum of a problem.
 
-ghost use Rattle.std.specs.Prelude.{◌≡◌, IfOk, IfSome, MatchOption, None, Some};
+ghost use Rattle.std.specs.Prelude.{◌≡◌, ◌↔◌, IfOk, IsTrue, MatchOption, None, Some};
 ghost use Rattle.mapf_tree.specs.Family.{AreRootPaths, IsRoot};
 ghost use Rattle.mapf_optimum.specs.AnyAnswer.{IsAnyAnswer, IsAnyAnswerUpTo};
-ghost use Rattle.mapf_optimum.specs.FreeSearch.{IsUnderWay};
+ghost use Rattle.mapf_optimum.specs.Told.{IsBegun, IsWatched};
 
+use crate::FreeNode;
 use crate::expansion::expand;
-use crate::guesses::Occupancy;
+use crate::guesses::{KnownCosts, Occupancy};
 use crate::low_level::LowLevel;
+use crate::pair_costs::PairCosts;
 use crate::waiting::Waiting;
-use crate::{FreeNode, Watch};
 use mapf_grid::NoMemory;
 use mapf_plan::{Answer, Path};
-use mapf_tree::{Problem, root_paths};
+use mapf_tree::{Problem, Watch, root_paths};
 use std::alloc::Global;
 
 /// A plan without conflict that costs least, whichever of several; none exactly where no plan without conflict costs at most the
 /// bound; or, at the problem's limit on nodes, a lower bound.
 ///
-/// The watch is told of each node that is expanded, and last of the end. An error is that memory ran out.
+/// Before each node that is expanded the watch is told how many were before it, with the least label that waits, and last of the end.
+/// An error is that memory ran out.
 pub fn solve_any<W: Watch>(
     alloc: Global,
     problem: &Problem,
     watch: &mut W,
 ) -> Result<Answer, NoMemory>
-    ensures { IfOk result (IsAnyAnswer problem.now) }
+    ensures answer { IfOk result (IsAnyAnswer problem.now) }
+    ensures told { IfOk result (IsWatched W.told problem.now problem.now.nodes watch.old watch.new) }
 {
     let paths = root_paths(alloc, problem)?;
     solve_any_from(alloc, problem, paths, watch)
@@ -38,7 +41,8 @@ pub fn solve_any_from<W: Watch>(
     watch: &mut W,
 ) -> Result<Answer, NoMemory>
     requires { MatchOption paths (IsRoot problem.now None) (λ paths. AreRootPaths problem.now paths.items) }
-    ensures { IfOk result (IsAnyAnswer problem.now) }
+    ensures answer { IfOk result (IsAnyAnswer problem.now) }
+    ensures told { IfOk result (IsWatched W.told problem.now problem.now.nodes watch.old watch.new) }
 {
     search_from(alloc, problem, paths, problem.nodes(), watch)
 }
@@ -50,7 +54,8 @@ pub fn solve_any_up_to<W: Watch>(
     nodes: Option<u64>,
     watch: &mut W,
 ) -> Result<Answer, NoMemory>
-    ensures { IfOk result (IsAnyAnswerUpTo nodes problem.now) }
+    ensures answer { IfOk result (IsAnyAnswerUpTo nodes problem.now) }
+    ensures told { IfOk result (IsWatched W.told problem.now nodes watch.old watch.new) }
 {
     let paths = root_paths(alloc, problem)?;
     search_from(alloc, problem, paths, nodes, watch)
@@ -65,18 +70,19 @@ fn search_from<W: Watch>(
     watch: &mut W,
 ) -> Result<Answer, NoMemory>
     requires { MatchOption paths (IsRoot problem.now None) (λ paths. AreRootPaths problem.now paths.items) }
-    ensures { IfOk result (IsAnyAnswerUpTo nodes problem.now) }
+    ensures answer { IfOk result (IsAnyAnswerUpTo nodes problem.now) }
+    ensures told { IfOk result (IsWatched W.told problem.now nodes watch.old watch.new) }
 {
     let waiting = begin(alloc, problem, paths)?;
     let low = LowLevel::new(alloc, problem)?;
-    let mut occupancy = Occupancy::new(alloc, problem.instance().map())?;
+    let mut occupancy = Occupancy::new(alloc, problem)?;
     search(alloc, &low, waiting, &mut occupancy, nodes, watch)
 }
 
 /// The root alone, if there is one.
 fn begin(alloc: Global, problem: &Problem, paths: Option<Vec<Path>>) -> Result<Waiting, NoMemory>
     requires { MatchOption paths (IsRoot problem.now None) (λ paths. AreRootPaths problem.now paths.items) }
-    ensures { IfOk result (IsUnderWay problem.now) }
+    ensures { IfOk result (IsBegun problem.now) }
 {
     let mut waiting = Waiting::new(alloc);
     if let Some(paths) = paths {
@@ -94,46 +100,46 @@ fn search<W: Watch>(
     most: Option<u64>,
     watch: &mut W,
 ) -> Result<Answer, NoMemory>
-    requires { IsUnderWay low.now waiting }
-    ensures { IfOk result (IsAnyAnswerUpTo most low.now) }
+    requires { IsBegun low.now waiting }
+    ensures answer { IfOk result (IsAnyAnswerUpTo most low.now) }
+    ensures told { IfOk result (IsWatched W.told low.now most watch.old watch.new) }
 {
     let problem = low.problem();
     let mut waiting = waiting;
+    let mut pair_costs = PairCosts::new(alloc);
+    let mut costs = KnownCosts::new(alloc);
     let mut nodes = 0;
     'steps: loop {
         let Some(node) = waiting.take_least() else {
             let bound = problem.bound();
-            watch.nodes_expanded(problem, nodes, u64::from(bound) + 1);
+            watch.nodes_expanded(nodes, u64::from(bound) + 1);
             return Ok(Answer::None { bound });
         };
         if !node.is_bounded() {
-            waiting.put(node.bounded(alloc, low, occupancy)?)?;
+            waiting.put(node.bounded(alloc, low, occupancy, &mut pair_costs)?)?;
             continue 'steps;
         }
-        watch.nodes_expanded(problem, nodes, node.label());
-        let Some(conflict) = node.choice(alloc, low)? else {
+        let least = node.label();
+        watch.nodes_expanded(nodes, least);
+        let Some(conflict) = node.choice(alloc, low, &mut costs)? else {
             let plan = node.into_plan();
             let stated = plan.cost();
             return Ok(Answer::Plan { plan, stated });
         };
-        if let Some(limit) = reached_limit(most, nodes) {
-            let least = node.label();
-            return Ok(Answer::GaveUp {
-                nodes: limit,
-                least,
-            });
+        if is_limit(most, nodes) {
+            return Ok(Answer::GaveUp { nodes, least });
         }
         expand(alloc, low, &node, &conflict, &mut waiting)?;
         nodes = nodes.saturating_add(1);
     }
 }
 
-/// The limit on nodes, if there is one and so many were expanded.
-fn reached_limit(most: Option<u64>, nodes: u64) -> Option<u64>
-    ensures { IfSome result (λ limit. most ≡ Some limit) }
+/// Whether so many nodes may be expanded, and no more.
+fn is_limit(most: Option<u64>, nodes: u64) -> bool
+    ensures { IsTrue result ↔ (most ≡ Some nodes) }
 {
     match most {
-        Some(limit) if nodes >= limit => Some(limit),
-        _ => None,
+        Some(limit) => limit == nodes,
+        None => false,
     }
 }

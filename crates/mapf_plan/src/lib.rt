@@ -14,7 +14,7 @@ mod text;
 
 pub use answer::{Answer, MOST_BOUND, MOST_NODES, MOST_STATED};
 pub use cache::{KnownPaths, KnownPlan};
-pub use collisions::first_conflict_of_changed;
+pub use collisions::{do_steps_collide, first_conflict_of_changed};
 pub use conflict::Conflict;
 pub use device::{
     Counted, DeviceFault, FileName, MOST_BYTES, ReadFault, Sink, Source, WriteFailed, read_file,

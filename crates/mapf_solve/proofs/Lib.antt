@@ -7,3 +7,4 @@ mod GoingOn
 mod WaitingNodes
 mod AgentJobs
 mod Boards
+mod Telling

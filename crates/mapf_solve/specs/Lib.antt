@@ -4,3 +4,4 @@ pub mod Wanted
 pub mod Run
 pub mod Rounds
 pub mod Sessions
+pub mod Told

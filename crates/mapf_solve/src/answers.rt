@@ -12,7 +12,7 @@ ghost use Rattle.mapf_solve.specs.Out.{AreNumbers, IsRefusal, IsProblemOf, IsTex
 use crate::means::Means;
 use crate::rounds::tables;
 use crate::wanted::{Wanted, solve_wanted};
-use crate::{Ask, NoWatch, Pace, Refusal, Watch};
+use crate::{Ask, NoWatch, Refusal, Watch};
 use mapf_board::{AlwaysGrants, Gate, MOST_WORKERS};
 use mapf_grid::{Instance, NoMemory, instance_of};
 use mapf_plan::{Answer, MOST_BOUND, MOST_NODES, Rule, write};
@@ -52,12 +52,12 @@ pub fn answer<R: Threads + Sync, G: Gate>(
     ensures same_fault { IfErr result
         (λ fault. fault ≢ Refusal.NoMemory → IsWorkers ask → IsOnlyOut map.now scen.now ask (Err fault)) }
 {
-    let means = Means::new(rt, alloc, Pace::LONGEST, gate);
+    let means = Means::new(rt, alloc, gate);
     text_or_fault(means, map, scen, ask, Wanted::FirstSolution, &mut NoWatch)
 }
 
 /// What [`answer`] gives, and a watch is told how far the search has come: first of the root, if that is in the tree, then after each
-/// 256 nodes or fewer, and last of the end. What is given doesn't depend on the watch.
+/// 256 nodes or fewer, by bounds before each node, and last of the end. What is given doesn't depend on the watch.
 pub fn answer_watched<R: Threads + Sync, G: Gate, W: Watch>(
     rt: &R,
     alloc: Global,
@@ -76,7 +76,7 @@ pub fn answer_watched<R: Threads + Sync, G: Gate, W: Watch>(
     ensures same_fault { IfErr result
         (λ fault. fault ≢ Refusal.NoMemory → IsWorkers ask → IsOnlyOut map.now scen.now ask (Err fault)) }
 {
-    let means = Means::new(rt, alloc, Pace::WATCHED, gate);
+    let means = Means::new(rt, alloc, gate);
     text_or_fault(means, map, scen, ask, Wanted::FirstSolution, watch)
 }
 

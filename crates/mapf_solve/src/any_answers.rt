@@ -8,7 +8,7 @@ use crate::alone::text_or_fault_alone;
 use crate::answers::text_or_fault;
 use crate::means::Means;
 use crate::wanted::Wanted;
-use crate::{Ask, NoWatch, Pace, Refusal, Watch};
+use crate::{Ask, NoWatch, Refusal, Watch};
 use mapf_board::Gate;
 use std::alloc::Global;
 use std::thread::Threads;
@@ -56,7 +56,7 @@ pub fn answer_any_watched<R: Threads + Sync, G: Gate, W: Watch>(
     ensures limit { IfOk result (λ bytes. (n : ℕ) → ask.nodes ≡ Some n
         → KeepsAnyLimit map.now scen.now ask n bytes.items) }
 {
-    let means = Means::new(rt, alloc, Pace::LONGEST, gate);
+    let means = Means::new(rt, alloc, gate);
     text_or_fault(means, map, scen, ask, Wanted::AnyOptimum, watch)
 }
 

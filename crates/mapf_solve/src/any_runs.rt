@@ -8,7 +8,7 @@ ghost use Rattle.mapf_solve.specs.Run.{end_of, files, LeavesAnyText, LeavesBest,
 use crate::means::Means;
 use crate::runs::write_text_or_fault;
 use crate::wanted::Wanted;
-use crate::{Ask, NoWatch, Pace, RunFault, Watch};
+use crate::{Ask, NoWatch, RunFault, Watch};
 use mapf_board::NoGate;
 use mapf_plan::{DeviceFault, FileName, Sink, Source};
 use std::alloc::Global;
@@ -83,6 +83,6 @@ pub fn run_any_watched<R: Threads + Sync, M: Source, S: Source, O: Sink, W: Watc
         (O.contents out.old) (O.contents out.new) result }
     ensures memory { IfErr result (λ fault. fault ≢ RunFault.Device DeviceFault.NoMemory) }
 {
-    let means = Means::new(rt, alloc, Pace::LONGEST, &NoGate);
+    let means = Means::new(rt, alloc, &NoGate);
     write_text_or_fault(means, map, scen, out, ask, Wanted::AnyOptimum, watch)
 }

@@ -30,20 +30,12 @@ pub struct Means<'a, R, G, S> {
 
 impl<'a, R, G> Means<'a, R, G, AlwaysGrants> {
     /// One worker, as long as no other number of them is asked for, and memory for each of its jobs.
-    pub(crate) fn new(
-        rt: &'a R,
-        alloc: Global,
-        pace: Pace,
-        gate: &'a G,
-    ) -> Means<'a, R, G, AlwaysGrants>
-        requires turns { pace.worker_turns ≤ MOST_WORKER_TURNS }
-        requires nodes { (1 ≤ pace.session_nodes) × (pace.session_nodes ≤ MOST_SESSION_NODES) }
-    {
+    pub(crate) fn new(rt: &'a R, alloc: Global, gate: &'a G) -> Means<'a, R, G, AlwaysGrants> {
         Means {
             rt,
             alloc,
             workers: 1,
-            pace,
+            pace: Pace::USUAL,
             gate,
             supply: &AlwaysGrants,
         }

@@ -6,8 +6,9 @@ pub const MOST_WORKER_TURNS: u64 = 1_000_000;
 /// The most nodes that are taken in a session.
 pub const MOST_SESSION_NODES: u64 = 4096;
 
-/// The most nodes that are taken in a session of a watched search. A watch is told between sessions, so it hears often.
-const WATCHED_NODES: u64 = 256;
+/// The most nodes that are taken in a session of an answer from files, whether it is watched or not: most searches that end by keys do
+/// so within a session, others go on by bounds sooner, and a watch hears often.
+const USUAL_NODES: u64 = 256;
 
 /// How long a session goes on. No answer depends on it.
 #[derive(Clone, Copy, Debug, PartialEq, Eq)]
@@ -25,9 +26,9 @@ impl Pace {
         session_nodes: MOST_SESSION_NODES,
     };
 
-    /// The sessions of a watched search.
-    pub(crate) const WATCHED: Pace = Pace {
+    /// The sessions of an answer from files.
+    pub(crate) const USUAL: Pace = Pace {
         worker_turns: MOST_WORKER_TURNS,
-        session_nodes: WATCHED_NODES,
+        session_nodes: USUAL_NODES,
     };
 }

@@ -9,7 +9,7 @@ ghost use Rattle.mapf_solve.specs.Run.{end_of, files, LeavesTextBy, LeavesText, 
 use crate::answers::text_or_fault;
 use crate::means::Means;
 use crate::wanted::Wanted;
-use crate::{Ask, NoWatch, Pace, RunFault, Watch};
+use crate::{Ask, NoWatch, RunFault, Watch};
 use mapf_board::{AlwaysGrants, NoGate};
 use mapf_plan::{DeviceFault, FileName, Sink, Source, read_file, write_text};
 use std::alloc::Global;
@@ -61,7 +61,7 @@ pub fn run<R: Threads + Sync, M: Source, S: Source, O: Sink>(
     // Out of memory is a refusal.
     ensures memory { IfErr result (λ fault. fault ≢ RunFault.Device DeviceFault.NoMemory) }
 {
-    let means = Means::new(rt, alloc, Pace::LONGEST, &NoGate);
+    let means = Means::new(rt, alloc, &NoGate);
     write_text_or_fault(
         means,
         map,
@@ -102,7 +102,7 @@ pub fn run_watched<R: Threads + Sync, M: Source, S: Source, O: Sink, W: Watch>(
         (O.contents out.old) (O.contents out.new) result }
     ensures memory { IfErr result (λ fault. fault ≢ RunFault.Device DeviceFault.NoMemory) }
 {
-    let means = Means::new(rt, alloc, Pace::WATCHED, &NoGate);
+    let means = Means::new(rt, alloc, &NoGate);
     write_text_or_fault(means, map, scen, out, ask, Wanted::FirstSolution, watch)
 }
 

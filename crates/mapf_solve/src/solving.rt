@@ -3,6 +3,7 @@
 ghost use Rattle.std.specs.Prelude.{◌≡◌, ◌<◌, ◌≤◌, IfOk, None, Ok};
 ghost use Rattle.mapf_tree.specs.Answered.{IsAnswerOf, IsBestAnswer};
 ghost use Rattle.mapf_board.specs.declared.limits.TheConstants.{MOST_WORKERS};
+ghost use Rattle.mapf_solve.specs.Told.{IsWatched};
 ghost use Rattle.mapf_solve.specs.declared.pace.TheConstants.{MOST_SESSION_NODES, MOST_WORKER_TURNS};
 
 use crate::means::Means;
@@ -10,12 +11,11 @@ use crate::pace::{MOST_SESSION_NODES, MOST_WORKER_TURNS, Pace};
 use crate::rounds::root;
 use crate::sessions::{Lookahead, OneProblem, SessionSearch, session};
 use crate::watch::tell;
-use crate::{NoWatch, Watch};
 use mapf_board::{AlwaysGrants, Gate, Supply};
 use mapf_bounds::finish_by_bounds;
 use mapf_grid::NoMemory;
 use mapf_plan::Answer;
-use mapf_tree::{Problem, Progress, Search};
+use mapf_tree::{NoWatch, Problem, Progress, Search, Watch};
 use std::alloc::Global;
 use std::marker::Brand;
 use std::thread::Threads;
@@ -96,6 +96,9 @@ pub fn solve_watched<R: Threads + Sync, G: Gate, S: Supply, W: Watch>(
 ) -> Result<Answer, NoMemory>
     ensures answer { IfOk result (IsAnswerOf problem.now) }
     ensures best { IfOk result (IsBestAnswer problem.now) }
+
+    // No plan without conflict costs less than the watch is told.
+    ensures told { IfOk result (λ _. IsWatched W.told problem.now watch.old watch.new) }
 {
     solve_from(means, problem, 0, watch)
 }
@@ -107,7 +110,8 @@ pub(crate) fn solve_from<R: Threads + Sync, G: Gate, S: Supply, W: Watch>(
     first: u64,
     watch: &mut W,
 ) -> Result<Answer, NoMemory>
-    ensures { IfOk result (IsAnswerOf problem.now) }
+    ensures answer { IfOk result (IsAnswerOf problem.now) }
+    ensures told { IfOk result (λ _. IsWatched W.told problem.now watch.old watch.new) }
 {
     solve_in_sessions::<Brand, R, G, S, W>(means, problem, first, watch)
 }
@@ -120,14 +124,15 @@ fn solve_in_sessions<P: OneProblem, R: Threads + Sync, G: Gate, S: Supply, W: Wa
     watch: &mut W,
 ) -> Result<Answer, NoMemory>
     requires { problem.now ≡ P.problem }
-    ensures { IfOk result (IsAnswerOf P.problem) }
+    ensures answer { IfOk result (IsAnswerOf P.problem) }
+    ensures told { IfOk result (λ _. IsWatched W.told P.problem watch.old watch.new) }
 {
     let mut sessions = begin::<P, R, G, S>(means, problem, first)?;
-    tell(watch, problem, &sessions.search);
+    tell(watch, &sessions.search);
     loop {
         let (further, progress) = session(means, sessions);
         sessions = further;
-        tell(watch, problem, &sessions.search);
+        tell(watch, &sessions.search);
         let Ok(Progress::Working) = progress else {
             break;
         };
@@ -147,7 +152,8 @@ fn finish<P: OneProblem, W: Watch>(
 ) -> Result<Answer, NoMemory>
     requires open_yet { sessions.search.outcome ≡ Ok None }
     requires unlimited { P.problem.nodes ≡ None }
-    ensures { IfOk result (IsAnswerOf P.problem) }
+    ensures answer { IfOk result (IsAnswerOf P.problem) }
+    ensures told { IfOk result (λ _. IsWatched W.told P.problem watch.old watch.new) }
 {
     let SessionSearch { search, lookahead } = sessions;
     finish_by_bounds(alloc, search, lookahead.into_own_paths(), watch)

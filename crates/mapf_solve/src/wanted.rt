@@ -9,7 +9,7 @@ use crate::rounds::root_paths;
 use crate::solving::solve_from;
 use crate::{NoWatch, Watch};
 use mapf_board::{AlwaysGrants, Gate};
-use mapf_bounds::solve_alone;
+use mapf_bounds::solve_by_bounds;
 use mapf_grid::NoMemory;
 use mapf_optimum::{solve_any, solve_any_from};
 use mapf_plan::Answer;
@@ -57,7 +57,7 @@ pub(crate) fn solve_wanted_alone(
     ensures any { IfOk result (IsAnyAnswer problem.now) }
 {
     match wanted {
-        Wanted::FirstSolution => solve_alone(alloc, problem),
+        Wanted::FirstSolution => solve_by_bounds(alloc, problem),
         Wanted::AnyOptimum => solve_any(alloc, problem, &mut NoWatch),
     }
 }

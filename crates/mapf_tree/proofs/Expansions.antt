@@ -1,8 +1,8 @@
 -- One step of a search over nodes.
 use Rattle.mapf_tree.proofs.Prelude.{◌≡◌, ◌⊎◌, ℕ, ◌+◌, ◌<◌, ◌≤◌, min, List, [], ◌∷◌, Bool, true, false, Option, Some, None, is_some, IsSome, not, Result, Ok, inl, inr, subst, sym, refl, ap, ◌∙◌, ⊎_elim, arith, Contains, nowhere, here}
-use Rattle.mapf_tree.specs.Prelude.{NoMemory, IsLeast, plan_cost, HasNoConflict, IsValid, Conflict, Key, Left, Right}
+use Rattle.mapf_tree.specs.Prelude.{NoMemory, IsLeast, plan_cost, HasNoConflict, IsValid, Conflict, Left, Right}
 use Rattle.mapf_tree.specs.declared.search.expansion.Expansion.TheVariants as variant
-use Rattle.mapf_tree.specs.Prelude.{key_rank, root_of, key, IsAnswer, PlannedNode, IsMember, IsRoot, IsBranching, IsChildOf, IsRising, IsAddedIfSome, Answer}
+use Rattle.mapf_tree.specs.Prelude.{root_of, key, IsAnswer, PlannedNode, IsMember, IsRoot, IsBranching, IsChildOf, IsRising, IsAddedIfSome, Answer}
 use Rattle.mapf_plan.specs.declared.answer.Answer.TheVariants as answer
 use Rattle.mapf_tree.specs.Prelude.{Problem, IsLimit, IsReached, IsWaiting, IsTakenTo, NoneSolves, IsLawful, IsCounted, TakesBetween, most_counted, IsSearchAt, ExpandsLeast, TakesLeast, IsGivenUp, GoesUpTo, TakesOne, Node, node_key, AllStand, HasNodeFor}
 use Rattle.mapf_tree.proofs.SearchLaws.{reached_now, reached_then, next_waits, ends_at_first, ends_at_none, starts}
@@ -72,11 +72,11 @@ root_waits p o old new none is given = (record { greatest = tt; none_before = λ
     at = starts p (HasNodeFor p new) (λ m. ((λ s. ⊎_elim (λ k. absurd (nowhere k.1)) (λ h. h) ((adds.shows m).0 s)), (λ h. (adds.shows m).1 (inr h))))
 
 -- a node is taken whose plan has no conflict
-pub solved_case : (p : Problem) (old new : List Node) (first : Node) (k : Key) (plan : List (List ℕ)) → old ≡ first ∷ new → IsRising old → AllStand p old → first.conflict ≡ None → key_rank k ≡ node_key first → plan ≡ first.plan → k.cost ≡ plan_cost first.plan → TakesLeast p old new (variant.Solved k plan)
-solved_case p old new first k plan e rising all none rank is cost =
+pub solved_case : (p : Problem) (old new : List Node) (first : Node) (plan : List (List ℕ)) → old ≡ first ∷ new → IsRising old → AllStand p old → first.conflict ≡ None → plan ≡ first.plan → TakesLeast p old new (variant.Solved first plan)
+solved_case p old new first plan e rising all none is =
     let x = all first (subst (λ ns. Contains ns first) (sym e) (here new refl)) in
     let free = none_stands p first x.0 x.1 none in
-    (x.0, solved_expansion p old new first x.0 e rising all x.1 free, free, rank ∙ key-stands p first x.0 x.1, is ∙ x.1.plan, cost ∙ ap plan_cost (sym is))
+    (x.0, solved_expansion p old new first x.0 e rising all x.1 free, free, key-stands p first x.0 x.1, is ∙ x.1.plan)
 
 -- a conflict that a test found
 pub conflict_there : (o q : Option Conflict) (b : Bool) → is_some o ≡ not b → o ≡ q → b ≡ false → (c : Conflict) × (q ≡ Some c)
@@ -99,11 +99,11 @@ branches p old rest first e all some =
     record { of = x.0; stands = x.1; conflict = some }
 
 -- a node is expanded
-pub branched_case : (p : Problem) (old rest mid new : List Node) (first : Node) (k : Key) (l r : Option Node) → old ≡ first ∷ rest → IsRising old → AllStand p old → ((c : Conflict) × (first.conflict ≡ Some c)) → IsChildOf p first Left l → IsChildOf p first Right r → IsAddedIfSome rest l mid → IsAddedIfSome mid r new → key_rank k ≡ node_key first → TakesLeast p old new (variant.Branched k)
-branched_case p old rest mid new first k l r e rising all c left right put put' rank =
+pub branched_case : (p : Problem) (old rest mid new : List Node) (first : Node) (l r : Option Node) → old ≡ first ∷ rest → IsRising old → AllStand p old → ((c : Conflict) × (first.conflict ≡ Some c)) → IsChildOf p first Left l → IsChildOf p first Right r → IsAddedIfSome rest l mid → IsAddedIfSome mid r new → TakesLeast p old new (variant.Branched first)
+branched_case p old rest mid new first l r e rising all c left right put put' =
     let x = all first (subst (λ ns. Contains ns first) (sym e) (here rest refl)) in
     let f = conflict_stands p first x.0 c.0 x.1 c.1 in
-    (x.0, branched_expansion p old rest mid new first x.0 c.0 l r e rising all x.1 c.1 (left x.0 c.0 x.1 c.1) (right x.0 c.0 x.1 c.1) put put', (λ n. n c.0 f.member), rank ∙ key-stands p first x.0 x.1)
+    (x.0, branched_expansion p old rest mid new first x.0 c.0 l r e rising all x.1 c.1 (left x.0 c.0 x.1 c.1) (right x.0 c.0 x.1 c.1) put put', (λ n. n c.0 f.member), key-stands p first x.0 x.1)
 
 -- a search without an answer has no solution yet
 going : (p : Problem) (old : List Node) (last : Option (List ℕ)) (outcome : Result (Option Answer) NoMemory) → IsLawful p old last outcome → outcome ≡ Ok None → IsTakenTo p last old × NoneSolves p last
@@ -134,29 +134,29 @@ counted_at p last k n counted few limit =
     (counted.0 (omega (arith, less, (subst IsLimit limit few).1)), less)
 
 -- it goes on once a node is expanded
-pub branched_lawful : (p : Problem) (old new : List Node) (last : Option (List ℕ)) (outcome : Result (Option Answer) NoMemory) (k : Key) → IsLawful p old last outcome → outcome ≡ Ok None → TakesLeast p old new (variant.Branched k) → IsLawful p new (Some (key_rank k)) outcome × TakesOne p last (Some (key_rank k))
-branched_lawful p old new last outcome k h e t =
+pub branched_lawful : (p : Problem) (old new : List Node) (last : Option (List ℕ)) (outcome : Result (Option Answer) NoMemory) (node : Node) → IsLawful p old last outcome → outcome ≡ Ok None → TakesLeast p old new (variant.Branched node) → IsLawful p new (Some (node_key node)) outcome × TakesOne p last (Some (node_key node))
+branched_lawful p old new last outcome node h e t =
     let s = going p old last outcome h e in
     let to = taken_to p last old s.0 s.1 new t.0 t.1 in
     let none = none_solves p last old s.0 s.1 new t.0 t.1 t.2 in
     let one = takes_one p last old s.0 s.1 new t.0 t.1 in
-    (subst (λ o. IsLawful p new (Some (key_rank k)) o) (sym e) (subst (λ r. IsTakenTo p (Some r) new × NoneSolves p (Some r)) (sym t.3) (to, none)), subst (λ r. TakesOne p last (Some r)) (sym t.3) one)
+    (subst (λ o. IsLawful p new (Some (node_key node)) o) (sym e) (subst (λ r. IsTakenTo p (Some r) new × NoneSolves p (Some r)) (sym t.3) (to, none)), subst (λ r. TakesOne p last (Some r)) (sym t.3) one)
 
 -- it has the answer once a solution is taken
-pub solved_lawful : (p : Problem) (old new : List Node) (last : Option (List ℕ)) (outcome : Result (Option Answer) NoMemory) (taken : ℕ) (k : Key) (plan : List (List ℕ)) → IsLawful p old last outcome → outcome ≡ Ok None
-    → IsCounted p last taken → IsLimit p.nodes → GoesUpTo p old taken → TakesLeast p old new (variant.Solved k plan) → IsLawful p new (Some (key_rank k)) (Ok (Some (answer.Plan plan k.cost))) × TakesOne p last (Some (key_rank k))
-solved_lawful p old new last outcome taken k plan h e counted few up t =
+pub solved_lawful : (p : Problem) (old new : List Node) (last : Option (List ℕ)) (outcome : Result (Option Answer) NoMemory) (taken : ℕ) (node : Node) (plan : List (List ℕ)) (stated : ℕ) → IsLawful p old last outcome → outcome ≡ Ok None
+    → IsCounted p last taken → IsLimit p.nodes → GoesUpTo p old taken → TakesLeast p old new (variant.Solved node plan) → stated ≡ plan_cost plan → IsLawful p new (Some (node_key node)) (Ok (Some (answer.Plan plan stated))) × TakesOne p last (Some (node_key node))
+solved_lawful p old new last outcome taken node plan stated h e counted few up t cost =
     let s = going p old last outcome h e in
     let to = taken_to p last old s.0 s.1 new t.0 t.1 in
     let is = solves p last old s.0 s.1 new t.0 t.1 t.2 in
     let one = takes_one p last old s.0 s.1 new t.0 t.1 in
-    let stated : answer.Plan plan k.cost ≡ answer.Plan t.0.1 (plan_cost t.0.1) = ap (λ n. answer.Plan plan n) t.5 ∙ ap (λ q. answer.Plan q (plan_cost q)) t.4 in (
+    let states : answer.Plan plan stated ≡ answer.Plan t.0.1 (plan_cost t.0.1) = ap (λ n. answer.Plan plan n) cost ∙ ap (λ q. answer.Plan q (plan_cost q)) t.4 in (
       (
         subst (λ r. IsTakenTo p (Some r) new) (sym t.3) to,
-        as_stated p (answer.Plan plan k.cost)
+        as_stated p (answer.Plan plan stated)
             (λ n limit. solved_before p last (HasNodeFor p old) (at p last old s.0 s.1) t.0 t.1.least n taken (counted_at p last taken n counted few limit).0 (one_more p old new t.0 taken n up limit t.1) t.2)
-            (Some plan, subst (λ q. IsAnswer p (Some q)) (sym t.4) is, ap (λ n. answer.Plan plan n) t.5),
-        inr (inl (t.0, is_member p last old s.0 s.1 new t.0 t.1, t.2, ap Some t.3, stated)),
+            (Some plan, subst (λ q. IsAnswer p (Some q)) (sym t.4) is, ap (λ n. answer.Plan plan n) cost),
+        inr (inl (t.0, is_member p last old s.0 s.1 new t.0 t.1, t.2, ap Some t.3, states)),
       ),
       subst (λ r. TakesOne p last (Some r)) (sym t.3) one,
     )

@@ -58,7 +58,7 @@ pub ended : (s : Searched) (given : Answer) → IsSearch s → s.outcome ≡ Ok 
 ended s given h e = let k = subst (λ o. IsLawful s.problem s.waiting s.last o) e h in k.2
 
 -- what is stated of the answer is best
-best_stated : (problem : Problem) (given : Answer) → IsStated problem given → IsBestAnswer problem given
+pub best_stated : (problem : Problem) (given : Answer) → IsStated problem given → IsBestAnswer problem given
 best_stated problem given (Some plan, is, e) = subst (λ a. IsBestAnswer problem a) (sym e) (answer_is_optimum problem plan is, refl)
 best_stated problem given (None, is, e) = subst (λ a. IsBestAnswer problem a) (sym e) (refl, (none_is_none problem).0 is)
 

@@ -31,4 +31,5 @@ pub mod OpenNodes
 pub mod Expansions
 pub mod Remaining
 pub mod GoingOn
-mod LowerBounds
+pub mod LowerBounds
+pub mod Telling

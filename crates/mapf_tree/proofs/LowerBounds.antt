@@ -2,9 +2,9 @@
 use Rattle.mapf_tree.proofs.Prelude.{◌≡◌, ℕ, ◌+◌, ◌≤◌, List, [], ◌∷◌, take, Option, Some, None, Result, Ok, Err, inl, inr, subst, sym, refl, ap, ◌∙◌, ⊎_elim, arith, Contains, cases_lt, here}
 use Rattle.mapf_tree.specs.Prelude.{NoMemory, IsLeast, plan_cost, Answer}
 use Rattle.mapf_plan.specs.declared.answer.Answer.TheVariants as answer
-use Rattle.mapf_tree.specs.Prelude.{Problem, Key, key, key_rank, Node, node_key, AllStand, HasNodeFor, IsBestAnswer, IsRising, IsLawful, IsLeastCost, IsLowerBound, IsBelowAll, least_stated}
+use Rattle.mapf_tree.specs.Prelude.{Problem, Key, key, key_rank, Node, node_key, AllStand, HasNodeFor, IsStated, IsBestAnswer, IsRising, IsLawful, IsLeastCost, IsLowerBound, IsBelowAll, least_stated}
 use Rattle.mapf_tree.proofs.Descent.{none_is_none}
-use Rattle.mapf_tree.proofs.GoingOn.{best_answer}
+use Rattle.mapf_tree.proofs.GoingOn.{best_stated, best_answer}
 use Rattle.mapf_tree.proofs.OpenNodes.{first_is_least}
 use Rattle.mapf_tree.proofs.Expansions.{least_below, none_left}
 
@@ -32,6 +32,10 @@ stated_is_below : (p : Problem) (given : Answer) → IsBestAnswer p given → Is
 stated_is_below p (answer.Plan given cost) best plan valid = omega (arith, best.1, best.0.least plan valid)
 stated_is_below p (answer.None bound) best plan valid = omega (arith, best.0, over_bound p.bound (plan_cost plan) (best.1 plan valid))
 stated_is_below p (answer.GaveUp nodes least) best plan valid = best.1 plan valid
+
+-- and what an answer without a limit on nodes states
+pub stated_below : (p : Problem) (given : Answer) → IsStated p given → IsBelowAll p (least_stated given)
+stated_below p given is = stated_is_below p given (best_stated p given is)
 
 -- what a search knows
 pub known_is_below : (p : Problem) (nodes : List Node) (last : Option (List ℕ)) (outcome : Result (Option Answer) NoMemory) (least : ℕ) → IsLawful p nodes last outcome → IsLowerBound p nodes outcome least → IsBelowAll p least

@@ -1,5 +1,5 @@
 -- Which nodes of the tree a list of nodes stands for, when a node is taken out or put in.
-use Rattle.mapf_tree.proofs.Prelude.{◌≡◌, ◌≢◌, ◌⊎◌, ◌↔◌, ℕ, List, ◌∷◌, length, map, Option, Some, None, inl, inr, subst, sym, refl, ap, ap₂, ◌∙◌, ⊎_elim, Contains, All-contains, All-from_recursion, here, there, here_or_there, irreflexive, asymmetric, same_first}
+use Rattle.mapf_tree.proofs.Prelude.{◌≡◌, ◌≢◌, ◌⊎◌, ◌↔◌, ℕ, List, ◌∷◌, length, map, Option, Some, None, inl, inr, subst, sym, refl, ap, ap₂, ◌∙◌, ⊎_elim, Contains, All-contains, All-from_recursion, here, there, here_or_there, irreflexive, asymmetric, by_compare, before_is_other, same_first}
 use Rattle.mapf_tree.specs.Prelude.{Precedes, IsLeast, Conflict, plan_cost, HasNoConflict, IsFirstConflict, Side, Left, Right, Problem, turn, TreeNode, HasPlan, root_of, side_of, key, PlannedNode, IsMember, IsChild, Node, node_key, StandsFor, IsConflictOf, AllStand, HasNodeFor, IsRoot, IsSide, IsRising, IsPut, IsAddedIfSome, ExpandsLeast}
 use Rattle.mapf_tree.proofs.Plans.{same_plan}
 use Rattle.mapf_tree.proofs.Unique.{same_member}
@@ -39,21 +39,20 @@ module _ (p : Problem) (first : Node) (rest : List Node) (x : PlannedNode) (risi
 module _ (p : Problem) (old new : List Node) (node : Node) (y : PlannedNode) (all : AllStand p old) (put : IsPut old node new) (is : StandsFor p node y) where
   -- and all nodes stand for nodes
   added_all : AllStand p new
-  added_all n c = ⊎_elim (λ o. all n (subst (λ ns. Contains ns n) o.1 c)) (λ o. ⊎_elim (λ e. (y, subst (λ k. StandsFor p k y) (sym e) is)) (all n) ((o.1 n).0 c)) put
+  added_all n c = ⊎_elim (λ e. (y, subst (λ k. StandsFor p k y) (sym e) is)) (λ o. all n o.0) ((put n).0 c)
 
   -- a node that is put in adds its node
   added_shows : (m : PlannedNode) → HasNodeFor p new m ↔ (HasNodeFor p old m ⊎ (m ≡ y))
-  added_shows m = shows put
+  added_shows m = (
+    (λ s. ⊎_elim (λ e. inr (same_stands p s.0 node m y s.2 is (ap node_key e))) (λ i. inl (s.0, i.0, s.2)) ((put s.0).0 s.1)),
+    ⊎_elim (λ s. by_compare (node_key s.0) (node_key node) (λ e. here_now (same_stands p s.0 node m y s.2 is e)) (λ h. stays s (before_is_other (node_key s.0) (node_key node) h)) (λ h. stays s (λ e. before_is_other (node_key node) (node_key s.0) h (sym e)))) here_now,
+  )
     where
-      shows : IsPut old node new → HasNodeFor p new m ↔ (HasNodeFor p old m ⊎ (m ≡ y))
-      shows (inl (other, same)) = (
-        (λ s. inl (subst (λ ns. HasNodeFor p ns m) same s)),
-        (λ h. subst (λ ns. HasNodeFor p ns m) (sym same) (⊎_elim (λ s. s) (λ e. (other.0, other.1, let q = all other.0 other.1 in subst (StandsFor p other.0) (same_stands p other.0 node q.0 y q.1 is other.2 ∙ sym e) q.1)) h)),
-      )
-      shows (inr (none, puts)) = (
-        (λ s. ⊎_elim (λ e. inr (same_stands p s.0 node m y s.2 is (ap node_key e))) (λ i. inl (s.0, i, s.2)) ((puts s.0).0 s.1)),
-        ⊎_elim (λ s. (s.0, (puts s.0).1 (inr s.1), s.2)) (λ e. (node, (puts node).1 (inl refl), subst (λ z. StandsFor p node z) (sym e) is)),
-      )
+      here_now : m ≡ y → HasNodeFor p new m
+      here_now e = (node, (put node).1 (inl refl), subst (λ z. StandsFor p node z) (sym e) is)
+
+      stays : (s : HasNodeFor p old m) → node_key s.0 ≢ node_key node → HasNodeFor p new m
+      stays s other = (s.0, (put s.0).1 (inr (s.1, other)), s.2)
 
 -- what a list shows once the node of a node is put in, if that has one
 pub record AddsSide (p : Problem) (old new : List Node) (side : TreeNode) : Type 0 where

@@ -1,6 +1,10 @@
 -- Nodes in strict order by key, and a list of them with one node put in. std keeps them backwards.
-use Rattle.mapf_tree.proofs.Prelude.{◌≡◌, ℕ, List, [], ◌∷◌, ◌++◌, reverse, Less, Equal, Greater, Ordering, nat_cmp, inl, inr, refl, subst, sym, ap, ◌∙◌, ⊎_elim, Contains, All-push, Contains-append_left, Contains-append_right, recursion_from_All, reverse-append, reverse-reverse, All-contains, All-from_recursion, nowhere, here, there, here_or_there, by_compare, before_is_other, transitive}
-use Rattle.std.specs.BTreeSet.{insert_key}
+use Rattle.mapf_tree.proofs.Prelude.{◌≡◌, ℕ, List, [], ◌∷◌, ◌++◌, reverse, true, false, not, Less, Equal, Greater, Ordering, nat_cmp, inl, inr, refl, subst, sym, ap, ◌∙◌, ⊎_elim, Contains, All-push, Contains-append_left, Contains-append_right, recursion_from_All, reverse-append, reverse-reverse, All-contains, All-from_recursion, nowhere, here, there, here_or_there, by_compare, before_is_other, transitive}
+use Rattle.std.specs.BTreeSet.{insert_key, replace_key}
+use Rattle.std.specs.BTreeMap.{is_at}
+use Rattle.std.specs.Prelude.{◌||◌}
+use Rattle.std.specs.List.{list_any}
+use Rattle.std.specs.Ordering.{is_eq}
 use Rattle.std.specs.List.Sorted.{IsStrictlySortedBy}
 use Rattle.mapf_tree.specs.Prelude.{IsTotalOrder, nat_cmp_total, tied_itself, slice_cmp, lists_total, ordering_reverse, match_ordering, Precedes, Node, node_key, by_key, IsRising, IsPut}
 use Rattle.mapf_tree.proofs.Keyed.{Precedes-slice_cmp}
@@ -51,14 +55,17 @@ sorted_rises (n ∷ ns) h =
 
 module _ (x node : Node) (xs later : List Node) (sorted : IsStrictlySortedBy by_key (x ∷ xs)) where
   -- the first has its key
-  over : node_key node ≡ node_key x → IsPut (x ∷ xs) node (x ∷ xs)
-  over e = inl ((x, here xs refl, sym e), refl)
+  over : node_key node ≡ node_key x → IsPut (x ∷ xs) node (node ∷ xs)
+  over e n = (
+    (λ c. ⊎_elim (λ f. inl (sym f)) (λ i. inr (there xs i, λ k. before_is_other (node_key n) (node_key x) (last_of_all x xs sorted n i) (k ∙ e))) (here_or_there xs c)),
+    ⊎_elim (λ f. here xs (sym f)) (λ i. ⊎_elim (λ f. absurd (i.1 (ap node_key (sym f) ∙ sym e))) (there xs) (here_or_there xs i.0)),
+  )
 
   -- it comes after all
   ahead : Precedes (node_key x) (node_key node) → IsPut (x ∷ xs) node (node ∷ x ∷ xs)
-  ahead h = inr (
-    (λ k i e. before_is_other (node_key k) (node_key node) (before k i) e),
-    λ n. ((λ c. ⊎_elim (λ f. inl (sym f)) inr (here_or_there (x ∷ xs) c)), ⊎_elim (λ f. here (x ∷ xs) (sym f)) (there (x ∷ xs))),
+  ahead h n = (
+    (λ c. ⊎_elim (λ f. inl (sym f)) (λ i. inr (i, before_is_other (node_key n) (node_key node) (before n i))) (here_or_there (x ∷ xs) c)),
+    ⊎_elim (λ f. here (x ∷ xs) (sym f)) (λ i. there (x ∷ xs) i.0),
   )
     where
       before : (k : Node) → Contains (x ∷ xs) k → Precedes (node_key k) (node_key node)
@@ -66,39 +73,42 @@ module _ (x node : Node) (xs later : List Node) (sorted : IsStrictlySortedBy by_
 
   -- it comes before the first
   behind : Precedes (node_key node) (node_key x) → IsPut xs node later → IsPut (x ∷ xs) node (x ∷ later)
-  behind h (inl (other, same)) = inl ((other.0, there xs other.1, other.2), ap (λ l. x ∷ l) same)
-  behind h (inr (none, puts)) = inr (
-    (λ k i e. ⊎_elim (λ f. before_is_other (node_key node) (node_key x) h (sym (ap node_key f ∙ e))) (λ j. none k j e) (here_or_there xs i)),
-    λ n. (
-      (λ c. ⊎_elim (λ f. inr (here xs f)) (λ i. ⊎_elim inl (λ j. inr (there xs j)) ((puts n).0 i)) (here_or_there later c)),
-      ⊎_elim (λ f. there later ((puts n).1 (inl f))) (λ i. ⊎_elim (here later) (λ j. there later ((puts n).1 (inr j))) (here_or_there xs i)),
-    ),
+  behind h puts n = (
+    (λ c. ⊎_elim (λ f. inr (here xs f, λ e. before_is_other (node_key node) (node_key x) h (sym (ap node_key f ∙ e)))) (λ i. ⊎_elim inl (λ j. inr (there xs j.0, j.1)) ((puts n).0 i)) (here_or_there later c)),
+    ⊎_elim (λ f. there later ((puts n).1 (inl f))) (λ i. ⊎_elim (here later) (λ j. there later ((puts n).1 (inr (j, i.1)))) (here_or_there xs i.0)),
   )
 
-  put_at : IsPut xs node later → IsPut (x ∷ xs) node (match_ordering (by_key node x) (node ∷ x ∷ xs) (x ∷ xs) (x ∷ later))
+  put_at : IsPut xs node later → IsPut (x ∷ xs) node (match_ordering (by_key node x) (node ∷ x ∷ xs) (node ∷ xs) (x ∷ later))
   put_at others =
       by_compare (node_key node) (node_key x) (λ e. by (equal_ranks (node_key x) (node_key node) (sym e)) (over e)) (λ h. by (greater_rank (node_key x) (node_key node) h) (behind h others))
       (λ h. by (lesser_rank (node_key x) (node_key node) h) (ahead h))
     where
-      by : {o : Ordering} → by_key node x ≡ o → IsPut (x ∷ xs) node (match_ordering o (node ∷ x ∷ xs) (x ∷ xs) (x ∷ later)) → IsPut (x ∷ xs) node (match_ordering (by_key node x) (node ∷ x ∷ xs) (x ∷ xs) (x ∷ later))
-      by e is = subst (λ o. IsPut (x ∷ xs) node (match_ordering o (node ∷ x ∷ xs) (x ∷ xs) (x ∷ later))) (sym e) is
+      by : {o : Ordering} → by_key node x ≡ o → IsPut (x ∷ xs) node (match_ordering o (node ∷ x ∷ xs) (node ∷ xs) (x ∷ later)) → IsPut (x ∷ xs) node (match_ordering (by_key node x) (node ∷ x ∷ xs) (node ∷ xs) (x ∷ later))
+      by e is = subst (λ o. IsPut (x ∷ xs) node (match_ordering o (node ∷ x ∷ xs) (node ∷ xs) (x ∷ later))) (sym e) is
 
--- a node at its place, unless one has its key
-put_in : (old : List Node) (node : Node) → IsStrictlySortedBy by_key old → IsPut old node (insert_key by_key old node)
+-- a node at its place, in the place of one that has its key
+put_in : (old : List Node) (node : Node) → IsStrictlySortedBy by_key old → IsPut old node (replace_key by_key old node)
 unfolding IsStrictlySortedBy
-put_in [] node s = inr ((λ k i e. nowhere i), λ n. ((λ c. ⊎_elim (λ e. inl (sym e)) (λ i. absurd (nowhere i)) (here_or_there [] c)), ⊎_elim (λ e. here [] (sym e)) (λ i. absurd (nowhere i))))
-put_in (x ∷ xs) node s = put_at x node xs (insert_key by_key xs node) s (put_in xs node s.1)
+put_in [] node s = λ n. ((λ c. ⊎_elim (λ e. inl (sym e)) (λ i. absurd (nowhere i)) (here_or_there [] c)), ⊎_elim (λ e. here [] (sym e)) (λ i. absurd (nowhere i.0)))
+put_in (x ∷ xs) node s = put_at x node xs (replace_key by_key xs node) s (put_in xs node s.1)
 
 -- and so it is backwards
-pub put_back : (old : List Node) (node : Node) → IsStrictlySortedBy by_key old → IsPut (reverse old) node (reverse (insert_key by_key old node))
-put_back old node s = back (put_in old node s)
+pub put_back : (old : List Node) (node : Node) → IsStrictlySortedBy by_key old → IsPut (reverse old) node (reverse (replace_key by_key old node))
+put_back old node s n = (
+  (λ c. ⊎_elim inl (λ i. inr (in_reverse old n i.0, i.1)) ((put_in old node s n).0 (of_reverse (replace_key by_key old node) n c))),
+  λ c. in_reverse (replace_key by_key old node) n ((put_in old node s n).1 (⊎_elim inl (λ i. inr (of_reverse old n i.0, i.1)) c)),
+)
+
+-- std only puts in what has no equal, and that is the same
+new_in : (old : List Node) (node : Node) → true ≡ not (list_any (is_at (by_key node)) old) → insert_key by_key old node ≡ replace_key by_key old node
+new_in [] node new = refl
+new_in (x ∷ xs) node new = by (new_in xs node) (by_key node x) new
   where
-    back : IsPut old node (insert_key by_key old node) → IsPut (reverse old) node (reverse (insert_key by_key old node))
-    back (inl (k, same)) = inl ((k.0, in_reverse old k.0 k.1, k.2), ap reverse same)
-    back (inr (none, puts)) = inr (
-      (λ k i. none k (of_reverse old k i)),
-      λ n. (
-        (λ c. ⊎_elim inl (λ i. inr (in_reverse old n i)) ((puts n).0 (of_reverse (insert_key by_key old node) n c))),
-        λ c. in_reverse (insert_key by_key old node) n ((puts n).1 (⊎_elim inl (λ i. inr (of_reverse old n i)) c)),
-      ),
-    )
+    by : (true ≡ not (list_any (is_at (by_key node)) xs) → insert_key by_key xs node ≡ replace_key by_key xs node) → (o : Ordering) → true ≡ not (is_eq o || list_any (is_at (by_key node)) xs) →
+        match_ordering o (node ∷ x ∷ xs) (x ∷ xs) (x ∷ insert_key by_key xs node) ≡ match_ordering o (node ∷ x ∷ xs) (node ∷ xs) (x ∷ replace_key by_key xs node)
+    by rest Less other = refl
+    by rest Equal other = let e : true ≡ false = other in cc
+    by rest Greater other = ap (λ l. x ∷ l) (rest other)
+
+pub new_back : (old : List Node) (node : Node) → IsStrictlySortedBy by_key old → true ≡ not (list_any (is_at (by_key node)) old) → IsPut (reverse old) node (reverse (insert_key by_key old node))
+new_back old node s new = subst (λ l. IsPut (reverse old) node (reverse l)) (sym (new_in old node new)) (put_back old node s)

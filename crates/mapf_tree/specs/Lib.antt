@@ -13,4 +13,5 @@ pub mod Laws
 pub mod OpenList
 pub mod Search
 pub mod LowerBound
+pub mod Told
 pub mod Steps

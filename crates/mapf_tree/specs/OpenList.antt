@@ -10,11 +10,9 @@ abbrev pub IsRising : List Node → Type 0
 IsRising [] = Unit {0}
 IsRising (n ∷ ns) = AllByRecursion (λ m. Precedes (node_key n) (node_key m)) ns × IsRising ns
 
--- a node with the same key waits, and nothing changes; or none does, and the new list has the old nodes and this one
+-- the new list has this node, and the old ones with other keys
 abbrev pub IsPut : List Node → Node → List Node → Type 0
-IsPut old node new =
-    (((k : Node) × Contains old k × (node_key k ≡ node_key node)) × (new ≡ old))
-    ⊎ (((k : Node) → Contains old k → node_key k ≢ node_key node) × ((n : Node) → Contains new n ↔ ((n ≡ node) ⊎ Contains old n)))
+IsPut old node new = (n : Node) → Contains new n ↔ ((n ≡ node) ⊎ (Contains old n × (node_key n ≢ node_key node)))
 
 -- the node is added, if there is one
 abbrev pub IsAddedIfSome : List Node → Option Node → List Node → Type 0

@@ -3,7 +3,7 @@ use Rattle.std.specs.List.{AllByRecursion}
 use Rattle.std.specs.Prelude.{◌≡◌, ◌≢◌, ◌<◌, ◌≤◌, length, [], ℕ, ◌⊎◌, ◌↔◌, List, Option, Some, None, Result, Ok, Err, IsErr, Contains}
 use Rattle.mapf_grid.specs.declared.fault.NoMemory.{NoMemory}
 use Rattle.mapf_grid.specs.Least.{IsLeast}
-use Rattle.mapf_plan.specs.Plan.{plan_cost, HasNoConflict}
+use Rattle.mapf_plan.specs.Plan.{HasNoConflict}
 use Rattle.mapf_plan.specs.declared.answer.Answer.{Answer}
 use Rattle.mapf_plan.specs.declared.answer.Answer.TheVariants as answer
 use Rattle.mapf_tree.specs.declared.search.progress.Progress.{Progress}
@@ -11,8 +11,8 @@ use Rattle.mapf_tree.specs.declared.search.progress.Progress.TheVariants.{Workin
 use Rattle.mapf_tree.specs.declared.search.expansion.Expansion.{Expansion}
 use Rattle.mapf_tree.specs.declared.search.expansion.Expansion.TheVariants as expansion
 use Rattle.mapf_tree.specs.Problem.{Problem}
-use Rattle.mapf_tree.specs.Tree.{PlannedNode, IsMember, EachOnce, root_of, key, key_rank, IsFirstSolution, IsAnswer}
-use Rattle.mapf_tree.specs.Nodes.{Node, AllStand, HasNodeFor}
+use Rattle.mapf_tree.specs.Tree.{PlannedNode, IsMember, EachOnce, root_of, key, IsFirstSolution, IsAnswer}
+use Rattle.mapf_tree.specs.Nodes.{Node, node_key, AllStand, HasNodeFor}
 use Rattle.mapf_tree.specs.LowerBound.{IsLeastCost}
 use Rattle.mapf_tree.specs.Search.{Searched, IsReached, IsChild, IsWaiting, NoneSolves}
 
@@ -61,9 +61,9 @@ pub record ExpandsLeast (problem : Problem) (old new : List Node) (x : PlannedNo
 -- nothing waits; or the plan of the taken node has no conflict; or it has one, and the sides wait
 abbrev pub TakesLeast : Problem → List Node → List Node → Expansion → Type 0
 TakesLeast problem old new expansion.Empty = (old ≡ []) × (new ≡ [])
-TakesLeast problem old new (expansion.Solved k plan) =
-    (x : PlannedNode) × ExpandsLeast problem old new x × HasNoConflict problem.rule x.1 × (key_rank k ≡ key x) × (plan ≡ x.1) × (k.cost ≡ plan_cost plan)
-TakesLeast problem old new (expansion.Branched k) = (x : PlannedNode) × ExpandsLeast problem old new x × (¬ HasNoConflict problem.rule x.1) × (key_rank k ≡ key x)
+TakesLeast problem old new (expansion.Solved node plan) =
+    (x : PlannedNode) × ExpandsLeast problem old new x × HasNoConflict problem.rule x.1 × (node_key node ≡ key x) × (plan ≡ x.1)
+TakesLeast problem old new (expansion.Branched node) = (x : PlannedNode) × ExpandsLeast problem old new x × (¬ HasNoConflict problem.rule x.1) × (node_key node ≡ key x)
 
 -- as many nodes are taken as may be, and a node waits: the least cost of those that wait is stated
 abbrev pub IsGivenUp : Problem → List Node → ℕ → Answer → Type 0

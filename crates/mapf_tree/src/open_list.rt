@@ -45,7 +45,7 @@ impl OpenList {
         self.nodes.is_empty()
     }
 
-    /// Puts a node in at its place, unless one with the same key waits there.
+    /// Puts a node in at its place. One with the same key that waits there leaves.
     pub fn put(&mut self, node: Node) -> Result<(), Node>
         ensures ok { OnOk result (IsPut self.old node self.new) }
 
@@ -54,8 +54,26 @@ impl OpenList {
         ensures err { IfErr result (λ _. self.new ≡ self.old) }
         ensures rising { IsRising self.new }
     {
-        match self.nodes.insert(node) {
-            Ok(_added) => Ok(()),
+        // A copy goes in first, since to replace is to look for the key twice.
+        let Ok(copy) = node.copy() else {
+            return self.replace(node);
+        };
+        match self.nodes.insert(copy) {
+            Ok(true) => Ok(()),
+            Ok(false) => self.replace(node),
+            Err(_refused) => Err(node),
+        }
+    }
+
+    /// Puts a node in at its place, in that of one with the same key.
+    fn replace(&mut self, node: Node) -> Result<(), Node>
+        ensures ok { OnOk result (IsPut self.old node self.new) }
+        ensures back { IfErr result (λ n. n ≡ node) }
+        ensures err { IfErr result (λ _. self.new ≡ self.old) }
+        ensures rising { IsRising self.new }
+    {
+        match self.nodes.replace(node) {
+            Ok(_old) => Ok(()),
             Err(refused) => Err(refused.value),
         }
     }

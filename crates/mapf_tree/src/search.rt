@@ -11,6 +11,7 @@ use crate::search::expansion::{Expansion, add_if_some, expand_least};
 use crate::search::lower_bound::answer_at_limit;
 use crate::{Key, Node, OpenList, Problem, root};
 pub use children::Children;
+pub use lower_bound::least_stated;
 use mapf_grid::NoMemory;
 use mapf_plan::Answer;
 pub use progress::Progress;
@@ -21,7 +22,8 @@ use std::marker::Model;
 pub struct Search<'p> {
     problem: &'p Problem,
     waiting: OpenList,
-    last: Option<Key>,
+    /// The last node that was taken.
+    last: Option<Node>,
     /// How many nodes were taken, up to `u64::MAX`.
     taken: u64,
     outcome: Result<Option<Answer>, NoMemory>,
@@ -42,19 +44,19 @@ impl<'p> Drop for Search<'p> {
 
 impl<'p> Model for Search<'p> {
     ghost use Rattle.std.specs.Option.{option_map};
-    ghost use Rattle.mapf_tree.specs.Prelude.{key_rank, Searched, IsLawful, IsCounted};
+    ghost use Rattle.mapf_tree.specs.Prelude.{node_key, Searched, IsLawful, IsCounted};
 
     ghost Value = { Searched };
 
     ghost view = { λ s. record {
       problem = s.problem.now;
       waiting = s.waiting;
-      last = option_map key_rank s.last;
+      last = option_map node_key s.last;
       outcome = s.outcome;
     } };
 
-    ghost invariant = { λ s. IsLawful s.problem.now s.waiting (option_map key_rank s.last) s.outcome
-        × IsCounted s.problem.now (option_map key_rank s.last) s.taken };
+    ghost invariant = { λ s. IsLawful s.problem.now s.waiting (option_map node_key s.last) s.outcome
+        × IsCounted s.problem.now (option_map node_key s.last) s.taken };
 }
 
 impl<'p> Search<'p> {
@@ -162,14 +164,14 @@ impl<'p> Search<'p> {
             return Ok(Progress::Finished);
         }
         match expand_least(self.problem, &mut self.waiting, children) {
-            Ok(Expansion::Branched(key)) => {
-                self.last = Some(key);
+            Ok(Expansion::Branched(node)) => {
+                self.last = Some(node);
                 self.taken = self.taken.saturating_add(1);
                 Ok(Progress::Working)
             }
-            Ok(Expansion::Solved { key, plan }) => {
-                let stated = key.cost;
-                self.last = Some(key);
+            Ok(Expansion::Solved { node, plan }) => {
+                let stated = plan.cost();
+                self.last = Some(node);
                 self.taken = self.taken.saturating_add(1);
                 self.outcome = Ok(Some(Answer::Plan { plan, stated }));
                 Ok(Progress::Finished)
@@ -241,7 +243,10 @@ impl<'p> Search<'p> {
         ensures last { option_map (λ k. key_rank k.now) result ≡ self.now.last }
         ensures search { IsSearch self.now }
     {
-        self.last.as_ref()
+        match &self.last {
+            Some(node) => Some(node.key()),
+            None => None,
+        }
     }
 
     /// How many nodes were taken, the solution among them. A number that has reached `u64::MAX` stays there.

@@ -8,7 +8,6 @@ use mapf_check::{Verdict, check_by};
 use mapf_grid::{InstanceFault, instance_of};
 use mapf_plan::{Answer, Counted, Rule, read_answer};
 use mapf_solve::{Ask, Refusal, Watch, answer_any, answer_any_alone, answer_any_watched, run_any};
-use mapf_tree::Problem;
 use std::alloc::Global;
 use std::test::Fail;
 use std::thread::Threads;
@@ -180,7 +179,7 @@ struct Greatest {
 }
 
 impl Watch for Greatest {
-    fn nodes_expanded(&mut self, _problem: &Problem, _nodes: u64, least: u64) {
+    fn nodes_expanded(&mut self, _nodes: u64, least: u64) {
         self.least = self.least.max(least);
     }
 }

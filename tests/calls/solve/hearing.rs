@@ -4,7 +4,6 @@ use crate::worked::FACING;
 use mapf_board::NoGate;
 use mapf_plan::{Counted, Rule};
 use mapf_solve::{Ask, Watch, answer_watched, run_watched};
-use mapf_tree::Problem;
 use std::alloc::Global;
 
 /// The limit on nodes, which is reached: with one all sessions go by keys.
@@ -40,7 +39,7 @@ impl Gaps {
 }
 
 impl Watch for Gaps {
-    fn nodes_expanded(&mut self, _problem: &Problem, nodes: u64, _least: u64) {
+    fn nodes_expanded(&mut self, nodes: u64, _least: u64) {
         self.widest = self.widest.max(nodes.saturating_sub(self.last));
         self.last = nodes;
     }

@@ -41,7 +41,7 @@ struct Sessions<'a> {
 }
 
 impl Watch for Sessions<'_> {
-    fn nodes_expanded(&mut self, _problem: &Problem, _nodes: u64, _least: u64) {
+    fn nodes_expanded(&mut self, _nodes: u64, _least: u64) {
         let entries = self.entries.0.load(Ordering::SeqCst);
         let _ = self.had_jobs.push(entries > self.before);
         self.before = entries;

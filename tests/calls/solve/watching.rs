@@ -4,8 +4,8 @@ use crate::worked::{ALONG, BAY, CHANGE, Worked};
 use mapf_board::{AlwaysGrants, NoGate};
 use mapf_grid::instance_of;
 use mapf_plan::Answer;
-use mapf_solve::{MOST_WORKER_TURNS, Means, Pace, Watch, solve_alone, solve_watched};
-use mapf_tree::Problem;
+use mapf_solve::{MOST_WORKER_TURNS, Means, Pace, Watch, solve_watched};
+use mapf_tree::{Problem, solve_alone};
 use std::alloc::Global;
 use std::thread::Threads;
 
@@ -16,7 +16,7 @@ struct Notes {
 }
 
 impl Watch for Notes {
-    fn nodes_expanded(&mut self, _problem: &Problem, nodes: u64, least: u64) {
+    fn nodes_expanded(&mut self, nodes: u64, least: u64) {
         let _ = self.told.push((nodes, least));
     }
 }

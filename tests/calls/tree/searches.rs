@@ -4,8 +4,8 @@ use super::problem_of;
 use super::texts::{letters, push_paths};
 use crate::worked::{ALONG, BAY, CANNOT_PASS, CHANGE, CROSSING, RING, Worked};
 use mapf_plan::Answer;
-use mapf_solve::solve_alone;
-use mapf_tree::{OwnPaths, Problem, Progress, Search};
+use mapf_solve::solve_by_bounds;
+use mapf_tree::{OwnPaths, Problem, Progress, Search, solve_alone};
 use std::alloc::Global;
 use std::process::Abort;
 use std::test::Fail;
@@ -23,6 +23,22 @@ fn push_answer(text: &mut String, answer: &Answer) -> Result<(), Fail> {
     Ok(())
 }
 
+/// The search in the tree of this problem finds this, by keys alone and by bounds.
+fn expect_answer(
+    rt: &impl Abort,
+    alloc: Global,
+    problem: &Problem,
+    text: &str,
+) -> Result<(), Fail> {
+    let mut by_keys = String::new(alloc);
+    push_answer(&mut by_keys, &solve_alone(alloc, problem)?)?;
+    assert_eq!(rt; by_keys.as_str(), text);
+    let mut by_bounds = String::new(alloc);
+    push_answer(&mut by_bounds, &solve_by_bounds(alloc, problem)?)?;
+    assert_eq!(rt; by_bounds.as_str(), text);
+    Ok(())
+}
+
 /// The search in the tree of these files finds this.
 fn expect(
     rt: &impl Abort,
@@ -31,11 +47,7 @@ fn expect(
     bound: u32,
     text: &str,
 ) -> Result<(), Fail> {
-    let problem = problem_of(alloc, worked, bound)?;
-    let mut found = String::new(alloc);
-    push_answer(&mut found, &solve_alone(alloc, &problem)?)?;
-    assert_eq!(rt; found.as_str(), text);
-    Ok(())
+    expect_answer(rt, alloc, &problem_of(alloc, worked, bound)?, text)
 }
 
 #[test]
@@ -74,10 +86,7 @@ fn expect_within(
     text: &str,
 ) -> Result<(), Fail> {
     let problem = problem_of(alloc, worked, bound)?.with_nodes(nodes);
-    let mut found = String::new(alloc);
-    push_answer(&mut found, &solve_alone(alloc, &problem)?)?;
-    assert_eq!(rt; found.as_str(), text);
-    Ok(())
+    expect_answer(rt, alloc, &problem, text)
 }
 
 /// The sixth node in key order is the first solution.

@@ -4,6 +4,7 @@ ghost use Rattle.std.specs.Prelude.{IfOk, MatchOption, ⊤};
 ghost use Rattle.mapf_optimum.specs.FreeTree.{IsChoice};
 
 use crate::allowed::is_choice;
+use crate::guesses::KnownCosts;
 use crate::low_level::LowLevel;
 use mapf_grid::NoMemory;
 use mapf_low::Constraints;
@@ -22,6 +23,7 @@ pub(crate) fn branching_conflict(
     sets: &[Constraints],
     plan: &Plan,
     conflicts: &[Conflict],
+    costs: &mut KnownCosts,
 ) -> Result<Option<Conflict>, NoMemory>
     ensures { IfOk result (λ found. MatchOption found ⊤ (IsChoice low.now plan.now)) }
 {
@@ -29,7 +31,7 @@ pub(crate) fn branching_conflict(
     let mut greatest = (0, 0);
     for conflict in conflicts.iter().take(MOST_TRIED) {
         if is_choice(low.problem(), plan, conflict) {
-            let rises = rises(alloc, low, sets, plan, conflict)?;
+            let rises = rises(alloc, low, sets, plan, conflict, costs)?;
             if best.is_none() || rises > greatest {
                 greatest = rises;
                 best = Some(*conflict);
@@ -46,11 +48,12 @@ fn rises(
     sets: &[Constraints],
     plan: &Plan,
     conflict: &Conflict,
+    costs: &mut KnownCosts,
 ) -> Result<(u32, u32), NoMemory>
     requires { IsChoice low.now plan.now conflict.now }
 {
-    let one = rise(alloc, low, sets, plan, conflict, Side::Left)?;
-    let other = rise(alloc, low, sets, plan, conflict, Side::Right)?;
+    let one = rise(alloc, low, sets, plan, conflict, Side::Left, costs)?;
+    let other = rise(alloc, low, sets, plan, conflict, Side::Right, costs)?;
     Ok((one.min(other), one.max(other)))
 }
 
@@ -62,6 +65,7 @@ fn rise(
     plan: &Plan,
     conflict: &Conflict,
     side: Side,
+    costs: &mut KnownCosts,
 ) -> Result<u32, NoMemory>
     requires { IsChoice low.now plan.now conflict.now }
 {
@@ -70,6 +74,6 @@ fn rise(
         return Ok(0);
     };
     let more = set.with(constraint_of(conflict, side))?;
-    let found = low.cost_under(alloc, agent, &more)?;
+    let found = costs.cost_under(alloc, low, agent, &more)?;
     Ok(found.map_or(u32::MAX, |cost| cost.saturating_sub(path.cost())))
 }

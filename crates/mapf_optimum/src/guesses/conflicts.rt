@@ -1,94 +1,24 @@
 //! The conflicts of a plan.
 
-use crate::guesses::Occupancy;
 use mapf_grid::NoMemory;
-use mapf_plan::{Conflict, Path, Rule};
+use mapf_plan::Conflict;
 use mapf_tree::{Side, agent_of};
 use std::alloc::Global;
 
-/// The conflicts that agents on these paths have, by time, as far as they are found: where more than two are on one cell, not each
-/// pair is.
-pub(crate) fn conflicts_of(
+/// Those of these conflicts that the agent isn't in.
+pub(crate) fn conflicts_without(
     alloc: Global,
-    rule: Rule,
-    paths: &[Path],
-    occupancy: &mut Occupancy,
+    conflicts: &[Conflict],
+    agent: usize,
 ) -> Result<Vec<Conflict>, NoMemory> {
-    let mut found = Vec::new(alloc);
-    let mut longest = 0;
-    for path in paths {
-        longest = path.cost().max(longest);
-    }
-    occupancy.clear();
-    for time in 0..longest.saturating_add(1) {
-        occupancy.advance();
-        add_together(paths, time, occupancy, &mut found)?;
-        if time > 0 {
-            add_passing(rule, paths, time, occupancy, &mut found)?;
+    let mut kept = Vec::with_capacity(alloc, conflicts.len())?;
+    for conflict in conflicts {
+        let (first, second) = agents_of(conflict);
+        if first != agent && second != agent {
+            kept.push(*conflict)?;
         }
     }
-    Ok(found)
-}
-
-/// Marks where the agents are, and adds those that are on one cell.
-fn add_together(
-    paths: &[Path],
-    time: u32,
-    occupancy: &mut Occupancy,
-    found: &mut Vec<Conflict>,
-) -> Result<(), NoMemory> {
-    for (second, path) in paths.iter().enumerate() {
-        let cell = path.at(time);
-        if let Some(first) = occupancy.who_is(cell) {
-            found.push(Conflict::Vertex {
-                time,
-                first,
-                second,
-                cell,
-            })?;
-        }
-        occupancy.mark(second, cell);
-    }
-    Ok(())
-}
-
-/// Adds those that enter a cell that another leaves, as far as the rule forbids it.
-fn add_passing(
-    rule: Rule,
-    paths: &[Path],
-    time: u32,
-    occupancy: &Occupancy,
-    found: &mut Vec<Conflict>,
-) -> Result<(), NoMemory> {
-    for (agent, path) in paths.iter().enumerate() {
-        let (from, to) = (path.at(time.saturating_sub(1)), path.at(time));
-        let Some(other) = occupancy.who_was(to) else {
-            continue;
-        };
-        if from == to || other == agent {
-            continue;
-        }
-        match rule {
-            Rule::NoFollowing => found.push(Conflict::Following {
-                time,
-                follower: agent,
-                leader: other,
-                cell: to,
-            })?,
-            Rule::Classical => {
-                if agent < other && occupancy.who_is(from) == Some(other) {
-                    found.push(Conflict::Swapping {
-                        time,
-                        first: agent,
-                        second: other,
-                        from,
-                        to,
-                    })?;
-                }
-            }
-        }
-    }
-    Ok(())
+    Ok(kept)
 }
 
 /// How many pairs of agents have one of these conflicts.
@@ -113,4 +43,25 @@ fn agents_of(conflict: &Conflict) -> (usize, usize) {
         agent_of(conflict, Side::Left),
         agent_of(conflict, Side::Right),
     )
+}
+
+/// The agents that collide with these, and these that collide, each once.
+pub(crate) fn partners(
+    alloc: Global,
+    conflicts: &[Conflict],
+    agents: &[usize],
+) -> Result<Vec<usize>, NoMemory> {
+    let mut found: Vec<usize> = Vec::new(alloc);
+    for conflict in conflicts {
+        let (one, other) = agents_of(conflict);
+        if agents.contains(&one) || agents.contains(&other) {
+            if !found.contains(&one) {
+                found.push(one)?;
+            }
+            if !found.contains(&other) {
+                found.push(other)?;
+            }
+        }
+    }
+    Ok(found)
 }

@@ -1,107 +1,118 @@
 //! A path with few conflicts.
 
+use super::marks::Marks;
+use super::visit::Step;
 use crate::guesses::Occupancy;
 use crate::pairs::Agent;
 use mapf_grid::{Cell, NoMemory};
-use mapf_plan::{MOST_CELLS, Path, Rule};
+use mapf_plan::{MOST_CELLS, Path};
 use std::alloc::Global;
 
-/// How many cells an agent may be on at a time step, at most: one that may be on more has waited for long, and keeps its path.
-const MOST_STATES: usize = 256;
+/// How many cells an agent may be on, at most, added up over all time steps: one that may be on more keeps its path.
+const MOST_STATES: usize = 20_000;
 
 /// A cell on which the agent may be at a time step, with the fewest collisions on the way there.
 #[derive(Clone, Copy)]
 struct State {
     cell: Cell,
-    /// The place of the state before among those of the time step before.
+    /// The place of the state before.
     from: usize,
     collisions: u32,
 }
 
-/// A path of the agent's cost with the fewest collisions with the others' paths, as far as they are found; none where there is none.
+/// A path of the agent's cost with the fewest collisions with those that have a path in the table, as far as they are found; none where
+/// there is none.
 pub(crate) fn few_conflicts(
     alloc: Global,
-    rule: Rule,
     agent: &Agent<'_, '_>,
-    number: usize,
-    paths: &[Path],
     occupancy: &mut Occupancy,
 ) -> Result<Option<Path>, NoMemory> {
-    let first = State {
+    let mut states: Vec<State> = Vec::new(alloc);
+    states.push(State {
         cell: agent.start(),
         from: 0,
         collisions: 0,
-    };
-    let mut layers: Vec<Vec<State>> = Vec::new(alloc);
-    let mut layer = vec![in alloc; first; 1]?;
-    occupancy.clear();
-    occupancy.mark_others(paths, number, 0);
+    })?;
+    let mut begin = 0;
     for time in 1..agent.cost() + 1 {
-        occupancy.advance();
-        occupancy.mark_others(paths, number, time);
-        let next = next_layer(alloc, rule, agent, &layer, time, occupancy)?;
-        if next.len() > MOST_STATES {
+        let end = states.len();
+        if end > MOST_STATES {
             return Ok(None);
         }
-        layers.push(layer)?;
-        layer = next;
+        add_next(alloc, agent, begin, time, &mut states, occupancy)?;
+        begin = end;
     }
-    layers.push(layer)?;
-    trace(alloc, agent.goal(), &layers)
+    trace(alloc, begin, &states)
 }
 
-/// The states at this time step.
-fn next_layer(
+/// Adds the states at this time step, from those of the time step before, which stand from a place on.
+fn add_next(
     alloc: Global,
-    rule: Rule,
     agent: &Agent<'_, '_>,
-    layer: &[State],
+    begin: usize,
     time: u32,
-    occupancy: &Occupancy,
-) -> Result<Vec<State>, NoMemory> {
-    let mut next = Vec::new(alloc);
-    for (from, state) in layer.iter().enumerate() {
-        for to in agent.moves(alloc, state.cell, time)?.as_slice() {
-            let more = occupancy.collisions(rule, state.cell, *to);
+    states: &mut Vec<State>,
+    occupancy: &mut Occupancy,
+) -> Result<(), NoMemory> {
+    occupancy.marks.clear();
+    let is_forbidden = agent.is_forbidden_at(time);
+    for from in begin..states.len() {
+        let Some(state) = states.get(from) else {
+            continue;
+        };
+        let State {
+            cell,
+            collisions,
+            ..
+        } = *state;
+        for to in agent.moves(alloc, cell, time, is_forbidden)?.as_slice() {
+            if *to == agent.goal() && time.saturating_add(1) == agent.cost() {
+                continue;
+            }
+            let step = Step {
+                from: cell,
+                to: *to,
+                time,
+            };
             let state = State {
                 cell: *to,
                 from,
-                collisions: state.collisions.saturating_add(more),
+                collisions: collisions.saturating_add(occupancy.collisions(&step)),
             };
-            add(&mut next, state)?;
+            add(state, states, &mut occupancy.marks)?;
         }
     }
-    Ok(next)
-}
-
-/// Adds a state, if none of its cell has as few collisions.
-fn add(layer: &mut Vec<State>, state: State) -> Result<(), NoMemory> {
-    for known in layer.iter_mut() {
-        if known.cell == state.cell {
-            if state.collisions < known.collisions {
-                *known = state;
-            }
-            return Ok(());
-        }
-    }
-    layer.push(state)?;
     Ok(())
 }
 
-/// The path that ends on the goal.
-fn trace(alloc: Global, goal: Cell, layers: &[Vec<State>]) -> Result<Option<Path>, NoMemory> {
-    let mut cells = Vec::with_capacity(alloc, layers.len())?;
-    let mut place = None;
-    for layer in layers.iter().rev() {
-        let found = match place {
-            None => layer.iter().find(|state| state.cell == goal),
-            Some(place) => layer.get(place),
-        };
-        let Some(state) = found else {
+/// Adds a state, if none of its cell at its time step has as few collisions.
+fn add(state: State, states: &mut Vec<State>, marks: &mut Marks) -> Result<(), NoMemory> {
+    if let Some(place) = marks.get(state.cell) {
+        if let Some(known) = states.get_mut(place) {
+            if state.collisions < known.collisions {
+                *known = state;
+            }
+        }
+        return Ok(());
+    }
+    marks.put(state.cell, states.len());
+    states.push(state)?;
+    Ok(())
+}
+
+/// The path to the state at a place.
+fn trace(alloc: Global, last: usize, states: &[State]) -> Result<Option<Path>, NoMemory> {
+    let mut cells = Vec::new(alloc);
+    let mut place = last;
+    for _cell in 0..MOST_CELLS {
+        let Some(state) = states.get(place) else {
             return Ok(None);
         };
-        place = Some(state.from);
         cells.push(state.cell)?;
+        if place == 0 {
+            break;
+        }
+        place = state.from;
     }
     if cells.is_empty() || cells.len() > MOST_CELLS {
         return Ok(None);

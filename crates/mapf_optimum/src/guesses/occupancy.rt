@@ -1,88 +1,162 @@
-//! Who is where.
+//! Who is where, and when.
 
-use mapf_grid::{Cell, Map, NoMemory};
-use mapf_plan::{Path, Rule};
+use super::marks::Marks;
+use super::visit::{Step, Visit};
+use mapf_grid::{Cell, NoMemory};
+use mapf_plan::{Conflict, Path, Rule};
+use mapf_tree::Problem;
 use std::alloc::Global;
-use std::mem::swap;
 
-/// An agent on a cell, in a round.
-#[derive(Clone, Copy)]
-struct Mark {
-    round: u64,
-    agent: usize,
-}
-
-/// Who is where at a time step, and at the one before: of several agents on one cell the last one that was marked.
+/// The paths of some of a problem's agents, by cell.
 #[derive(Drop)]
 pub(crate) struct Occupancy {
-    was: Vec<Mark>,
-    is: Vec<Mark>,
-    round: u64,
+    alloc: Global,
+    rule: Rule,
+    /// Who is on each cell, and when.
+    visits: Vec<Vec<Visit>>,
+    /// Each agent's path, if it has one here.
+    paths: Vec<Option<Path>>,
+    /// For a search of one agent among the others.
+    pub(super) marks: Marks,
 }
 
 impl Occupancy {
-    /// Room for the cells of a map, with nobody anywhere.
-    pub(crate) fn new(alloc: Global, map: &Map) -> Result<Occupancy, NoMemory> {
-        let cells = (map.width() * map.height()) as usize;
-        let nobody = Mark { round: 0, agent: 0 };
+    /// Room for the agents of a problem, none of which has a path here.
+    pub(crate) fn new(alloc: Global, problem: &Problem) -> Result<Occupancy, NoMemory> {
+        let instance = problem.instance();
+        let cells = instance.map().free_cells().len();
+        let mut visits = Vec::with_capacity(alloc, cells)?;
+        for _cell in 0..cells {
+            visits.push(Vec::new(alloc))?;
+        }
+        let mut paths = Vec::with_capacity(alloc, instance.agents())?;
+        for _agent in 0..instance.agents() {
+            paths.push(None)?;
+        }
         Ok(Occupancy {
-            was: vec![in alloc; nobody; cells]?,
-            is: vec![in alloc; nobody; cells]?,
-            round: 1,
+            alloc,
+            rule: problem.rule(),
+            visits,
+            paths,
+            marks: Marks::new(alloc, cells)?,
         })
     }
 
-    /// Nobody is anywhere.
-    pub(crate) fn clear(&mut self) {
-        self.round = self.round.saturating_add(2);
-    }
-
-    /// What was at this time step is what was before, and nobody is anywhere.
-    pub(crate) fn advance(&mut self) {
-        swap(&mut self.was, &mut self.is);
-        self.round = self.round.saturating_add(1);
-    }
-
-    /// The agent is on the cell.
-    pub(crate) fn mark(&mut self, agent: usize, cell: Cell) {
-        let round = self.round;
-        if let Some(mark) = self.is.get_mut(cell.number() as usize) {
-            *mark = Mark { round, agent };
-        }
-    }
-
-    /// The agents but this one are where these paths are at a time step.
-    pub(crate) fn mark_others(&mut self, paths: &[Path], agent: usize, time: u32) {
-        for (other, path) in paths.iter().enumerate() {
-            if other != agent {
-                self.mark(other, path.at(time));
+    /// Takes the agent's path out, if it has one here.
+    pub(crate) fn take(&mut self, agent: usize) {
+        let path = match self.paths.get_mut(agent) {
+            Some(path) => path.take(),
+            None => None,
+        };
+        let Some(path) = path else {
+            return;
+        };
+        for cell in path.cells() {
+            if let Some(visits) = self.visits.get_mut(cell.number() as usize) {
+                visits.retain(|visit| visit.agent != agent);
             }
         }
     }
 
-    /// Who is on the cell.
-    pub(crate) fn who_is(&self, cell: Cell) -> Option<usize> {
-        let mark = self.is.get(cell.number() as usize)?;
-        (mark.round == self.round).then_some(mark.agent)
-    }
-
-    /// Who was on the cell one time step before.
-    pub(crate) fn who_was(&self, cell: Cell) -> Option<usize> {
-        let mark = self.was.get(cell.number() as usize)?;
-        (mark.round.saturating_add(1) == self.round).then_some(mark.agent)
-    }
-
-    /// With how many others an agent collides that goes from one cell to another.
-    pub(crate) fn collisions(&self, rule: Rule, from: Cell, to: Cell) -> u32 {
-        let together = u32::from(self.who_is(to).is_some());
-        if from == to {
-            return together;
+    /// Gives the agent, which has none here, a path.
+    pub(crate) fn put(&mut self, agent: usize, path: &Path) -> Result<(), NoMemory> {
+        for (time, cell) in (0..u32::MAX).zip(path.cells()) {
+            if let Some(visits) = self.visits.get_mut(cell.number() as usize) {
+                visits.push(Visit::of(agent, path, time))?;
+            }
         }
-        let (left, entered) = (self.who_was(to), self.who_is(from));
-        let passing = match rule {
-            Rule::Classical => u32::from(left.is_some() && left == entered),
-            Rule::NoFollowing => u32::from(left.is_some()) + u32::from(entered.is_some()),
-        };
-        together + passing
+        let copy = path.copy(self.alloc)?;
+        if let Some(place) = self.paths.get_mut(agent) {
+            *place = Some(copy);
+        }
+        Ok(())
+    }
+
+    /// Makes these all agents' paths.
+    pub(crate) fn show(&mut self, paths: &[Path]) -> Result<(), NoMemory> {
+        for (agent, path) in paths.iter().enumerate() {
+            if !self.has(agent, path) {
+                self.take(agent);
+                self.put(agent, path)?;
+            }
+        }
+        Ok(())
+    }
+
+    /// Whether this is the agent's path here.
+    fn has(&self, agent: usize, path: &Path) -> bool {
+        match self.paths.get(agent) {
+            Some(Some(known)) => known.cells() == path.cells(),
+            _ => false,
+        }
+    }
+
+    /// No agent has a path here.
+    pub(crate) fn clear(&mut self) {
+        for agent in 0..self.paths.len() {
+            self.take(agent);
+        }
+    }
+
+    /// Who is on the cell, and when.
+    fn visits_of(&self, cell: Cell) -> &[Visit] {
+        match self.visits.get(cell.number() as usize) {
+            Some(visits) => visits.as_slice(),
+            None => &[],
+        }
+    }
+
+    /// With how many that have a path here an agent collides that makes this step.
+    pub(super) fn collisions(&self, step: &Step) -> u32 {
+        let rule = self.rule;
+        let mut count = 0_u32;
+        for visit in self.visits_of(step.to) {
+            count = count.saturating_add(u32::from(visit.meets(rule, step)));
+        }
+        for visit in self.visits_of(step.from) {
+            count = count.saturating_add(u32::from(visit.passes(rule, step)));
+        }
+        count
+    }
+
+    /// Adds the conflicts of an agent without a path here, that takes this one, with those that have one.
+    pub(crate) fn add_conflicts(
+        &self,
+        agent: usize,
+        path: &Path,
+        found: &mut Vec<Conflict>,
+    ) -> Result<(), NoMemory> {
+        let cost = path.cost();
+        for time in 0..cost.saturating_add(1) {
+            self.add_conflicts_of(agent, &Step::of(path, time), found)?;
+        }
+        let goal = path.at(cost);
+        for visit in self.visits_of(goal) {
+            if visit.time > cost {
+                found.push(visit.meeting(agent, &Step::of(path, visit.time)))?;
+            }
+        }
+        Ok(())
+    }
+
+    /// Adds the conflicts of an agent that makes this step.
+    fn add_conflicts_of(
+        &self,
+        agent: usize,
+        step: &Step,
+        found: &mut Vec<Conflict>,
+    ) -> Result<(), NoMemory> {
+        let rule = self.rule;
+        for visit in self.visits_of(step.to) {
+            if visit.meets(rule, step) {
+                found.push(visit.meeting(agent, step))?;
+            }
+        }
+        for visit in self.visits_of(step.from) {
+            if visit.passes(rule, step) {
+                found.push(visit.passing(rule, agent, step))?;
+            }
+        }
+        Ok(())
     }
 }

@@ -133,13 +133,13 @@ impl<'m, 's> Agent<'m, 's> {
         &self,
         from: Cell,
         time: u32,
+        is_forbidden: bool,
         moves: &mut SmallVec<Cell, 5>,
     ) -> Result<(), NoMemory>
         requires time { time ≤ self.now.cost }
         requires free { IsFree self.now.grid from }
         ensures { OnOk result (Adds (MayEnter self.now time from) moves.old.items moves.new.items) }
     {
-        let is_forbidden = has_one_at(self.constraints, time);
         self.add_move(from, from, time, is_forbidden, moves)?;
         for to in self.map.neighbours(from).as_slice() {
             self.add_move(from, *to, time, is_forbidden, moves)?;
@@ -147,12 +147,13 @@ impl<'m, 's> Agent<'m, 's> {
         Ok(())
     }
 
-    /// Where the agent may be at this time step, if it was on this cell one time step before.
+    /// Where the agent may be at this time step, where it may be forbidden something then, if it was on this cell one time step before.
     pub(crate) fn moves(
         &self,
         alloc: Global,
         from: Cell,
         time: u32,
+        is_forbidden: bool,
     ) -> Result<SmallVec<Cell, 5>, NoMemory>
         ensures { IfOk result (λ moves. (v : ℕ) → MayGo self.now time from v → Contains moves.items v) }
     {
@@ -160,16 +161,16 @@ impl<'m, 's> Agent<'m, 's> {
         if self.cost < time {
             moves.push(from)?;
         } else if self.map.is_free(from) {
-            self.add_moves(from, time, &mut moves)?;
+            self.add_moves(from, time, is_forbidden, &mut moves)?;
         }
         Ok(moves)
     }
-}
 
-/// Whether one of the constraints is for this time step.
-fn has_one_at(constraints: &Constraints, time: u32) -> bool {
-    constraints
-        .as_slice()
-        .iter()
-        .any(|constraint| constraint.time() == time)
+    /// Whether one of the agent's constraints is for this time step.
+    pub(crate) fn is_forbidden_at(&self, time: u32) -> bool {
+        self.constraints
+            .as_slice()
+            .iter()
+            .any(|constraint| constraint.time() == time)
+    }
 }

@@ -59,7 +59,7 @@ pub(super) fn place_of(
         }
     }
     let place = known.len();
-    let moves = agent.moves(alloc, cell, time)?;
+    let moves = agent.moves(alloc, cell, time, agent.is_forbidden_at(time))?;
     known.push(MovesFrom { cell, moves })?;
     Ok(place)
 }

@@ -28,13 +28,13 @@ const BUDGET: usize = 20_000;
 
 /// An agent as it stands in a node: its number, what it is forbidden, and a least path of it.
 #[derive(Clone, Copy)]
-pub struct AgentInNode<'a> {
+pub(crate) struct AgentInNode<'a> {
     /// Its number.
-    pub agent: usize,
+    pub(crate) agent: usize,
     /// What it is forbidden.
-    pub constraints: &'a Constraints,
+    pub(crate) constraints: &'a Constraints,
     /// A path that it may take, such that none costs less.
-    pub path: &'a Path,
+    pub(crate) path: &'a Path,
 }
 
 /// What a search among the plans of two agents tells.
@@ -49,7 +49,7 @@ struct LeastTogether {
 /// What the paths of two agents cost together at least, if they have no conflict, looked for up to so much.
 ///
 /// An error is that memory ran out.
-pub fn cost_together(
+pub(crate) fn cost_together(
     alloc: Global,
     low: &LowLevel<'_>,
     one: &AgentInNode<'_>,

@@ -1,32 +1,12 @@
 //! One time step of two agents.
 
-ghost use Rattle.std.specs.Prelude.{◌≡◌, IsFalse, IsTrue, OnOk, Contains};
+ghost use Rattle.std.specs.Prelude.{◌≡◌, OnOk, Contains};
 ghost use Rattle.mapf_plan.specs.Collisions.{DoStepsCollide};
 ghost use Rattle.mapf_optimum.specs.Steps.{Adds};
 
 use super::place_pairs::PlacePairs;
 use mapf_grid::{Cell, NoMemory};
-use mapf_plan::Rule;
-
-/// Whether agents that go from the cells where they were to those where they are collide.
-pub fn do_steps_collide(
-    rule: Rule,
-    one_was: Cell,
-    one_is: Cell,
-    other_was: Cell,
-    other_is: Cell,
-) -> bool
-    ensures collide { IsTrue result → DoStepsCollide rule one_was one_is other_was other_is }
-    ensures apart { IsFalse result → ¬ DoStepsCollide rule one_was one_is other_was other_is }
-{
-    if one_is == other_is {
-        return true;
-    }
-    match rule {
-        Rule::Classical => one_is == other_was && other_is == one_was,
-        Rule::NoFollowing => one_is == other_was || other_is == one_was,
-    }
-}
+use mapf_plan::{Rule, do_steps_collide};
 
 /// Adds a pair of cells to which two agents go, if they don't collide.
 fn add_if_apart(

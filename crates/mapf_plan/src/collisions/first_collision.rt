@@ -107,8 +107,9 @@ fn are_close(one_was: Cell, one_is: Cell, other_was: Cell, other_is: Cell) -> bo
     one_is == other_is || one_is == other_was || other_is == one_was
 }
 
-/// Whether agents that go from the cells where they were to those where they are collide.
-fn do_steps_collide(
+/// Whether agents that go from the cells where they were to those where they are collide: on one cell, by changing places or, where
+/// that is forbidden, by following.
+pub fn do_steps_collide(
     rule: Rule,
     one_was: Cell,
     one_is: Cell,

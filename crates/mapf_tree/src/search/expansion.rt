@@ -1,7 +1,7 @@
 ghost use Rattle.std.specs.Prelude.{◌≡◌, IfOk, OnOk};
 ghost use Rattle.mapf_tree.specs.Prelude.{IsAddedIfSome, TakesLeast, AllStand};
 
-use crate::{Children, Key, Node, OpenList, Problem};
+use crate::{Children, Node, OpenList, Problem};
 use mapf_grid::NoMemory;
 use mapf_plan::Plan;
 
@@ -11,9 +11,9 @@ pub(crate) enum Expansion {
     /// No node waits.
     Empty,
     /// The taken node's plan has no conflict.
-    Solved { key: Key, plan: Plan },
+    Solved { node: Node, plan: Plan },
     /// The taken node's children wait now.
-    Branched(Key),
+    Branched(Node),
 }
 
 /// Takes the least waiting node, and puts its children in if its plan has a conflict.
@@ -33,14 +33,13 @@ pub(crate) fn expand_least<C: Children>(
     };
     if node.conflict().is_none() {
         let plan = node.plan(node.allocator())?;
-        let key = node.key().copy(node.allocator())?;
-        return Ok(Expansion::Solved { key, plan });
+        return Ok(Expansion::Solved { node, plan });
     }
     let node = node.share_changes();
     let (left, right) = children.both(problem, &node)?;
     add_if_some(waiting, left)?;
     add_if_some(waiting, right)?;
-    Ok(Expansion::Branched(node.key().copy(node.allocator())?))
+    Ok(Expansion::Branched(node))
 }
 
 /// Adds a node, if there is one.

@@ -62,8 +62,8 @@ fn least_waiting(problem: &Problem, waiting: &OpenList) -> u64
     }
 }
 
-/// What an answer states that each plan without conflict costs at least.
-fn least_stated(answer: &Answer) -> u64
+/// What an answer states that each plan without conflict costs at least: what its plan costs, more than its bound, or what waited.
+pub fn least_stated(answer: &Answer) -> u64
     ensures { result ≡ least_stated answer.now }
 {
     match answer {

@@ -1,4 +1,4 @@
-use Rattle.std.proofs.Common.{None, [], refl, subst, sym, ap, ◌∙◌, arith}
+use Rattle.std.proofs.Common.{◌+◌, None, [], refl, subst, sym, ap, ◌∙◌, arith}
 use Rattle.mapf_plan.specs.declared.answer.Answer.TheVariants as answer
 use Rattle.mapf_tree.specs.LowerBound.{IsBelowAll}
 use Rattle.mapf_tree.specs.Problem.{Problem}
@@ -9,13 +9,11 @@ use Rattle.mapf_bounds.specs.Bounds.{Bounding, IsRange}
 use Rattle.mapf_bounds.specs.Below.{IsEnough}
 use Rattle.mapf_bounds.specs.Waiting.{IsCovering, IsMoving}
 use Rattle.mapf_bounds.proofs.Moving.{moves_first}
-use Rattle.mapf_bounds.proofs.Turns.{stated_answer, stated_below}
+use Rattle.mapf_tree.proofs.LowerBounds.{stated_below}
+use Rattle.mapf_bounds.specs.Told.{IsWatched}
+use Rattle.mapf_bounds.proofs.Telling.{watched_behind, watched_empty}
+use Rattle.mapf_bounds.proofs.Turns.{stated_answer}
 use Rattle.mapf_bounds.proofs.solving.finish_by_bounds.Goals as goal
-
-pub nodes_expanded-requires : goal.nodes_expanded-requires
-nodes_expanded-requires g c =
-    let p = c.into_waiting-open_list.result.0.now in
-    subst (IsBelowAll p) (omega (arith, c.from.ensures, c.bound-bound.ensures.bound)) (stated_below p (answer.None p.bound) (None, subst (IsRange p) c.in_default.is c.in_ok-range.ensures, refl))
 
 pub returns-in_default-clause-best : goal.returns-in_default-clause-best
 returns-in_default-clause-best g c = (
@@ -37,4 +35,20 @@ search_by_bounds-requires-clause-covering g c =
 pub returns-clause-best : goal.returns-clause-best
 returns-clause-best g c =
     best_out c.args.search.problem c.search_by_bounds.result
-    (stated_answer c.in_ok-bounds.bounds.problem c.args.search.problem c.search_by_bounds.result (ap (λ (b : Bounding). b.problem) c.in_ok-bounds.ensures ∙ c.into_waiting-open_list.ensures.problem) c.requires.unlimited c.search_by_bounds.ensures)
+    (stated_answer c.in_ok-bounds.bounds.problem c.args.search.problem c.search_by_bounds.result (ap (λ (b : Bounding). b.problem) c.in_ok-bounds.ensures ∙ c.into_waiting-open_list.ensures.problem) c.requires.unlimited c.search_by_bounds.ensures.stated)
+
+pub returns-in_default-clause-told : goal.returns-in_default-clause-told
+returns-in_default-clause-told g c =
+    let p = c.into_waiting-open_list.result.0.now in
+    let none = subst (IsRange p) c.in_default.is c.in_ok-range.ensures in
+    let below = subst (IsBelowAll p) (omega (arith, c.from.ensures, c.bound-bound.ensures.bound)) (stated_below p (answer.None p.bound) (None, none, refl)) in (
+      c.taken_nodes-nodes.result,
+      c.taken_nodes-nodes.ensures.taken,
+      subst (λ q. IsWatched g.W.Watch.told q c.taken_nodes-nodes.result c.args.watch.now c.nodes_expanded.new.self (answer.None c.bound-bound.result)) c.into_waiting-open_list.ensures.problem
+          (watched_empty g.W.Watch.told p c.taken_nodes-nodes.result (c.from.result + 1) c.args.watch.now c.nodes_expanded.new.self (answer.None c.bound-bound.result) none below c.nodes_expanded.ensures (ap (λ n. n + 1) c.from.ensures)),
+    )
+
+pub returns-clause-told : goal.returns-clause-told
+returns-clause-told g c =
+    watched_behind g.W.Watch.told c.in_ok-bounds.bounds.problem c.args.search.problem c.args.search.last c.taken_nodes-nodes.result c.args.watch.now c.search_by_bounds.new.watch c.search_by_bounds.result
+    (ap (λ (b : Bounding). b.problem) c.in_ok-bounds.ensures ∙ c.into_waiting-open_list.ensures.problem) c.taken_nodes-nodes.ensures.taken c.search_by_bounds.ensures.told

@@ -1,10 +1,12 @@
-use Rattle.std.proofs.Common.{◌<◌, ap, subst, sym, ◌∙◌}
+use Rattle.std.proofs.Common.{◌<◌, ap, refl, subst, sym, ◌∙◌}
 use Rattle.mapf_tree.specs.LowerBound.{IsBelowAll}
-use Rattle.mapf_tree.specs.Problem.{Problem}
+use Rattle.mapf_tree.specs.Told.{IsEndOf}
 use Rattle.mapf_bounds.specs.Bounds.{Bounding}
 use Rattle.mapf_bounds.specs.Below.{IsEnough}
-use Rattle.mapf_bounds.specs.Waiting.{IsCovering, IsTurn}
-use Rattle.mapf_bounds.proofs.Turns.{branches_cover, raises_cover, stated_below}
+use Rattle.mapf_bounds.specs.Waiting.{Branches, IsCovering, IsTurn, Raises}
+use Rattle.mapf_tree.proofs.LowerBounds.{stated_below}
+use Rattle.mapf_bounds.proofs.Telling.{IsTellingBy, by_begins, by_ends, by_expands, by_goes, stated_ends}
+use Rattle.mapf_bounds.proofs.Turns.{branches_cover, raises_cover}
 use Rattle.mapf_bounds.proofs.Weights.{branches_fall, raises_fall, total}
 use Rattle.mapf_bounds.proofs.solving.search_by_bounds.Goals as goal
 
@@ -22,6 +24,9 @@ turns-preserved-in-Raised g c = (
       (raises_cover c.turns.bounds.problem c.turns.bounds.most c.turns.waiting.entries c.turn.new.waiting.entries (subst (IsTurn c.turns.bounds.problem c.turns.bounds.most c.turns.waiting.entries c.turn.new.waiting.entries) c.in-Raised.is c.in_ok-outcome.ensures.turn) c.turns.invariant.0),
   c.in_ok-outcome.ensures.paths ∙ c.turns.invariant.1 ∙ ap (λ (b : Bounding). b.problem) (sym c.in_ok-outcome.ensures.bounds),
   c.in_ok-outcome.ensures.bounds ∙ c.turns.invariant.2,
+  by_goes g.W.Watch.told c.args.bounds c.args.nodes c.turns.nodes c.args.watch.now c.turns.watch c.turns.waiting.entries c.turn.new.waiting.entries c.turns.invariant.3
+      (subst (λ (b : Bounding). Raises b.problem b.most c.turns.waiting.entries c.turn.new.waiting.entries) c.turns.invariant.2
+      (subst (IsTurn c.turns.bounds.problem c.turns.bounds.most c.turns.waiting.entries c.turn.new.waiting.entries) c.in-Raised.is c.in_ok-outcome.ensures.turn)),
 )
 
 pub turns-smaller : goal.turns-smaller
@@ -35,10 +40,20 @@ turns-preserved g c = (
       (branches_cover c.turns.bounds.problem c.turns.bounds.most c.turns.waiting.entries c.turn.new.waiting.entries (subst (IsTurn c.turns.bounds.problem c.turns.bounds.most c.turns.waiting.entries c.turn.new.waiting.entries) c.in-Expanded.is c.in_ok-outcome.ensures.turn).0 c.turns.invariant.0),
   c.in_ok-outcome.ensures.paths ∙ c.turns.invariant.1 ∙ ap (λ (b : Bounding). b.problem) (sym c.in_ok-outcome.ensures.bounds),
   c.in_ok-outcome.ensures.bounds ∙ c.turns.invariant.2,
+  (let turned = subst (IsTurn c.turns.bounds.problem c.turns.bounds.most c.turns.waiting.entries c.turn.new.waiting.entries) c.in-Expanded.is c.in_ok-outcome.ensures.turn in
+      subst (λ n. IsTellingBy g.W.Watch.told c.args.bounds c.args.nodes n c.args.watch.now c.nodes_expanded.new.self c.turn.new.waiting.entries) (sym c.saturating_add-nodes.ensures)
+      (by_expands g.W.Watch.told c.args.bounds c.args.nodes c.turns.nodes c.in-Expanded.least c.args.watch.now c.turns.watch c.nodes_expanded.new.self c.turns.waiting.entries c.turns.invariant.3
+      (subst (λ (b : Bounding). IsBelowAll b.problem c.in-Expanded.least) c.turns.invariant.2 turned.1) c.nodes_expanded.ensures c.turn.new.waiting.entries
+      (subst (λ (b : Bounding). Branches b.problem b.most c.turns.waiting.entries c.turn.new.waiting.entries) c.turns.invariant.2 turned.0))),
 )
 
-pub nodes_expanded-requires-in-Ended : goal.nodes_expanded-requires-in-Ended
-nodes_expanded-requires-in-Ended g c =
-    subst (λ (p : Problem). IsBelowAll p c.least_stated.result) (sym (c.problem-in-Ended.ensures ∙ ap (λ (b : Bounding). b.problem) c.in_ok-outcome.ensures.bounds))
-    (subst (IsBelowAll c.turns.bounds.problem) (sym c.least_stated.ensures)
-    (stated_below c.turns.bounds.problem c.in-Ended.answer (subst (IsTurn c.turns.bounds.problem c.turns.bounds.most c.turns.waiting.entries c.turn.new.waiting.entries) c.in-Ended.is c.in_ok-outcome.ensures.turn)))
+pub turns-init : goal.turns-init
+turns-init g c = (c.requires.covering, c.requires.paths, refl, by_begins g.W.Watch.told c.args.bounds c.args.nodes c.args.watch.now c.args.waiting.entries c.requires.covering)
+
+pub returns-in-Ended-clause-told : goal.returns-in-Ended-clause-told
+returns-in-Ended-clause-told g c =
+    let stated = subst (IsTurn c.turns.bounds.problem c.turns.bounds.most c.turns.waiting.entries c.turn.new.waiting.entries) c.in-Ended.is c.in_ok-outcome.ensures.turn in
+    by_ends g.W.Watch.told c.args.bounds c.args.nodes c.turns.nodes c.least_stated.result c.args.watch.now c.turns.watch c.nodes_expanded-in-Ended.new.self c.turns.waiting.entries c.turns.invariant.3
+    (subst (λ (b : Bounding). IsBelowAll b.problem c.least_stated.result) c.turns.invariant.2 (subst (IsBelowAll c.turns.bounds.problem) (sym c.least_stated.ensures) (stated_below c.turns.bounds.problem c.in-Ended.answer stated)))
+    c.nodes_expanded-in-Ended.ensures c.in-Ended.answer
+    (subst (λ n. IsEndOf (record { nodes = c.turns.nodes; least = n }) c.in-Ended.answer) (sym c.least_stated.ensures) (stated_ends c.turns.bounds.problem c.in-Ended.answer c.turns.nodes stated))

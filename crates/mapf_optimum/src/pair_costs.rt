@@ -1,105 +1,108 @@
-//! What pairs of agents cost together, by what they are forbidden: each is found once.
+//! What pairs of agents cost together, by what they are forbidden: each is found once, as long as it is remembered.
 
-ghost use Rattle.std.specs.Prelude.{◌≡◌, IfOk, IfSome, IsTrue};
-ghost use Rattle.mapf_bounds.specs.Pairs.{DoCost, HaveLeast};
+ghost use Rattle.std.specs.Prelude.{◌≡◌, [], IfOk, IfSome, IsTrue};
+ghost use Rattle.mapf_optimum.specs.KnownPairs.{AreKnown, DoCost, HaveLeast, Keeps, Learns, Remembers};
 
+use crate::low_level::LowLevel;
+use crate::pairs::{AgentInNode, cost_together};
 use mapf_grid::NoMemory;
 use mapf_low::Constraints;
-use mapf_optimum::{AgentInNode, LowLevel, cost_together};
 use mapf_plan::Path;
-use mapf_tree::Problem;
 use std::alloc::Global;
 use std::collections::HashMap;
 use std::marker::Model;
 
+/// How many pairs are remembered, at most: then all are forgotten.
+const MOST_KNOWN: usize = 50_000;
+
 /// Two agents, and what they are forbidden.
 #[derive(Drop)]
-pub(crate) struct AgentPair {
-    pub(crate) first: usize,
-    pub(crate) second: usize,
-    pub(crate) first_set: Constraints,
-    pub(crate) second_set: Constraints,
+pub struct AgentPair {
+    /// The one agent.
+    pub first: usize,
+    /// The other.
+    pub second: usize,
+    /// What the one is forbidden.
+    pub first_set: Constraints,
+    /// What the other is.
+    pub second_set: Constraints,
 }
 
 /// What is known of a pair.
 #[derive(Drop)]
-pub(crate) struct KnownPair {
-    pub(crate) pair: AgentPair,
+pub struct KnownPair {
+    pair: AgentPair,
     /// What it costs at least.
-    pub(crate) least: u64,
+    least: u64,
     /// Up to where that was looked for.
     up_to: u64,
 }
 
 /// What is known of pairs of a problem's agents.
-pub(crate) struct PairCosts<'p> {
-    alloc: Global,
-    low: LowLevel<'p>,
+pub struct PairCosts {
     known: Vec<KnownPair>,
     /// Where a pair is looked for: what is found there is compared.
     places: HashMap<u64, usize>,
 }
 
 // By hand, so that a proof about what holds one sees a call where it is dropped, and not its fields.
-impl<'p> Drop for PairCosts<'p> {
+impl Drop for PairCosts {
     fn drop(self) {
         let PairCosts {
-            alloc: _,
-            low: _,
             known: _,
             places: _,
         } = self;
     }
 }
 
-impl<'p> Model for PairCosts<'p> {
-    ghost use Rattle.std.specs.List.{AllByRecursion};
-    ghost use Rattle.mapf_tree.specs.Problem.{Problem};
-    ghost use Rattle.mapf_bounds.specs.Pairs.{IsKnownPair};
+impl Model for PairCosts {
+    ghost use Rattle.std.specs.Prelude.{List};
+    ghost use Rattle.mapf_optimum.specs.declared.pair_costs.KnownPair.{KnownPair};
 
-    ghost Value = { Problem };
+    ghost Value = { List KnownPair };
 
-    ghost view = { λ c. c.low };
-
-    ghost invariant = { λ c. AllByRecursion (IsKnownPair c.low) c.known.items };
+    ghost view = { λ c. c.known.items };
 }
 
-impl<'p> PairCosts<'p> {
+impl PairCosts {
     /// Nothing is known.
-    pub(crate) fn new(alloc: Global, problem: &'p Problem) -> Result<PairCosts<'p>, NoMemory>
-        ensures { IfOk result (λ costs. costs ≡ problem.now) }
+    pub fn new(alloc: Global) -> PairCosts
+        ensures { result ≡ [] }
     {
-        Ok(PairCosts {
-            alloc,
-            low: LowLevel::new(alloc, problem)?,
+        PairCosts {
             known: Vec::new(alloc),
             places: HashMap::new(alloc),
-        })
+        }
     }
 
     /// What two agents cost together at least, looked for up to so much, from least paths of them.
-    pub(crate) fn least(
+    ///
+    /// An error is that memory ran out.
+    pub fn least(
         &mut self,
+        alloc: Global,
+        low: &LowLevel<'_>,
         pair: AgentPair,
         one: &Path,
         other: &Path,
         up_to: u64,
     ) -> Result<u64, NoMemory>
-        requires { HaveLeast self.old pair one.now other.now }
-        ensures same { self.new ≡ self.old }
-        ensures least { IfOk result (DoCost self.old pair) }
+        requires known { AreKnown low.now self.old }
+        requires paths { HaveLeast low.now pair one.now other.now }
+        ensures known { AreKnown low.now self.new }
+        ensures least { IfOk result (DoCost low.now pair) }
     {
         if let Some(least) = self.find(&pair, up_to) {
             return Ok(least);
         }
-        let least = self.look_for(&pair, one, other, up_to)?;
+        let least = look_for(alloc, low, &pair, one, other, up_to)?;
         self.learn(pair, least, up_to)?;
         Ok(least)
     }
 
     /// What is known of a pair, looked for up to so much.
     fn find(&self, pair: &AgentPair, up_to: u64) -> Option<u64>
-        ensures { IfSome result (DoCost self.now pair.now) }
+        ensures { IfSome result (Remembers self.now pair.now) }
     {
         let place = *self.places.get(&key_of(pair))?;
         if place >= self.known.len() {
@@ -115,41 +118,52 @@ impl<'p> PairCosts<'p> {
         Some(known.least)
     }
 
-    /// What two agents cost together at least.
-    fn look_for(
-        &self,
-        pair: &AgentPair,
-        one: &Path,
-        other: &Path,
-        up_to: u64,
-    ) -> Result<u64, NoMemory>
-        requires { HaveLeast self.now pair.now one.now other.now }
-        ensures { IfOk result (DoCost self.now pair.now) }
-    {
-        let one = AgentInNode {
-            agent: pair.first,
-            constraints: &pair.first_set,
-            path: one,
-        };
-        let other = AgentInNode {
-            agent: pair.second,
-            constraints: &pair.second_set,
-            path: other,
-        };
-        cost_together(self.alloc, &self.low, &one, &other, up_to)
-    }
-
     /// Remembers what a pair costs at least, which was looked for up to so much.
     fn learn(&mut self, pair: AgentPair, least: u64, up_to: u64) -> Result<(), NoMemory>
-        requires { DoCost self.old pair least }
-        ensures { self.new ≡ self.old }
+        ensures { Learns self.old pair least self.new }
     {
         let key = key_of(&pair);
+        self.make_room();
         let number = self.known.len();
         self.known.push(KnownPair { pair, least, up_to })?;
         self.places.insert(key, number)?;
         Ok(())
     }
+
+    /// Forgets all where so many are known.
+    fn make_room(&mut self)
+        ensures { Keeps self.old self.new }
+    {
+        if self.known.len() >= MOST_KNOWN {
+            self.known.clear();
+            self.places.clear();
+        }
+    }
+}
+
+/// What two agents cost together at least.
+fn look_for(
+    alloc: Global,
+    low: &LowLevel<'_>,
+    pair: &AgentPair,
+    one: &Path,
+    other: &Path,
+    up_to: u64,
+) -> Result<u64, NoMemory>
+    requires { HaveLeast low.now pair.now one.now other.now }
+    ensures { IfOk result (DoCost low.now pair.now) }
+{
+    let one = AgentInNode {
+        agent: pair.first,
+        constraints: &pair.first_set,
+        path: one,
+    };
+    let other = AgentInNode {
+        agent: pair.second,
+        constraints: &pair.second_set,
+        path: other,
+    };
+    cost_together(alloc, low, &one, &other, up_to)
 }
 
 /// Whether two pairs are one.
