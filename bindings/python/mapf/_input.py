@@ -34,6 +34,16 @@ class Input:
             yield file.name
 
 
+@contextlib.contextmanager
+def utf8_path(kind: str, path: str) -> Iterator[str]:
+    """The path; or that of a copy of the file for as long as it is wanted, where the path isn't UTF-8: faults 50, 51 and 53."""
+    if path.isprintable():
+        yield path
+    else:
+        with read_input(kind, path).file() as copy:
+            yield copy
+
+
 def read_input(kind: str, given: Given) -> Input:
     """A map, a scenario or a plan, by its path or its bytes: faults 50, 51 and 53."""
     if isinstance(given, (bytes, bytearray, memoryview)):

@@ -51,6 +51,20 @@ class Names(unittest.TestCase):
         self.assertTrue(err.startswith(b"mapf: " + NAME + b".map: 11 "), err)
 
     @with_program
+    def test_a_series(self):
+        with open(os.path.join(self.folder, NAME + b".scen"), "r+b") as file:
+            named = file.read().replace(b"bay.map", NAME + b".map")
+            file.seek(0)
+            file.write(named)
+            file.truncate()
+        rows = os.path.join(self.folder, b"rows.csv")
+        words = ["series", "--maps", self.folder, "--scens", self.folder, "--csv", rows, "--from", "2", "--to", "2", "--seconds", "60"]
+        running = process(*map(os.fsdecode, words), stdout=-1, stderr=-1)
+        self.assertEqual((*running.communicate(), running.returncode), (b"", b"", 0))
+        with open(rows, "rb") as file:
+            self.assertIn(NAME + b".map," + NAME + b".scen,2,solved,4,", file.read())
+
+    @with_program
     def test_a_program_whose_path_is_no_utf_8(self):
         path = os.path.join(self.folder, b"mapf")
         shutil.copy(mapf.program.program_path(), path)

@@ -22,11 +22,7 @@ class Limits(NamedTuple):
 
     def options(self, agents: int) -> Options:
         """What the program is asked."""
-        return Options(agents, self.bound, 1, self.nodes, self.no_following, self.any_optimum)
-
-    def around(self) -> List[str]:
-        """What starts a program with no more memory."""
-        return [] if self.memory is None else ["sh", "-c", 'ulimit -v "$0" && exec "$@"', str(1024 * self.memory)]
+        return Options(agents, self.bound, 1, self.nodes, self.no_following, self.any_optimum, self.memory)
 
     def columns(self, version: str) -> Dict[str, str]:
         """What each row says of the ask; the version is the program's."""

@@ -8,6 +8,7 @@ import time
 from contextlib import suppress
 from typing import Dict, List, NamedTuple, Optional, Set, Tuple
 
+from ..._input import utf8_path
 from ...child import Child
 from ...program import Program
 from ...scenarios import Scenario
@@ -43,7 +44,8 @@ class Runner:
 
     def run(self, scenario: Scenario, agents: int) -> Optional[Tuple[Row, str]]:
         """The row of a run, and what the program said if it refused or failed; None where it was stopped."""
-        ended = self._ended(self._words(scenario, agents))
+        with utf8_path("map", scenario.map_path) as grid, utf8_path("scenario", scenario.path) as scen:
+            ended = self._ended(self._words(grid, scen, agents))
         if ended is None:
             return None
         row = row_of(ended, scenario, agents)
@@ -61,9 +63,9 @@ class Runner:
                 with suppress(ProcessLookupError):
                     process.kill()
 
-    def _words(self, scenario: Scenario, agents: int) -> List[str]:
-        words = [*self.limits.around(), self._program.path, "solve", f"--map={scenario.map_path}", f"--scen={scenario.path}"]
-        words += self.limits.options(agents).words()
+    def _words(self, grid: str, scen: str, agents: int) -> List[str]:
+        options = self.limits.options(agents)
+        words = [*options.around(), self._program.path, "solve", f"--map={grid}", f"--scen={scen}", *options.words()]
         return words + (["--progress"] if self._tells else [])
 
     def _ended(self, words: List[str]) -> Optional[Ended]:
