@@ -17,7 +17,7 @@ pub use open_list::{First, OpenList};
 pub use own_paths::OwnPaths;
 pub use search::{Children, Progress, Search, least_stated};
 pub use tree::{
-    Key, Name, Problem, Side, SideQuery, agent_of, child, child_with, constraint_of, own_path,
-    root, root_path, root_paths, root_with,
+    Key, Name, Problem, Side, SideQuery, agent_of, child, child_with, constraint_of, left_of_bound,
+    own_path, root, root_path, root_paths, root_with,
 };
 pub use watch::{NoWatch, Watch};

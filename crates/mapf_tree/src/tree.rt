@@ -13,5 +13,5 @@ pub use key::Key;
 pub use name::Name;
 pub use problem::Problem;
 pub use side::Side;
-pub use side_query::SideQuery;
+pub use side_query::{SideQuery, left_of_bound};
 pub use sides::{agent_of, constraint_of};

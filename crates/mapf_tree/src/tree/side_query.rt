@@ -1,6 +1,6 @@
 //! What the child on a side of a node's conflict asks of the low level.
 
-ghost use Rattle.std.specs.Prelude.{◌≡◌, ◌<◌, ◌≤◌, length, option_map, Some, IfOk};
+ghost use Rattle.std.specs.Prelude.{◌≡◌, ◌+◌, ◌<◌, ◌≤◌, length, option_map, Some, IfOk};
 ghost use Rattle.mapf_tree.specs.Prelude.{arc_value, cost, path_of, plan_cost, MOST_BOUND, IsBranching, IsChildOf, Leaves, HasTwoEnds, IfKnown};
 
 mod low_level;
@@ -192,6 +192,14 @@ pub(crate) fn bound_for(problem: &Problem, node: &Node, agent: usize, own: u32) 
     ensures small { result ≤ MOST_BOUND }
     ensures bounded { problem.now.bound ≤ MOST_BOUND }
 {
-    let others = node.key().cost - u64::from(own);
-    (u64::from(problem.bound()) - others) as u32
+    left_of_bound(problem.bound(), node.key().cost, own)
+}
+
+/// What is left of a bound for one path of a plan that is within it, where all paths cost so much, and that one so much.
+pub fn left_of_bound(bound: u32, all: u64, own: u32) -> u32
+    requires part { own ≤ all }
+    requires within { all ≤ bound }
+    ensures { result + all ≡ bound + own }
+{
+    (u64::from(bound) - (all - u64::from(own))) as u32
 }
