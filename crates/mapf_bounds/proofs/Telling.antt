@@ -7,7 +7,7 @@ use Rattle.mapf_tree.specs.declared.tree.key.Key.{Key}
 use Rattle.mapf_tree.specs.Answered.{IsStated}
 use Rattle.mapf_tree.specs.LowerBound.{IsBelowAll, least_stated}
 use Rattle.mapf_tree.specs.Problem.{Problem}
-use Rattle.mapf_tree.specs.Search.{TakesBetween, most_counted}
+use Rattle.mapf_tree.specs.Search.{CountsTaken}
 use Rattle.mapf_tree.specs.Told.{IsEndOf, one_more}
 use Rattle.mapf_tree.specs.Tree.{IsAnswer}
 use Rattle.mapf_tree.proofs.Telling.{IsTelling, telling_begins, telling_ends, telling_expands, telling_goes}
@@ -42,10 +42,11 @@ module _ {W : Type 0} (told : W → ℕ → ℕ → W → Type 0) where
   )
 
   -- what a search by bounds tells, behind one that took so many nodes
-  pub watched_behind : (p q : Problem) (last : Option (List ℕ)) (taken : ℕ) (old new : W) (r : Result Answer NoMemory) → p ≡ q → (taken < most_counted → TakesBetween q None last taken) → IfOk r (IsWatched told p taken old new) →
-      IfOk r (λ given. (n : ℕ) × (n < most_counted → TakesBetween q None last n) × IsWatched told q n old new given)
-  watched_behind p q last taken old new (Ok given) same took w = (taken, took, subst (λ x. IsWatched told x taken old new given) same w)
-  watched_behind p q last taken old new (Err e) same took w = tt
+  pub watched_behind : (p q : Problem) (last : Option (List ℕ)) (taken n : ℕ) (old new : W) (r : Result Answer NoMemory) → p ≡ q → taken ≡ n → CountsTaken q last taken → IfOk r (IsWatched told p taken old new) →
+      IfOk r (λ given. CountsTaken q last n × IsWatched told q n old new given)
+  watched_behind p q last taken n old new (Ok given) same is took w =
+      (subst (CountsTaken q last) is took, subst (λ k. IsWatched told q k old new given) is (subst (λ x. IsWatched told x taken old new given) same w))
+  watched_behind p q last taken n old new (Err e) same is took w = tt
 
   module _ (b : Bounding) (taken : ℕ) where
     pub by_begins : (w : W) (waiting : List (Key × Waiting)) → IsCovering b.problem b.most waiting → IsTellingBy b taken taken w w waiting

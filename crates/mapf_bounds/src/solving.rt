@@ -7,7 +7,7 @@ ghost use Rattle.mapf_bounds.specs.Bounds.{IsRange};
 ghost use Rattle.mapf_tree.specs.Answered.{IsStated};
 ghost use Rattle.mapf_tree.specs.LowerBound.{IsBelowAll};
 ghost use Rattle.mapf_tree.specs.Problem.{Problem};
-ghost use Rattle.mapf_tree.specs.Search.{TakesBetween};
+ghost use Rattle.mapf_tree.specs.Search.{CountsTaken};
 ghost use Rattle.mapf_bounds.specs.Told.{IsWatched};
 ghost use Rattle.mapf_bounds.specs.Below.{IsEnough};
 ghost use Rattle.mapf_bounds.specs.Waiting.{IsCovering, IsMoving};
@@ -67,9 +67,9 @@ pub fn finish_by_bounds<W: Watch>(
     ensures best { IfOk result (IsBestAnswer search.entry.problem) }
 
     // The nodes that the search by keys took are counted, too.
-    ensures told { IfOk result (λ given. (taken : ℕ)
-        × (taken < u64.MAX → TakesBetween search.entry.problem None search.entry.last taken)
-        × IsWatched W.told search.entry.problem taken watch.old watch.new given) }
+    ensures told { IfOk result (λ given.
+        CountsTaken search.entry.problem search.entry.last search.entry.taken
+        × IsWatched W.told search.entry.problem search.entry.taken watch.old watch.new given) }
 {
     let nodes = search.taken_nodes();
     let (problem, open_list) = search.into_waiting();

@@ -32,8 +32,9 @@ AreSidesOf p current = (slot : ℕ) (job : WantedChild) → slice_index_or curre
 abbrev pub number_of : Option WantedChild → Option ℕ
 number_of = option_map (λ job. job.number)
 
--- from the last taken node on a search took the next n nodes of the tree and has no answer yet, or it ended after at most n
-abbrev pub HasTaken : Problem → ℕ → Option (List ℕ) → Searched → Result Progress NoMemory → Type 0
-HasTaken p n from s (Ok Working) = (s.outcome ≡ Ok None) × TakesBetween p from s.last n
-HasTaken p n from s (Ok Finished) = (m : ℕ) × (m ≤ n) × TakesBetween p from s.last m
-HasTaken p n from s (Err _) = Unit {0}
+-- from the last taken node on a search took the next n nodes of the tree and has no answer yet, or it ended after at most n; and the
+-- number of taken nodes didn't fall
+abbrev pub HasTaken : Problem → ℕ → Searched → Searched → Result Progress NoMemory → Type 0
+HasTaken p n from s (Ok Working) = (s.outcome ≡ Ok None) × TakesBetween p from.last s.last n × (from.taken ≤ s.taken)
+HasTaken p n from s (Ok Finished) = (m : ℕ) × (m ≤ n) × TakesBetween p from.last s.last m × (from.taken ≤ s.taken)
+HasTaken p n from s (Err _) = from.taken ≤ s.taken

@@ -3,6 +3,7 @@
 ghost use Rattle.std.specs.Prelude.{◌≡◌, ◌<◌, ◌≤◌, IfOk, None, Ok};
 ghost use Rattle.mapf_tree.specs.Answered.{IsAnswerOf, IsBestAnswer};
 ghost use Rattle.mapf_board.specs.declared.limits.TheConstants.{MOST_WORKERS};
+ghost use Rattle.mapf_bounds.specs.Told as by_bounds;
 ghost use Rattle.mapf_solve.specs.Told.{IsWatched};
 ghost use Rattle.mapf_solve.specs.declared.pace.TheConstants.{MOST_SESSION_NODES, MOST_WORKER_TURNS};
 
@@ -97,27 +98,14 @@ pub fn solve_watched<R: Threads + Sync, G: Gate, S: Supply, W: Watch>(
     ensures answer { IfOk result (IsAnswerOf problem.now) }
     ensures best { IfOk result (IsBestAnswer problem.now) }
 
-    // No plan without conflict costs less than the watch is told.
+    // No plan without conflict costs less than the watch is told, and the numbers of nodes that it is told never fall.
     ensures told { IfOk result (λ _. IsWatched W.told problem.now watch.old watch.new) }
 {
-    solve_from(means, problem, 0, watch)
+    solve_in_sessions::<Brand, R, G, S, W>(means, problem, 0, watch)
 }
 
-/// The answer, where the jobs are numbered from `first` on.
-pub(crate) fn solve_from<R: Threads + Sync, G: Gate, S: Supply, W: Watch>(
-    means: &Means<'_, R, G, S>,
-    problem: &Problem,
-    first: u64,
-    watch: &mut W,
-) -> Result<Answer, NoMemory>
-    ensures answer { IfOk result (IsAnswerOf problem.now) }
-    ensures told { IfOk result (λ _. IsWatched W.told problem.now watch.old watch.new) }
-{
-    solve_in_sessions::<Brand, R, G, S, W>(means, problem, first, watch)
-}
-
-/// The same, by a search that goes on in sessions.
-fn solve_in_sessions<P: OneProblem, R: Threads + Sync, G: Gate, S: Supply, W: Watch>(
+/// The answer, by a search that goes on in sessions, where the jobs are numbered from `first` on.
+pub(crate) fn solve_in_sessions<P: OneProblem, R: Threads + Sync, G: Gate, S: Supply, W: Watch>(
     means: &Means<'_, R, G, S>,
     problem: &Problem,
     first: u64,
@@ -153,7 +141,8 @@ fn finish<P: OneProblem, W: Watch>(
     requires open_yet { sessions.search.outcome ≡ Ok None }
     requires unlimited { P.problem.nodes ≡ None }
     ensures answer { IfOk result (IsAnswerOf P.problem) }
-    ensures told { IfOk result (λ _. IsWatched W.told P.problem watch.old watch.new) }
+    ensures told { IfOk result (λ given. (sessions.entry.search.taken ≤ u64.MAX)
+        × by_bounds.IsWatched W.told P.problem sessions.entry.search.taken watch.old watch.new given) }
 {
     let SessionSearch { search, lookahead } = sessions;
     finish_by_bounds(alloc, search, lookahead.into_own_paths(), watch)

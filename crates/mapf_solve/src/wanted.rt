@@ -6,7 +6,7 @@ ghost use Rattle.mapf_solve.specs.Wanted.{IsWanted};
 
 use crate::means::Means;
 use crate::rounds::root_paths;
-use crate::solving::solve_from;
+use crate::solving::solve_in_sessions;
 use crate::{NoWatch, Watch};
 use mapf_board::{AlwaysGrants, Gate};
 use mapf_bounds::solve_by_bounds;
@@ -15,6 +15,7 @@ use mapf_optimum::{solve_any, solve_any_from};
 use mapf_plan::Answer;
 use mapf_tree::Problem;
 use std::alloc::Global;
+use std::marker::Brand;
 use std::thread::Threads;
 
 /// Which answer of a problem is wanted.
@@ -39,7 +40,9 @@ pub(crate) fn solve_wanted<R: Threads + Sync, G: Gate, W: Watch>(
 {
     let next = problem.instance().agents() as u64;
     match wanted {
-        Wanted::FirstSolution => solve_from(means, problem, next, watch),
+        Wanted::FirstSolution => solve_in_sessions::<Brand, R, G, AlwaysGrants, W>(
+            means, problem, next, watch,
+        ),
         Wanted::AnyOptimum => {
             let paths = root_paths(means, problem, next)?;
             solve_any_from(means.alloc, problem, paths, watch)

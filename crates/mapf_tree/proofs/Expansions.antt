@@ -116,14 +116,13 @@ one_more p old new x k n up e turn =
 
 -- the count at first
 pub counted_first : (p : Problem) → IsCounted p None 0
-counted_first p = ((λ below. takes_none p None), (λ n limit. omega arith))
+counted_first p = ((0, takes_none p None, omega arith), (λ n limit. omega arith))
 
 -- the count after one node more
 pub counted_more : (p : Problem) (old new : List Node) (last to : Option (List ℕ)) (x : PlannedNode) (k more : ℕ) → IsCounted p last k → GoesUpTo p old k
     → ExpandsLeast p old new x → TakesOne p last to → more ≡ min (k + 1) most_counted → IsCounted p to more
 counted_more p old new last to x k more counted up turn one is = (
-  (λ below. let same : more ≡ k + 1 = omega (arith, is, below) in
-      subst (TakesBetween p None to) (sym same) (takes_more p None last to k (λ m h r. absurd r) (counted.0 (omega (arith, same, below))) one)),
+  (counted.0.0 + 1, takes_more p None last to counted.0.0 (λ m h r. absurd r) counted.0.1 one, omega (arith, is, counted.0.2)),
   (λ n limit. let less = one_more p old new x k n up limit turn in omega (arith, is, less)),
 )
 
@@ -131,7 +130,8 @@ counted_more p old new last to x k more counted up turn one is = (
 counted_at : (p : Problem) (last : Option (List ℕ)) (k n : ℕ) → IsCounted p last k → IsLimit p.nodes → p.nodes ≡ Some n → TakesBetween p None last k × (k ≤ n)
 counted_at p last k n counted few limit =
     let less = counted.1 n limit in
-    (counted.0 (omega (arith, less, (subst IsLimit limit few).1)), less)
+    let all : counted.0.0 ≡ k = omega (arith, less, counted.0.2, (subst IsLimit limit few).1) in
+    (subst (TakesBetween p None last) all counted.0.1, less)
 
 -- it goes on once a node is expanded
 pub branched_lawful : (p : Problem) (old new : List Node) (last : Option (List ℕ)) (outcome : Result (Option Answer) NoMemory) (node : Node) → IsLawful p old last outcome → outcome ≡ Ok None → TakesLeast p old new (variant.Branched node) → IsLawful p new (Some (node_key node)) outcome × TakesOne p last (Some (node_key node))

@@ -26,7 +26,7 @@ pub use Rattle.mapf_tree.specs.Nodes.{AgreesWith, AllStand, AreChanges, Chain, C
 pub use Rattle.mapf_tree.specs.OpenList.{GivesFirst, IsAddedIfSome, IsPut, IsRising, IsTaken}
 pub use Rattle.mapf_tree.specs.PathCache.{AreExtensions, AreFirst, AreFirstPaths, AreKnown, AreSetsOf, Extends, GivesOwn, HasNoTurnAt, HasPath, HasSet, IsAskedAt, IsAt, IsCachedPath, IsExtended, IsExtension, IsNumberOf, IsOwnIn, IsPlanOf, IsPlanUpTo, IsQueryIn, IsRemembered, IsTold, IsTurnAt, KnowsAnswerTo, PathCache, TellsUpTo}
 pub use Rattle.mapf_tree.specs.Problem.{HasDistances, IsLimit, IsReady, Problem}
-pub use Rattle.mapf_tree.specs.Search.{IsChild, IsCounted, IsEnded, IsLawful, IsReached, IsSearch, IsTakenTo, IsWaiting, NoneSolves, Searched, TakesBetween, answer_of, most_counted}
+pub use Rattle.mapf_tree.specs.Search.{CountsTaken, IsChild, IsCounted, IsEnded, IsLawful, IsReached, IsSearch, IsTakenTo, IsWaiting, NoneSolves, Searched, TakesBetween, answer_of, most_counted}
 pub use Rattle.mapf_tree.specs.SideQuery.{AreFromStart, AreTables, IsAsked, IsFoundBy, IsQueryOf, SideQuery}
 pub use Rattle.mapf_tree.specs.Steps.{EndsAtAnswer, Expands, ExpandsLeast, GoesUpTo, IsGivenUp, IsSearchAt, IsStep, SearchStarts, TakenAreBounded, TakesLeast, TakesNext, TakesOne}
 pub use Rattle.mapf_tree.specs.Tree.{EachOnce, HasPlan, InTree, IsAllowedFor, IsAnswer, IsFirstSolution, IsMember, IsOwnPathOf, IsSolution, PlannedNode, TreeNode, agent_on, constraint_on, constraints_of, key, key_rank, root, root_of, side, side_of}

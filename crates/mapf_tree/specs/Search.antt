@@ -1,5 +1,5 @@
 -- A search: which nodes of the tree it took, and which wait (the high level of Sharon et al. 2015, best first).
-use Rattle.std.specs.Prelude.{◌≡◌, ◌⊎◌, ◌↔◌, ◌<◌, ◌≤◌, ◌-◌, ◌^◌, ℕ, List, [], length, Option, Some, None, IfSome, Result, Ok, Err, Contains}
+use Rattle.std.specs.Prelude.{◌≡◌, ◌⊎◌, ◌↔◌, ◌≤◌, ◌-◌, ◌^◌, ℕ, min, List, [], length, Option, Some, None, IfSome, Result, Ok, Err, Contains}
 use Rattle.mapf_grid.specs.declared.fault.NoMemory.{NoMemory}
 use Rattle.mapf_grid.specs.Least.{Precedes, IsLeast}
 use Rattle.mapf_plan.specs.declared.conflict.Conflict.{Conflict}
@@ -74,16 +74,20 @@ IsLawful problem nodes last (Err _) = Unit {0}
 abbrev pub most_counted : ℕ
 most_counted = 2 ^ 64 - 1
 
--- so many nodes are taken, where that is below the greatest number, and no more than may be
-abbrev pub IsCounted : Problem → Option (List ℕ) → ℕ → Type 0
-IsCounted problem last taken =
-    (taken < most_counted → TakesBetween problem None last taken) × ((n : ℕ) → problem.nodes ≡ Some n → taken ≤ n)
+-- so many nodes are taken; with more than the greatest number it is that number
+abbrev pub CountsTaken : Problem → Option (List ℕ) → ℕ → Type 0
+CountsTaken problem last taken = (n : ℕ) × TakesBetween problem None last n × (taken ≡ min n most_counted)
 
--- the problem, the nodes that wait, the key of the last taken node, and what came of it: an answer, none yet, or out of memory
+-- so many nodes are taken, and no more than may be
+abbrev pub IsCounted : Problem → Option (List ℕ) → ℕ → Type 0
+IsCounted problem last taken = CountsTaken problem last taken × ((n : ℕ) → problem.nodes ≡ Some n → taken ≤ n)
+
+-- the problem, the nodes that wait, the key of the last taken node, how many were taken, and what came of it: an answer, none yet, or out of memory
 pub record Searched : Type 0 where
   pub problem : Problem
   pub waiting : List Node
   pub last : Option (List ℕ)
+  pub taken : ℕ
   pub outcome : Result (Option Answer) NoMemory
 
 abbrev pub IsSearch : Searched → Type 0

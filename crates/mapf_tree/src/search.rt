@@ -52,6 +52,7 @@ impl<'p> Model for Search<'p> {
       problem = s.problem.now;
       waiting = s.waiting;
       last = option_map node_key s.last;
+      taken = s.taken;
       outcome = s.outcome;
     } };
 
@@ -60,7 +61,7 @@ impl<'p> Model for Search<'p> {
 }
 
 impl<'p> Search<'p> {
-    ghost use Rattle.mapf_tree.specs.Prelude.{Problem, IsRoot, IsAnswerOf, IsBestAnswer, IsSearch, IsEnded, TakesBetween, answer_of, IsStep};
+    ghost use Rattle.mapf_tree.specs.Prelude.{Problem, IsRoot, IsAnswerOf, IsBestAnswer, IsSearch, IsEnded, TakesBetween, CountsTaken, answer_of, IsStep};
 
     /// A search that has taken no node yet.
     pub fn new(alloc: Global, problem: &'p Problem) -> Result<Search<'p>, NoMemory>
@@ -112,6 +113,9 @@ impl<'p> Search<'p> {
             × (self.new.outcome ≡ Ok (Some given)) × IsAnswerOf self.new.problem given }
         ensures no_memory { OnErr result (IsErr self.new.outcome) }
 
+        // The number of taken nodes never falls.
+        ensures counted { self.old.taken ≤ self.new.taken }
+
         // With the answer no more were taken than it needs: the last one is the solution, nothing waits, or no more may be taken.
         ensures within { result ≡ Ok Progress.Finished → (n : ℕ)
             × (n ≤ turns) × TakesBetween self.new.problem self.old.last self.new.last n }
@@ -158,6 +162,7 @@ impl<'p> Search<'p> {
         ensures serves { C.serves children.new self.new.problem }
         ensures search { IsSearch self.new }
         ensures step { IsStep self.old self.new result }
+        ensures counted { self.old.taken ≤ self.new.taken }
     {
         if let Some(given) = answer_at_limit(self.problem, &self.waiting, self.taken) {
             self.outcome = Ok(Some(given));
@@ -251,7 +256,8 @@ impl<'p> Search<'p> {
 
     /// How many nodes were taken, the solution among them. A number that has reached `u64::MAX` stays there.
     pub fn taken_nodes(&self) -> u64
-        ensures taken { result < u64.MAX → TakesBetween self.now.problem None self.now.last result }
+        ensures is { result ≡ self.now.taken }
+        ensures taken { CountsTaken self.now.problem self.now.last result }
         ensures search { IsSearch self.now }
     {
         self.taken

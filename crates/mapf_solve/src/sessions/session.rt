@@ -46,7 +46,7 @@ impl<'p, 's, P: OneProblem, B: OneBoard, G: Gate> Lead for Led<'p, 's, P, B, G> 
 
     ghost may_lead = { λ l. l.search.outcome ≡ Ok None };
 
-    ghost leads = { λ l progress m. HasTaken P.problem l.nodes l.search.last m.search progress };
+    ghost leads = { λ l progress m. HasTaken P.problem l.nodes l.search m.search progress };
 
     fn has_jobs(&self) -> bool {
         self.source.desk.has_jobs()
@@ -73,7 +73,7 @@ fn session_at<'p, P: OneProblem, B: OneBoard, R: Threads + Sync, G: Gate, S: Sup
     requires no_job { currents owner ≡ replicate MOST_SLOTS None }
     requires crew { IsCrewOf live seats.items }
     requires open_yet { sessions.search.outcome ≡ Ok None }
-    ensures { HasTaken P.problem means.now.pace.session_nodes sessions.entry.search.last
+    ensures { HasTaken P.problem means.now.pace.session_nodes sessions.entry.search
         result.0.search result.1 }
 {
     let nodes = means.pace.session_nodes;
@@ -117,7 +117,7 @@ pub(crate) fn session<'p, P: OneProblem, R: Threads + Sync, G: Gate, S: Supply>(
     sessions: SessionSearch<'p, P>,
 ) -> (SessionSearch<'p, P>, Result<Progress, NoMemory>)
     requires { sessions.search.outcome ≡ Ok None }
-    ensures { HasTaken P.problem means.now.pace.session_nodes sessions.entry.search.last
+    ensures { HasTaken P.problem means.now.pace.session_nodes sessions.entry.search
         result.0.search result.1 }
 {
     let Ok((live, owner, seats)) = Live::<SideWork<'p>>::new(means.alloc, MOST_SLOTS, means.workers)

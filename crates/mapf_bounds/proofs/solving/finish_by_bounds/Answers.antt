@@ -1,7 +1,8 @@
-use Rattle.std.proofs.Common.{◌+◌, None, [], refl, subst, sym, ap, ◌∙◌, arith}
+use Rattle.std.proofs.Common.{◌+◌, None, [], refl, subst, subst₂, sym, ap, ◌∙◌, arith}
 use Rattle.mapf_plan.specs.declared.answer.Answer.TheVariants as answer
 use Rattle.mapf_tree.specs.LowerBound.{IsBelowAll}
 use Rattle.mapf_tree.specs.Problem.{Problem}
+use Rattle.mapf_tree.specs.Search.{CountsTaken}
 use Rattle.mapf_tree.specs.Tree.{IsAnswer}
 use Rattle.mapf_tree.proofs.Descent.{none_is_none}
 use Rattle.mapf_tree.proofs.GoingOn.{best_out}
@@ -42,13 +43,12 @@ returns-in_default-clause-told g c =
     let p = c.into_waiting-open_list.result.0.now in
     let none = subst (IsRange p) c.in_default.is c.in_ok-range.ensures in
     let below = subst (IsBelowAll p) (omega (arith, c.from.ensures, c.bound-bound.ensures.bound)) (stated_below p (answer.None p.bound) (None, none, refl)) in (
-      c.taken_nodes-nodes.result,
-      c.taken_nodes-nodes.ensures.taken,
-      subst (λ q. IsWatched g.W.Watch.told q c.taken_nodes-nodes.result c.args.watch.now c.nodes_expanded.new.self (answer.None c.bound-bound.result)) c.into_waiting-open_list.ensures.problem
+      subst (CountsTaken c.args.search.problem c.args.search.last) c.taken_nodes-nodes.ensures.is c.taken_nodes-nodes.ensures.taken,
+      subst₂ (λ q n. IsWatched g.W.Watch.told q n c.args.watch.now c.nodes_expanded.new.self (answer.None c.bound-bound.result)) c.into_waiting-open_list.ensures.problem c.taken_nodes-nodes.ensures.is
           (watched_empty g.W.Watch.told p c.taken_nodes-nodes.result (c.from.result + 1) c.args.watch.now c.nodes_expanded.new.self (answer.None c.bound-bound.result) none below c.nodes_expanded.ensures (ap (λ n. n + 1) c.from.ensures)),
     )
 
 pub returns-clause-told : goal.returns-clause-told
 returns-clause-told g c =
-    watched_behind g.W.Watch.told c.in_ok-bounds.bounds.problem c.args.search.problem c.args.search.last c.taken_nodes-nodes.result c.args.watch.now c.search_by_bounds.new.watch c.search_by_bounds.result
-    (ap (λ (b : Bounding). b.problem) c.in_ok-bounds.ensures ∙ c.into_waiting-open_list.ensures.problem) c.taken_nodes-nodes.ensures.taken c.search_by_bounds.ensures.told
+    watched_behind g.W.Watch.told c.in_ok-bounds.bounds.problem c.args.search.problem c.args.search.last c.taken_nodes-nodes.result c.args.search.taken c.args.watch.now c.search_by_bounds.new.watch c.search_by_bounds.result
+    (ap (λ (b : Bounding). b.problem) c.in_ok-bounds.ensures ∙ c.into_waiting-open_list.ensures.problem) c.taken_nodes-nodes.ensures.is c.taken_nodes-nodes.ensures.taken c.search_by_bounds.ensures.told

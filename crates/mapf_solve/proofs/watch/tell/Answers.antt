@@ -7,6 +7,7 @@ returns-in-Some g c =
     let s = c.args.search.now in inr (
       record { nodes = c.taken_nodes-nodes.result; least = c.in-Some.least },
       record {
+        counted = c.taken_nodes-nodes.ensures.is;
         took = c.taken_nodes-nodes.ensures.taken;
         is = subst (λ o. MatchOption o (IsErr s.outcome) (IsLowerBound s.problem s.waiting s.outcome)) c.in-Some.is c.lower_bound.ensures.is;
         below = subst (λ o. IfSome o (IsBelowAll s.problem)) c.in-Some.is c.lower_bound.ensures.below;

@@ -7,6 +7,7 @@ pub loop-taken-preserved : goal.loop-taken-preserved
 loop-taken-preserved g c = (
   goes_on c.args.self.now.problem c.args.self.now.last c.loop-taken.self c.step.new.self c.loop-taken._taken c.in_ok-step.field-0 c.in_default.not-Finished c.loop-taken.invariant.0 c.in_ok-step.ensures.problem c.in_ok-step.ensures.search c.in_ok-step.ensures.step,
   c.in_ok-step.ensures.serves,
+  omega (arith, c.loop-taken.invariant.2, c.in_ok-step.ensures.counted),
   λ e. absurd (let z : c.loop-taken._taken + 1 ≡ 0 = e in omega (arith, z)),
 )
 
