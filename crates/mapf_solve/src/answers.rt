@@ -52,8 +52,7 @@ pub fn answer<R: Threads + Sync, G: Gate>(
     ensures same_fault { IfErr result
         (λ fault. fault ≢ Refusal.NoMemory → IsWorkers ask → IsOnlyOut map.now scen.now ask (Err fault)) }
 {
-    let means = Means::new(rt, alloc, gate);
-    text_or_fault(means, map, scen, ask, Wanted::FirstSolution, &mut NoWatch)
+    answer_watched(rt, alloc, map, scen, ask, gate, &mut NoWatch)
 }
 
 /// What [`answer`] gives, and a watch is told how far the search has come: first of the root, if that is in the tree, then after each
@@ -155,7 +154,11 @@ pub(crate) fn asked_problem(problem: Problem, ask: Ask) -> Problem
     requires limit { IsLimit ask.nodes }
     ensures { result ≡ problem_of problem.inst ask }
 {
-    with_limit(with_rule(problem, ask.rule), ask.nodes)
+    let problem = with_rule(problem, ask.rule);
+    match ask.nodes {
+        Some(nodes) => problem.with_nodes(nodes),
+        None => problem,
+    }
 }
 
 /// Whether a search may be limited so: not at all, or to 1 to 1,000,000 nodes.
@@ -165,18 +168,6 @@ fn is_limit(nodes: Option<u64>) -> bool
     match nodes {
         Some(nodes) => 1 <= nodes && nodes <= MOST_NODES,
         None => true,
-    }
-}
-
-/// The problem with this limit on nodes, if it is one.
-fn with_limit(problem: Problem, nodes: Option<u64>) -> Problem
-    requires fresh { problem.nodes ≡ None }
-    requires limit { IsLimit nodes }
-    ensures { result ≡ record { inst = problem.inst; bound = problem.bound; nodes = nodes; rule = problem.rule } }
-{
-    match nodes {
-        Some(nodes) => problem.with_nodes(nodes),
-        None => problem,
     }
 }
 

@@ -61,16 +61,7 @@ pub fn run<R: Threads + Sync, M: Source, S: Source, O: Sink>(
     // Out of memory is a refusal.
     ensures memory { IfErr result (λ fault. fault ≢ RunFault.Device DeviceFault.NoMemory) }
 {
-    let means = Means::new(rt, alloc, &NoGate);
-    write_text_or_fault(
-        means,
-        map,
-        scen,
-        out,
-        ask,
-        Wanted::FirstSolution,
-        &mut NoWatch,
-    )
+    run_watched(rt, alloc, map, scen, out, ask, &mut NoWatch)
 }
 
 /// What [`run`] does, and a watch is told how far the search has come, as by [`answer_watched`](crate::answer_watched).
