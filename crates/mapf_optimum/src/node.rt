@@ -27,7 +27,7 @@ use crate::settling::settled;
 use mapf_grid::NoMemory;
 use mapf_low::Constraints;
 use mapf_plan::{Conflict, Path, Plan};
-use mapf_tree::{Problem, Side, agent_of, constraint_of};
+use mapf_tree::{Problem, Side, agent_of, constraint_of, left_of_bound};
 use std::alloc::Global;
 use std::marker::Model;
 
@@ -285,7 +285,6 @@ impl FreeNode {
         ensures small { result ≤ MOST_BOUND }
     {
         let own = self.plan.paths()[agent].cost();
-        let others = self.plan.cost() - u64::from(own);
-        (u64::from(low.bound()) - others) as u32
+        left_of_bound(low.bound(), self.plan.cost(), own)
     }
 }
