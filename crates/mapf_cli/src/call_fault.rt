@@ -41,24 +41,17 @@ impl CallFault {
         ensures { result ≤ 5 }
     {
         match self {
-            CallFault::CannotOpen(_) => DEVICE,
             CallFault::Run(RunFault::Refusal(Refusal::NoMemory)) => NO_MEMORY,
             CallFault::Run(RunFault::Refusal(_))
             | CallFault::Check(CheckFault::Files(_) | CheckFault::Text(_)) => FAULT,
             CallFault::Run(RunFault::Device(fault)) | CallFault::Check(CheckFault::Device(fault)) =>
-                status_of_device(fault),
+                match fault {
+                    DeviceFault::TooLong(_) => FAULT,
+                    DeviceFault::NoMemory => NO_MEMORY,
+                    DeviceFault::ReadFailed(_) | DeviceFault::WriteFailed { .. } => DEVICE,
+                },
+            CallFault::CannotOpen(_) => DEVICE,
         }
-    }
-}
-
-/// The program's status after a fault of its devices.
-fn status_of_device(fault: &DeviceFault) -> u8
-    ensures { result ≤ 5 }
-{
-    match fault {
-        DeviceFault::ReadFailed(_) | DeviceFault::WriteFailed { .. } => DEVICE,
-        DeviceFault::TooLong(_) => FAULT,
-        DeviceFault::NoMemory => NO_MEMORY,
     }
 }
 

@@ -1,4 +1,4 @@
-use mapf_grid::{FilesFault, NoMemory};
+use mapf_grid::FilesFault;
 use mapf_plan::{DeviceFault, TextFault};
 use thiserror::Error;
 
@@ -54,17 +54,5 @@ impl From<DeviceFault> for CheckFault {
 
     fn from(fault: DeviceFault) -> CheckFault {
         CheckFault::Device(fault)
-    }
-}
-
-impl From<NoMemory> for CheckFault {
-    ghost use Rattle.std.specs.Prelude.{◌≡◌};
-    ghost use Rattle.mapf_plan.specs.declared.device.fault.DeviceFault.TheVariants as device;
-    ghost use Rattle.mapf_cli.specs.declared.check_fault.CheckFault.TheVariants as check;
-
-    ghost from_gives = { λ _ r. r ≡ check.Device device.NoMemory };
-
-    fn from(_refused: NoMemory) -> CheckFault {
-        CheckFault::Device(DeviceFault::NoMemory)
     }
 }

@@ -50,25 +50,15 @@ impl<'a, R: Clock, E: Sink> ProgressLines<'a, R, E> {
         }
     }
 
-    fn hear(&mut self, standing: Standing) {
-        self.told = Some(standing);
-        if self.is_due(standing.nodes) {
-            self.write(standing);
-        }
-    }
-
     fn is_due(&self, nodes: u64) -> bool {
-        match self.written {
-            Some(written) => written < nodes && self.has_passed(Duration::from_secs(SECONDS)),
-            None => true,
-        }
-    }
-
-    fn has_passed(&self, time: Duration) -> bool {
-        match self.at {
-            Some(at) => at.elapsed(self.clock).is_ok_and(|passed| passed >= time),
-            None => false,
-        }
+        let Some(written) = self.written else {
+            return true;
+        };
+        let Some(at) = self.at else {
+            return false;
+        };
+        let time = Duration::from_secs(SECONDS);
+        written < nodes && at.elapsed(self.clock).is_ok_and(|passed| passed >= time)
     }
 
     fn write(&mut self, standing: Standing) {
@@ -85,7 +75,11 @@ impl<'a, R: Clock, E: Sink> ProgressLines<'a, R, E> {
 
 impl<R: Clock, E: Sink> Watch for ProgressLines<'_, R, E> {
     fn nodes_expanded(&mut self, nodes: u64, least: u64) {
-        self.hear(Standing { nodes, least });
+        let standing = Standing { nodes, least };
+        self.told = Some(standing);
+        if self.is_due(nodes) {
+            self.write(standing);
+        }
     }
 }
 
