@@ -1,7 +1,7 @@
 ghost use Rattle.std.specs.Prelude.{◌≡◌};
 ghost use Rattle.mapf_c.specs.Faults.{status_of};
 
-use mapf_grid::{FilesFault, NoMemory};
+use mapf_grid::FilesFault;
 use mapf_plan::{DeviceFault, TextFault};
 use mapf_solve::Refusal;
 use thiserror::Error;
@@ -81,17 +81,5 @@ impl From<DeviceFault> for Fault {
 
     fn from(named: DeviceFault) -> Fault {
         Fault::Device(named)
-    }
-}
-
-impl From<NoMemory> for Fault {
-    ghost use Rattle.std.specs.Prelude.{◌≡◌};
-    ghost use Rattle.mapf_solve.specs.declared.refusal.Refusal.TheVariants as refusal;
-    ghost use Rattle.mapf_c.specs.declared.fault.Fault.TheVariants as fault;
-
-    ghost from_gives = { λ _ r. r ≡ fault.Refusal refusal.NoMemory };
-
-    fn from(_refused: NoMemory) -> Fault {
-        Fault::Refusal(Refusal::NoMemory)
     }
 }
