@@ -3,7 +3,8 @@
 
 Usage: instances.py FOLDER KIND... It writes NAME.map and NAME.scen for each map of these kinds into the folder: `maps`, five
 of them; `scenarios`, 25 scenarios NAME-01.scen and so on for each of these five; `extremes`, the largest map and two pockets;
-`large` and `small`, three for tables of distances alone; `rest` and `corridor`, on which planners take long, with plans.
+`large` and `small`, three for tables of distances alone; `rest` and `corridor`, on which planners take long, with plans; `city`,
+a map of streets with 25 scenarios; `dead-end`, in which one of two agents has to let the other pass.
 """
 import os
 import sys
@@ -69,6 +70,15 @@ def rooms(size, room, random):
             if top + room < size:
                 grid[top + room - 1][left + random.below(room - 1)] = True
     return grid
+
+
+def streets(size, random):
+    """Streets of 2 to 4 cells from side to side, and blocks of 8 to 24 between them, of which the edge may cut the last."""
+    columns, rows = [], []
+    for lines in (columns, rows):
+        while len(lines) < size:
+            lines += [True] * (2 + random.below(3)) + [False] * (8 + random.below(17))
+    return [[column or row for column in columns[:size]] for row in rows[:size]]
 
 
 def corridor(length, width):
@@ -151,14 +161,15 @@ def draw(cells, taken, random):
             return cell
 
 
-def scenario(name, grid, random, rows):
+def scenario(name, grid, random, rows, measured=True):
+    """So many rows; where they aren't measured, each one's last word, the length, is 0."""
     cells = largest_part(grid)
     starts, goals = set(), set()
     lines = ["version 1"]
     for _ in range(rows):
         start = draw(cells, starts, random)
         goal = draw(cells, goals, random)
-        length = steps_from(grid, goal)[start]
+        length = steps_from(grid, goal)[start] if measured else 0
         places = f"{start[0]}\t{start[1]}\t{goal[0]}\t{goal[1]}"
         lines.append(f"0\t{name}.map\t{len(grid[0])}\t{len(grid)}\t{places}\t{length}")
     return lines
@@ -171,14 +182,7 @@ def distances(folder, size):
     random = Random(6)
     for kind, grid in (("open", empty(size, size)), ("walls", walls), ("random-20", blocked(size, size, 20, random))):
         name = f"{kind}-{size}-{size}"
-        cells = largest_part(grid)
-        starts, goals = set(), set()
-        lines = ["version 1"]
-        for _ in range(64):
-            start, goal = draw(cells, starts, random), draw(cells, goals, random)
-            places = f"{start[0]}\t{start[1]}\t{goal[0]}\t{goal[1]}"
-            lines.append(f"0\t{name}.map\t{size}\t{size}\t{places}\t0")
-        write(folder, name, grid, lines)
+        write(folder, name, grid, scenario(name, grid, random, 64, measured=False))
 
 
 def rest(folder):
@@ -202,6 +206,28 @@ def snake(folder, steps):
     places = f"{cells[0][0]}\t{cells[0][1]}\t{cells[steps][0]}\t{cells[steps][1]}"
     write(folder, name, grid, ["version 1", f"0\t{name}.map\t{len(grid[0])}\t{len(grid)}\t{places}\t{steps}"])
     write_lines(folder, f"{name}.plan", [f"plan 1 {steps}", " ".join(f"{x},{y}" for x, y in cells)])
+
+
+def city(folder):
+    """A map of streets of 256 by 256, and 25 scenarios beside the one that has its name."""
+    name = "city-256-256"
+    grid = streets(256, Random(7))
+    write(folder, name, grid, scenario(name, grid, Random(7000), ROWS, measured=False))
+    for number in range(1, SCENARIOS + 1):
+        lines = scenario(name, grid, Random(7000 + number), ROWS, measured=False)
+        write_lines(folder, f"{name}-{number:02}.scen", lines)
+
+
+def dead_end(folder):
+    """Open ground of 256 by 256 with a dead end of 12 cells; agent 0 is near it, and stops there on the way of agent 1."""
+    grid = empty(256, 256)
+    for x in range(244, 256):
+        grid[127][x] = grid[129][x] = False
+    name = "dead-end-256-256"
+    lines = ["version 1"]
+    for start, goal in ((240, 248), (10, 252)):
+        lines.append(f"0\t{name}.map\t256\t256\t{start}\t128\t{goal}\t128\t{goal - start}")
+    write(folder, name, grid, lines)
 
 
 def write(folder, name, grid, lines):
@@ -261,6 +287,8 @@ KINDS = {
     "small": lambda folder: distances(folder, 64),
     "rest": rest,
     "corridor": lambda folder: snake(folder, 1000000),
+    "city": city,
+    "dead-end": dead_end,
 }
 
 if __name__ == "__main__":
