@@ -5,16 +5,16 @@ use Rattle.mapf_low.specs.declared.constraint.Constraint.{Constraint}
 use Rattle.mapf_low.specs.Constraints.{Obeys}
 use Rattle.mapf_low.proofs.Sets.{obeys_set}
 use Rattle.mapf_tree.specs.Problem.{Problem}
-use Rattle.mapf_tree.specs.Tree.{IsAllowedFor, PlannedNode, agent_on, constraint_on, constraints_of}
+use Rattle.mapf_tree.specs.Tree.{PlannedNode, agent_on, constraint_on, constraints_of}
 use Rattle.mapf_tree.specs.Laws.{ObeysNode}
 use Rattle.mapf_tree.specs.Nodes.{Node, StandsFor, IsSameSet}
 use Rattle.mapf_tree.specs.Search.{IsChild}
 use Rattle.mapf_tree.proofs.SearchLaws.{obeys_fewer}
 use Rattle.mapf_optimum.specs.declared.pair_bound.PairBound.{PairBound}
 use Rattle.mapf_optimum.specs.FreeTree.{IsCandidate, IsLeastPathOf, IsPairBound, HaveLeastPaths}
-use Rattle.mapf_optimum.specs.declared.pair_costs.AgentPair.{AgentPair}
+use Rattle.mapf_optimum.specs.declared.two_agents.AgentPair.{AgentPair}
 use Rattle.mapf_optimum.specs.Pairs.{HaveSurplus}
-use Rattle.mapf_optimum.specs.KnownPairs.{DoCost}
+use Rattle.mapf_optimum.specs.TwoAgents.{DoCost}
 use Rattle.mapf_optimum.proofs.LeastPaths.{own_is_least}
 use Rattle.mapf_optimum.proofs.TwoAgents.{together_bounds}
 use Rattle.mapf_optimum.proofs.Choosing.{all_map, surplus_raises}
@@ -74,10 +74,10 @@ module _ (problem : Problem) (n k : Node) (x y : PlannedNode) (above : StandsFor
 pub pair_is_known : (problem : Problem) (n : Node) (p : AgentPair) (least : ℕ) → p.first < p.second → p.second < length problem.inst.starts → IsSameSet p.first_set (get_or n.constraints p.first []) →
     IsSameSet p.second_set (get_or n.constraints p.second []) → DoCost problem p least → AreKnownAt problem n (record { first = p.first; second = p.second; least = least } ∷ [])
 pair_is_known problem n p least l inside first second costs =
-    (together_bounds problem n.constraints p.first p.second least l inside (λ one other may. costs one other (record { first_allowed = in_order p.first p.first_set first one may.first_allowed; second_allowed = in_order p.second p.second_set second other may.second_allowed; no_conflict = may.no_conflict })), tt)
+    (together_bounds problem n.constraints p least l inside (in_order p.first p.first_set first) (in_order p.second p.second_set second) costs, tt)
   where
-    in_order : (i : ℕ) (set : List Constraint) → IsSameSet set (get_or n.constraints i []) → (path : List ℕ) → IsAllowedFor problem i (get_or n.constraints i []) path → IsAllowedFor problem i set path
-    in_order i set same path may = record { path = may.path; within = may.within; obeys = obeys_set (get_or n.constraints i []) set path (turned set (get_or n.constraints i []) same) may.obeys }
+    in_order : (i : ℕ) (set : List Constraint) → IsSameSet set (get_or n.constraints i []) → (path : List ℕ) → Obeys (get_or n.constraints i []) path → Obeys set path
+    in_order i set same path obeys = obeys_set (get_or n.constraints i []) set path (turned set (get_or n.constraints i []) same) obeys
 
 -- an agent's path in a node's plan is a least one under its set, in whatever order
 pub least_in_order : (problem : Problem) (n : Node) (m : PlannedNode) (i : ℕ) (set : List Constraint) → StandsFor problem n m → i < length problem.inst.starts → IsSameSet set (get_or n.constraints i []) →

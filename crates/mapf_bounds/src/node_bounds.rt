@@ -11,7 +11,8 @@ use crate::collisions::disjoint_collisions;
 use crate::waiting::Stage;
 use mapf_grid::NoMemory;
 use mapf_optimum::{
-    AgentPair, LowLevel, MOST_EXTRA, PairBound, PairCosts, disjoint_surplus, surplus_of,
+    AgentPair, GroupCosts, Guide, LowLevel, MOST_EXTRA, PairBound, disjoint_surplus, least_of_two,
+    surplus_of,
 };
 use mapf_plan::{AgentPaths, PairConflict};
 use mapf_tree::{CurrentPaths, Node, OwnPaths, Problem};
@@ -23,7 +24,8 @@ pub(crate) struct NodeBounds<'p> {
     alloc: Global,
     problem: &'p Problem,
     low: LowLevel<'p>,
-    costs: PairCosts,
+    known: GroupCosts,
+    guide: Guide,
     /// Solutions that cost more aren't looked for.
     most: u64,
 }
@@ -35,7 +37,8 @@ impl<'p> Drop for NodeBounds<'p> {
             alloc: _,
             problem: _,
             low: _,
-            costs: _,
+            known: _,
+            guide: _,
             most: _,
         } = self;
     }
@@ -43,14 +46,14 @@ impl<'p> Drop for NodeBounds<'p> {
 
 impl<'p> Model for NodeBounds<'p> {
     ghost use Rattle.std.specs.Prelude.{◌≡◌};
-    ghost use Rattle.mapf_optimum.specs.KnownPairs.{AreKnown};
+    ghost use Rattle.mapf_optimum.specs.Groups.{AreKnown};
     ghost use Rattle.mapf_bounds.specs.Bounds.{Bounding};
 
     ghost Value = { Bounding };
 
     ghost view = { λ b. record { problem = b.problem.now; most = b.most } };
 
-    ghost invariant = { λ b. (b.low ≡ b.problem.now) × AreKnown b.low b.costs };
+    ghost invariant = { λ b. (b.low ≡ b.problem.now) × AreKnown b.low b.known };
 }
 
 /// A node's bound, and what its pairs cost together at least.
@@ -73,7 +76,8 @@ impl<'p> NodeBounds<'p> {
             alloc,
             problem,
             low: LowLevel::new(alloc, problem)?,
-            costs: PairCosts::new(alloc),
+            known: GroupCosts::new(alloc),
+            guide: Guide::new(alloc, problem)?,
             most,
         })
     }
@@ -189,10 +193,16 @@ impl<'p> NodeBounds<'p> {
             second_set: node.constraints(self.alloc, second)?,
         };
         let alone = u64::from(one.cost()) + u64::from(other.cost());
-        let up_to = alone + u64::from(most);
-        let least = self
-            .costs
-            .least(self.alloc, &self.low, pair, one, other, up_to)?;
+        let found = least_of_two(
+            self.alloc,
+            &self.low,
+            pair,
+            one,
+            other,
+            &mut self.known,
+            &mut self.guide,
+        )?;
+        let least = found.min(alone + u64::from(most));
         if least <= alone {
             return Ok(None);
         }

@@ -1,5 +1,5 @@
 -- An expansion loses no candidate, and what is found is a cheapest one.
-use Rattle.std.proofs.Common.{◌≡◌, ℕ, ◌<◌, ◌≤◌, List, [], ◌∷◌, ◌++◌, Option, Some, None, subst, sym, refl, ⊎_elim, arith, All, Contains}
+use Rattle.std.proofs.Common.{◌≡◌, ℕ, ◌<◌, ◌≤◌, List, [], ◌∷◌, ◌++◌, Option, Some, None, subst, sym, refl, ⊎_elim, arith, All, Contains, IsPermutation}
 use Rattle.std.specs.Option.{option_to_list}
 use Rattle.std.proofs.lemmas.Bool.{cases_lt}
 use Rattle.std.proofs.lemmas.List.Elements.{All-nil, All-cons, All-tail, All-append, All-contains, Contains-append_left, Contains-append_right}
@@ -12,8 +12,7 @@ use Rattle.mapf_tree.specs.declared.tree.side.Side.{Side}
 use Rattle.mapf_tree.specs.declared.tree.side.Side.TheVariants.{Left, Right}
 use Rattle.mapf_tree.specs.Problem.{Problem}
 use Rattle.mapf_optimum.specs.FreeTree.{FreeNode, IsFreeNode, IsCandidate, IsLowerBoundOf}
-use Rattle.mapf_optimum.specs.FreeSearch.{AreSideSets, IsSideOf, IsBounded, IsTaken, IsUnderWay, Expands}
-use Rattle.mapf_optimum.specs.TwoAgents.{IsUnderWayFrom}
+use Rattle.mapf_optimum.specs.FreeSearch.{AreSideSets, IsSideOf, IsBounded, IsTaken, IsUnderWay, IsUnderWayFrom, Expands, Bounds}
 use Rattle.mapf_optimum.specs.Laws.{ExpansionCovers, BoundingCovers, LeastIsOptimum, LeastLabelIsBelow, NothingWaits}
 use Rattle.mapf_optimum.proofs.SideSets.{side_sets}
 use Rattle.mapf_optimum.proofs.Sides.{has_a_side}
@@ -83,23 +82,36 @@ expansion_covers problem old new way e = record { free = free_then problem old n
 pub expansion_covers_from : (problem : Problem) (sets : List (List Constraint)) (old new : List FreeNode) → IsUnderWayFrom problem sets old → Expands problem old new → IsUnderWayFrom problem sets new
 expansion_covers_from problem sets old new way e = record { free = free_then problem old new way.free e; covers = λ plan candidate. still_there problem old new way.free e plan (way.covers plan candidate) }
 
--- a candidate of the taken node is one of the bounded node
-pub bounding_covers : BoundingCovers
-bounding_covers problem old new way e = record {
-  free = All-permutation (IsFreeNode problem) _ new e.put (All-append (IsFreeNode problem) (option_to_list e.found) e.rest (all_of_option (IsFreeNode problem) e.found (λ x same. let k = subst (IsBounded problem e.node) same e.bounded in k.0)) (all_left (IsFreeNode problem) old e.rest e.node e.taken way.free));
-  covers = covers;
-}
-  where
-    at_found : (found : Option FreeNode) → IsBounded problem e.node found → (plan : List (List ℕ)) → IsCandidate problem e.node.sets plan → (n : FreeNode) × Contains (option_to_list found) n × IsCandidate problem n.sets plan
-    at_found None none plan k = absurd (none plan k)
-    at_found (Some n) is plan k = (n, here [] refl, subst (λ l. IsCandidate problem l plan) (sym is.1) k)
+-- where a node is bounded, all that wait then are nodes, and a candidate of it is one of the bounded node
+module _ (problem : Problem) (old new : List FreeNode) (free : All (IsFreeNode problem) old) (e : Bounds problem old new) where
+  free_bounded : All (IsFreeNode problem) new
+  free_bounded =
+      All-permutation (IsFreeNode problem) _ new e.put
+      (All-append (IsFreeNode problem) (option_to_list e.found) e.rest (all_of_option (IsFreeNode problem) e.found (λ x same. let k = subst (IsBounded problem e.node) same e.bounded in k.0.0)) (all_left (IsFreeNode problem) old e.rest e.node e.taken free))
 
-    covers : (plan : List (List ℕ)) → IsValid problem.rule problem.inst plan → plan_cost plan ≤ problem.bound → (n : FreeNode) × Contains new n × IsCandidate problem n.sets plan
-    covers plan valid within =
-        let w = way.covers plan valid within in
-        ⊎_elim (λ same. let f = at_found e.found e.bounded plan (subst (λ n. IsCandidate problem n.sets plan) (sym same) w.2) in (f.0, Contains-permutation _ new f.0 e.put (Contains-append_left (option_to_list e.found) e.rest f.0 f.1), f.2))
-        (λ i. (w.0, Contains-permutation _ new w.0 e.put (Contains-append_right (option_to_list e.found) e.rest w.0 i), w.2))
-        (here_or_there e.rest (Contains-permutation old (e.node ∷ e.rest) w.0 e.taken.0 w.1))
+  at_found : (found : Option FreeNode) → IsBounded problem e.node found → (plan : List (List ℕ)) → IsCandidate problem e.node.sets plan → (n : FreeNode) × Contains (option_to_list found) n × IsCandidate problem n.sets plan
+  at_found None none plan k = absurd (none plan k)
+  at_found (Some n) is plan k = (n, here [] refl, subst (λ l. IsCandidate problem l plan) (sym is.0.1) k)
+
+  still_bounded : (plan : List (List ℕ)) → (n : FreeNode) × Contains old n × IsCandidate problem n.sets plan → (n : FreeNode) × Contains new n × IsCandidate problem n.sets plan
+  still_bounded plan w =
+      ⊎_elim (λ same. let f = at_found e.found e.bounded plan (subst (λ n. IsCandidate problem n.sets plan) (sym same) w.2) in (f.0, Contains-permutation _ new f.0 e.put (Contains-append_left (option_to_list e.found) e.rest f.0 f.1), f.2))
+      (λ i. (w.0, Contains-permutation _ new w.0 e.put (Contains-append_right (option_to_list e.found) e.rest w.0 i), w.2))
+      (here_or_there e.rest (Contains-permutation old (e.node ∷ e.rest) w.0 e.taken.0 w.1))
+
+pub bounding_covers : BoundingCovers
+bounding_covers problem old new way e = record { free = free_bounded problem old new way.free e; covers = λ plan valid within. still_bounded problem old new way.free e plan (way.covers plan valid within) }
+
+-- the same among the candidates under some sets
+pub bounding_covers_from : (problem : Problem) (sets : List (List Constraint)) (old new : List FreeNode) → IsUnderWayFrom problem sets old → Bounds problem old new → IsUnderWayFrom problem sets new
+bounding_covers_from problem sets old new way e = record { free = free_bounded problem old new way.free e; covers = λ plan candidate. still_bounded problem old new way.free e plan (way.covers plan candidate) }
+
+-- a search begins with a node
+pub begins_from : (problem : Problem) (node : FreeNode) (old new : List FreeNode) → IsFreeNode problem node → old ≡ [] → IsPermutation (node ∷ old) new → IsUnderWayFrom problem node.sets new
+begins_from problem node old new is empty put = record {
+  free = All-permutation (IsFreeNode problem) (node ∷ old) new put (subst (λ l. All (IsFreeNode problem) (node ∷ l)) (sym empty) (All-cons (IsFreeNode problem) node [] is (All-nil (IsFreeNode problem))));
+  covers = λ plan candidate. (node, Contains-permutation (node ∷ old) new node put (here old refl), candidate);
+}
 
 -- a node that waits is a node
 pub free_from : (problem : Problem) (sets : List (List Constraint)) (waiting rest : List FreeNode) (x : FreeNode) → IsUnderWayFrom problem sets waiting → IsTaken waiting (Some x) rest → IsFreeNode problem x
@@ -133,10 +145,10 @@ least_label_is_below problem waiting rest x way taken plan valid =
 
 -- the plan of a node of the least label costs no more than the label, and that no more than any valid plan
 pub least_is_optimum : LeastIsOptimum
-least_is_optimum problem waiting rest x way taken none = record {
-  valid = record { agents = is.paths.agents; paths = λ i h. (is.paths.each i h).allowed.path; no_conflict = none };
-  within = omega (arith, is.dear, is.within);
-  least = λ other valid. omega (arith, is.dear, least_label_is_below problem waiting rest x way taken other valid);
+least_is_optimum problem waiting rest x way taken bounded none = record {
+  valid = record { agents = is.paths.agents; paths = λ i h. (is.paths.each i h).path; no_conflict = none };
+  within = omega (arith, is.dear bounded, is.within);
+  least = λ other valid. omega (arith, is.dear bounded, least_label_is_below problem waiting rest x way taken other valid);
 }
   where
     is : IsFreeNode problem x

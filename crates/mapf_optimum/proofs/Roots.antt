@@ -1,7 +1,8 @@
 -- The root of a search: each agent's own path under no constraints.
-use Rattle.std.proofs.Common.{◌≡◌, ℕ, ◌<◌, ◌≤◌, List, [], ◌++◌, length, get_or, replicate, Option, Some, None, MatchOption, subst, sym, ap, ◌∙◌, refl, arith, IsPermutation}
+use Rattle.std.proofs.Common.{◌≡◌, ℕ, ◌<◌, ◌≤◌, List, [], ◌++◌, map, length, get_or, replicate, Option, Some, None, MatchOption, subst, sym, ap, ◌∙◌, refl, arith, IsPermutation}
 use Rattle.std.specs.Option.{option_to_list}
-use Rattle.std.specs.List.{AllByRecursion}
+use Rattle.std.specs.List.{sum_by}
+use Rattle.mapf_plan.specs.Path.{cost}
 use Rattle.std.proofs.lemmas.List.{get_or-replicate, length-replicate}
 use Rattle.std.proofs.lemmas.List.Elements.{All-nil, All-cons}
 use Rattle.std.proofs.lemmas.List.Sorted.{All-permutation, Contains-permutation}
@@ -16,16 +17,17 @@ use Rattle.mapf_tree.specs.Tree.{root_of}
 use Rattle.mapf_tree.specs.Laws.{ObeysNode}
 use Rattle.mapf_tree.specs.Family.{AreRootPaths, IsRoot}
 use Rattle.mapf_tree.proofs.Descent.{obeyed_is_in_cost}
-use Rattle.mapf_optimum.specs.FreeTree.{FreeNode, unnamed, IsFreeNode, IsChoice, IsCandidate, IsLeastPathOf, HaveLeastPaths, IsPairBound}
-use Rattle.mapf_optimum.specs.FreeSearch.{IsRootOf, IsUnderWay}
+use Rattle.mapf_optimum.specs.FreeTree.{FreeNode, unnamed, IsFreeNode, IsChoice, IsCandidate, IsLeastPathOf, AreLeastCosts, HaveLeastPaths}
+use Rattle.mapf_optimum.specs.FreeSearch.{IsFreshNode, IsRootOf, IsUnderWay}
 use Rattle.mapf_optimum.specs.Told.{IsBegun}
 use Rattle.mapf_optimum.proofs.LeastPaths.{own_is_least, least_paths_are_below}
+use Rattle.mapf_optimum.proofs.Fresh.{costs_of_least, fresh_is, least_allowed, sum_of_costs}
 
 -- the first conflict of a node's plan is one that it may branch on
 pub choice_of : (p : Problem) (node : FreeNode) (found : Option Conflict) → IsFreeNode p node → MatchOption found (HasNoConflict p.rule node.plan) (λ c. IsFirstConflict p.rule node.plan c) →
     MatchOption found (HasNoConflict p.rule node.plan) (IsChoice p node.plan)
 choice_of p node None is none = none
-choice_of p node (Some c) is first = (first.member, first_early p.rule node.plan p.bound (λ i h. (is.paths.each i (subst (λ k. i < k) is.paths.agents h)).allowed.within) c first)
+choice_of p node (Some c) is first = (first.member, first_early p.rule node.plan p.bound (λ i h. (is.paths.each i (subst (λ k. i < k) is.paths.agents h)).within) c first)
 
 module _ (p : Problem) where
   -- no constraint for any agent
@@ -59,18 +61,17 @@ module _ (p : Problem) where
   too_dear paths are dear plan valid within = absurd (omega (arith, dear, within, least_paths_are_below p free_sets paths (root_paths paths are) plan (is_candidate plan valid within)))
 
   -- or that are the root's plan
-  pub root_is : (paths : List (List ℕ)) (node : FreeNode) → AreRootPaths p paths → plan_cost paths ≤ p.bound → node.sets ≡ free_sets → node.plan ≡ paths → node.pairs ≡ [] → node.label ≡ plan_cost paths → IsRootOf p (Some node)
-  root_is paths node are within sets plan pairs label = (
-    record {
-      agents = ap length sets ∙ length-replicate (length p.inst.starts) [];
-      paths = subst (λ l. HaveLeastPaths p l node.plan) (sym sets) (subst (λ q. HaveLeastPaths p free_sets q) (sym plan) (root_paths paths are));
-      pairs = subst (λ ps. AllByRecursion (IsPairBound p node.sets) ps) (sym pairs) tt;
-      dear = omega (arith, label, ap plan_cost plan);
-      within = omega (arith, label, within);
-      below = λ other candidate. omega (arith, label, least_paths_are_below p free_sets paths (root_paths paths are) other (subst (λ l. IsCandidate p l other) sets candidate));
-    },
-    sets,
-  )
+  pub root_is : (paths : List (List ℕ)) (costs : List ℕ) (node : FreeNode) → AreRootPaths p paths → costs ≡ map cost paths → plan_cost paths ≤ p.bound → IsFreshNode free_sets costs paths node → IsRootOf p (Some node)
+  root_is paths costs node are same within fresh = (fresh_is p node free_sets costs paths fresh (omega (arith, length-replicate {A = List Constraint} (length p.inst.starts) [])) least (least_allowed p free_sets paths has) (omega (arith, sums, within)), fresh.same_sets)
+    where
+      has : HaveLeastPaths p free_sets paths
+      has = root_paths paths are
+
+      sums : sum_by (λ k. k) costs ≡ plan_cost paths
+      sums = ap (λ l. sum_by (λ k. k) l) same ∙ sum_of_costs paths
+
+      least : AreLeastCosts p free_sets costs
+      least = subst (AreLeastCosts p free_sets) (sym same) (costs_of_least p free_sets paths has)
 
 -- where a search begins, no valid plan is lost
 pub begins : (p : Problem) (waiting : List FreeNode) → IsBegun p waiting → IsUnderWay p waiting

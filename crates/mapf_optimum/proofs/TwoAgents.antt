@@ -1,136 +1,91 @@
 -- Two agents by themselves: what their candidates cost, their paths in a plan of all agents cost.
-use Rattle.std.proofs.Common.{◌≡◌, ℕ, zero, suc, ◌+◌, ◌<◌, ◌≤◌, All, IsPermutation, List, [], ◌∷◌, length, get_or, subst, subst₂, sym, ap, refl, arith, ⊎_elim}
-use Rattle.std.specs.List.{AllByRecursion}
-use Rattle.std.proofs.lemmas.Bool.{cases_lt}
-use Rattle.std.proofs.lemmas.List.Elements.{All-nil, All-cons}
-use Rattle.std.proofs.lemmas.List.Sorted.{All-permutation, Contains-permutation}
-use Rattle.mapf_grid.proofs.Members.{here}
-use Rattle.mapf_plan.specs.declared.conflict.Conflict.TheVariants.{Vertex, Swapping, Following}
-use Rattle.mapf_plan.specs.declared.rule.Rule.{Rule}
+use Rattle.std.proofs.Common.{◌≡◌, ◌≢◌, ℕ, zero, suc, ◌<◌, ◌≤◌, List, [], ◌∷◌, ◌++◌, length, get_or, refl, ap, subst, subst₂, sym, ◌∙◌, arith}
+use Rattle.std.specs.List.{sum_by}
 use Rattle.mapf_plan.specs.Path.{cost}
-use Rattle.mapf_plan.specs.Plan.{HasNoConflict, path_of, plan_cost}
+use Rattle.mapf_plan.specs.Plan.{path_of}
 use Rattle.mapf_low.specs.declared.constraint.Constraint.{Constraint}
 use Rattle.mapf_low.specs.Constraints.{Obeys}
 use Rattle.mapf_tree.specs.Problem.{Problem}
-use Rattle.mapf_optimum.specs.FreeTree.{FreeNode, IsFreeNode, IsCandidate, IsLeastPathOf, HaveLeastPaths, IsLowerBoundOf, IsPairBound}
-use Rattle.mapf_optimum.specs.TwoAgents.{MayTakeBoth, CostTogether, agent_in, two_of, IsFreshNode, IsUnderWayFrom}
-use Rattle.mapf_optimum.specs.Dependence.{AreDependent}
-use Rattle.mapf_optimum.proofs.Collisions.{never_collide}
-use Rattle.mapf_optimum.proofs.LeastPaths.{takes_allowed, least_paths_are_below}
+use Rattle.mapf_tree.specs.Tree.{IsAllowedFor}
+use Rattle.mapf_optimum.specs.declared.two_agents.AgentPair.{AgentPair}
+use Rattle.mapf_optimum.specs.FreeTree.{FreeNode, IsFreeNode, IsCandidate, IsLeastCostOf, AreLeastCosts, HaveAllowedPaths, IsLowerBoundOf, IsPairBound, IsGroup, paths_in}
+use Rattle.mapf_optimum.specs.FreeSearch.{IsFreshNode}
+use Rattle.mapf_optimum.specs.Groups.{part_of}
+use Rattle.mapf_optimum.specs.TwoAgents.{HaveLeast, DoCost}
+use Rattle.mapf_optimum.proofs.Fresh.{fresh_is}
+use Rattle.mapf_optimum.proofs.GroupLaws.{groups_restrict}
+use Rattle.mapf_optimum.proofs.LeastPaths.{costs_below}
 
 -- what holds of 0 and of 1 holds of each number below 2
-below_two : (P : ℕ → Type 0) → P 0 → P 1 → (i : ℕ) → i < 2 → P i
+pub below_two : (P : ℕ → Type 0) → P 0 → P 1 → (i : ℕ) → i < 2 → P i
 below_two P zeroth first zero h = zeroth
 below_two P zeroth first (suc zero) h = first
 below_two P zeroth first (suc (suc i)) h = absurd (omega (arith, h))
 
-module _ (problem : Problem) (i j bound : ℕ) (first second : List Constraint) where
+-- two elements that were put into an empty list
+pub two_pushed : {X : Type 0} (start some all : List X) (x y : X) → start ≡ [] → some ≡ start ++ x ∷ [] → all ≡ some ++ y ∷ [] → all ≡ x ∷ y ∷ []
+two_pushed start some all x y empty first second = second ∙ ap (λ l. l ++ y ∷ []) (first ∙ ap (λ l. l ++ x ∷ []) empty)
+
+-- two agents, each once
+once_of_two : (i j : ℕ) → i < j → (a b : ℕ) → a < b → b < 2 → get_or (i ∷ j ∷ []) a 0 ≢ get_or (i ∷ j ∷ []) b 0
+once_of_two i j l zero zero k h = λ e. omega (arith, k)
+once_of_two i j l zero (suc zero) k h = λ e. omega (arith, e, l)
+once_of_two i j l zero (suc (suc b)) k h = λ e. omega (arith, h)
+once_of_two i j l (suc a) b k h = λ e. omega (arith, k, h)
+
+-- are a group
+pub group_of_two : (n i j : ℕ) → i < j → j < n → IsGroup n (i ∷ j ∷ [])
+group_of_two n i j l h = record { inside = below_two (λ k. get_or (i ∷ j ∷ []) k 0 < n) (omega (arith, l, h)) h; once = once_of_two i j l }
+
+module _ (problem : Problem) (pair : AgentPair) (p q : List ℕ) (have : HaveLeast problem pair p q) where
+  -- their own problem, and their sets
   abbrev two : Problem
-  two = two_of problem i j bound
+  two = part_of problem (pair.first ∷ pair.second ∷ [])
 
   abbrev both : List (List Constraint)
-  both = first ∷ second ∷ []
+  both = pair.first_set ∷ pair.second_set ∷ []
 
-  -- paths that both may take are a candidate, if they cost no more than the bound
-  is_candidate : (p q : List ℕ) → MayTakeBoth problem i j first second p q → cost p + cost q ≤ bound → IsCandidate two both (p ∷ q ∷ [])
-  is_candidate p q may within = record {
-    valid = record {
-      agents = refl;
-      paths = below_two _ may.first_allowed.path may.second_allowed.path;
-      no_conflict = may.no_conflict;
-    };
-    within = omega (arith, within);
-    obeys = below_two (λ k. Obeys (get_or both k []) (path_of (p ∷ q ∷ []) k)) may.first_allowed.obeys may.second_allowed.obeys;
+  -- what their least paths cost
+  pub costs_of_two : AreLeastCosts two both (cost p ∷ cost q ∷ [])
+  costs_of_two = record {
+    agents = refl;
+    each = below_two (λ k. IsLeastCostOf two k (get_or both k []) (get_or (cost p ∷ cost q ∷ []) k 0))
+        (p, record { allowed = have.first_least.allowed; least = have.first_least.least }, refl)
+        (q, record { allowed = have.second_least.allowed; least = have.second_least.least }, refl);
   }
 
-  -- so a lower bound of these that is no more than one above the bound holds of all
-  pub cost_together : (least : ℕ) → IsLowerBoundOf two both least → least ≤ bound + 1 → CostTogether problem i j first second least
-  cost_together least below few p q may =
-      ⊎_elim (λ over. omega (arith, over, few)) (λ within. let l = below (p ∷ q ∷ []) (is_candidate p q may within) in omega (arith, l)) (cases_lt bound (cost p + cost q))
+  -- they may take these
+  pub paths_of_two : HaveAllowedPaths two both (p ∷ q ∷ [])
+  paths_of_two = record {
+    agents = refl;
+    each = below_two (λ k. IsAllowedFor two k (get_or both k []) (path_of (p ∷ q ∷ []) k)) have.first_least.allowed have.second_least.allowed;
+  }
 
-  module _ (p q : List ℕ) (small : bound ≤ problem.bound) (is_first : IsLeastPathOf problem i first p) (is_second : IsLeastPathOf problem j second q) (within : cost p + cost q ≤ bound) where
-    -- least paths of both are least paths of the two
-    have_least : HaveLeastPaths two both (p ∷ q ∷ [])
-    have_least = record {
-      agents = refl;
-      each = below_two (λ k. IsLeastPathOf two k (get_or both k []) (path_of (p ∷ q ∷ []) k))
-          (record {
-            allowed = record { path = is_first.allowed.path; within = omega (arith, within); obeys = is_first.allowed.obeys };
-            least = λ other may. is_first.least other (record { path = may.path; within = omega (arith, may.within, small); obeys = may.obeys });
-          })
-          (record {
-            allowed = record { path = is_second.allowed.path; within = omega (arith, within); obeys = is_second.allowed.obeys };
-            least = λ other may. is_second.least other (record { path = may.path; within = omega (arith, may.within, small); obeys = may.obeys });
-          });
-    }
+  -- so they cost no less
+  pub sum_of_two : (costs : List ℕ) → costs ≡ cost p ∷ cost q ∷ [] → DoCost problem pair (sum_by (λ c. c) costs)
+  sum_of_two costs same = subst (λ l. IsLowerBoundOf two both (sum_by (λ c. c) l)) (sym same) (costs_below two both (cost p ∷ cost q ∷ []) costs_of_two)
 
-    -- and a node of them
-    root_is : (root : FreeNode) → IsFreshNode both (p ∷ q ∷ []) root → IsFreeNode two root
-    root_is root fresh = record {
-      agents = ap length fresh.same_sets;
-      paths = paths;
-      pairs = subst (λ ps. AllByRecursion (IsPairBound two root.sets) ps) (sym fresh.no_pairs) tt;
-      dear = omega (arith, fresh.by_cost, ap plan_cost fresh.same_plan);
-      within = omega (arith, fresh.by_cost, within);
-      below = λ other candidate. omega (arith, fresh.by_cost, ap plan_cost fresh.same_plan, least_paths_are_below two root.sets root.plan paths other candidate);
-    }
-      where
-        paths : HaveLeastPaths two root.sets root.plan
-        paths = subst₂ (λ l plan. HaveLeastPaths two l plan) (sym fresh.same_sets) (sym fresh.same_plan) have_least
+  -- a node of the two
+  pub node_of_two : (node : FreeNode) (sets : List (List Constraint)) (costs : List ℕ) (plan : List (List ℕ)) → sets ≡ both → costs ≡ cost p ∷ cost q ∷ [] → plan ≡ p ∷ q ∷ [] → IsFreshNode sets costs plan node →
+      sum_by (λ c. c) costs ≤ problem.bound → IsFreeNode two node
+  node_of_two node sets costs plan same_sets same_costs same_plan fresh within =
+      fresh_is two node sets costs plan fresh (ap length same_sets) (subst₂ (λ l k. AreLeastCosts two l k) (sym same_sets) (sym same_costs) costs_of_two)
+      (subst₂ (λ l k. HaveAllowedPaths two l k) (sym same_sets) (sym same_plan) paths_of_two) within
 
-    -- so a search of the two begins
-    pub two_begin : (root : FreeNode) (old new : List FreeNode) → IsFreshNode both (p ∷ q ∷ []) root → old ≡ [] → IsPermutation (root ∷ old) new → IsUnderWayFrom two both new
-    two_begin root old new fresh empty put = record {
-      free = All-permutation (IsFreeNode two) (root ∷ old) new put (subst (λ l. All (IsFreeNode two) (root ∷ l)) (sym empty) (All-cons (IsFreeNode two) root [] (root_is root fresh) (All-nil (IsFreeNode two))));
-      covers = λ plan candidate. (root, Contains-permutation (root ∷ old) new root put (here old refl), subst (λ l. IsCandidate two l plan) (sym fresh.same_sets) candidate);
-    }
-
--- two paths of a plan without conflict have none
-pub none_of_two : (rule : Rule) (plan : List (List ℕ)) (i j : ℕ) → HasNoConflict rule plan → i < j → j < length plan → HasNoConflict rule (path_of plan i ∷ path_of plan j ∷ [])
-none_of_two rule plan i j none l m (Vertex t zero (suc zero) v) h = none (Vertex t i j v) (l, m, h.2, h.3)
-none_of_two rule plan i j none l m (Vertex t zero zero v) h = omega (arith, h.0)
-none_of_two rule plan i j none l m (Vertex t zero (suc (suc b)) v) h = omega (arith, h.1)
-none_of_two rule plan i j none l m (Vertex t (suc a) b v) h = omega (arith, h.0, h.1)
-none_of_two rule plan i j none l m (Swapping t zero (suc zero) u v) h = none (Swapping t i j u v) (l, m, h.2, h.3, h.4, h.5, h.6, h.7)
-none_of_two rule plan i j none l m (Swapping t zero zero u v) h = omega (arith, h.0)
-none_of_two rule plan i j none l m (Swapping t zero (suc (suc b)) u v) h = omega (arith, h.1)
-none_of_two rule plan i j none l m (Swapping t (suc a) b u v) h = omega (arith, h.0, h.1)
-none_of_two rule plan i j none l m (Following t zero (suc zero) v) h = none (Following t i j v) (h.0, (λ e. omega (arith, e, l)), omega (arith, l, m), m, h.4, h.5, h.6)
-none_of_two rule plan i j none l m (Following t (suc zero) zero v) h = none (Following t j i v) (h.0, (λ e. omega (arith, e, l)), m, omega (arith, l, m), h.4, h.5, h.6)
-none_of_two rule plan i j none l m (Following t zero zero v) h = h.1 refl
-none_of_two rule plan i j none l m (Following t (suc zero) (suc zero) v) h = h.1 refl
-none_of_two rule plan i j none l m (Following t zero (suc (suc b)) v) h = omega (arith, h.3)
-none_of_two rule plan i j none l m (Following t (suc zero) (suc (suc b)) v) h = omega (arith, h.3)
-none_of_two rule plan i j none l m (Following t (suc (suc a)) b v) h = omega (arith, h.2)
-
--- agents that collide on whichever paths of their least costs cost one more together
-pub one_more : (problem : Problem) (i j : ℕ) (first second : List Constraint) (p q : List ℕ) → IsLeastPathOf problem i first p → IsLeastPathOf problem j second q →
-    AreDependent problem.rule (agent_in problem i first p) (agent_in problem j second q) → CostTogether problem i j first second (cost p + cost q + 1)
-one_more problem i j first second p q is_first is_second dependent other another may = ⊎_elim (λ h. absurd (as_cheap h)) (λ h. omega (arith, h)) (cases_lt (cost other + cost another) (cost p + cost q + 1))
+-- what two agents cost together is a bound of the pair, where whoever obeys the node's sets obeys theirs
+pub together_bounds : (problem : Problem) (sets : List (List Constraint)) (pair : AgentPair) (least : ℕ) → pair.first < pair.second → pair.second < length problem.inst.starts →
+    ((path : List ℕ) → Obeys (get_or sets pair.first []) path → Obeys pair.first_set path) → ((path : List ℕ) → Obeys (get_or sets pair.second []) path → Obeys pair.second_set path) →
+    DoCost problem pair least → IsPairBound problem sets (record { first = pair.first; second = pair.second; least = least })
+together_bounds problem sets pair least l m one other below = record { two = l; inside = m; least = λ plan candidate. omega (arith, below (paths_in plan agents) (of_two plan candidate)) }
   where
-    one : cost p ≤ cost other
-    one = is_first.least other may.first_allowed
+    agents : List ℕ
+    agents = pair.first ∷ pair.second ∷ []
 
-    two : cost q ≤ cost another
-    two = is_second.least another may.second_allowed
-
-    as_cheap : cost other + cost another < cost p + cost q + 1 → ⊥
-    as_cheap h =
-        dependent other another (record { path = may.first_allowed.path; costs = omega (arith, h, one, two); obeys = may.first_allowed.obeys })
-        (record { path = may.second_allowed.path; costs = omega (arith, h, one, two); obeys = may.second_allowed.obeys })
-        (never_collide problem.rule (other ∷ another ∷ []) 0 1 may.no_conflict (omega arith) (omega arith))
-
--- what two agents cost together is a bound of the pair
-pub together_bounds : (problem : Problem) (sets : List (List Constraint)) (i j least : ℕ) → i < j → j < length problem.inst.starts → CostTogether problem i j (get_or sets i []) (get_or sets j []) least →
-    IsPairBound problem sets (record { first = i; second = j; least = least })
-together_bounds problem sets i j least l m cost_least = record {
-  two = l;
-  inside = m;
-  least = λ other candidate.
-      cost_least (path_of other i) (path_of other j)
-      (record {
-        first_allowed = takes_allowed problem sets other candidate i (omega (arith, l, m));
-        second_allowed = takes_allowed problem sets other candidate j m;
-        no_conflict = none_of_two problem.rule other i j candidate.valid.no_conflict l (omega (arith, m, candidate.valid.agents));
-      });
-}
+    of_two : (plan : List (List ℕ)) → IsCandidate problem sets plan → IsCandidate (part_of problem agents) (pair.first_set ∷ pair.second_set ∷ []) (paths_in plan agents)
+    of_two plan candidate =
+        let is = groups_restrict problem sets agents plan (group_of_two (length problem.inst.starts) pair.first pair.second l m) candidate in record {
+          valid = is.valid;
+          within = is.within;
+          obeys = below_two (λ k. Obeys (get_or (pair.first_set ∷ pair.second_set ∷ []) k []) (path_of (paths_in plan agents) k)) (one (path_of plan pair.first) (is.obeys 0 (omega arith)))
+              (other (path_of plan pair.second) (is.obeys 1 (omega arith)));
+        }

@@ -116,8 +116,8 @@ module _ (problem : Problem) where
         let k : Constraint = constraint_on c s in
         let us : List Constraint = universe (cells_of problem.inst.grid) (edges_of problem.inst.grid) problem.bound in
         let fewer = missing_lt us (get_or node.sets (agent_on c s) []) are.0 k (λ x h. (are.2 x).1 (inr h))
-        (Contains-universe problem.inst.grid (cells_of problem.inst.grid) (edges_of problem.inst.grid) problem.bound (holds_all problem.inst.grid) k (conflict_fits problem node.plan c s is.paths.agents (λ i h. (is.paths.each i h).allowed.path) choice.0 choice.1))
-        (broken_is_new problem (unnamed node.sets) node.plan c s choice.0 (is.paths.each (agent_on c s) (agent_inside problem node c s is choice)).allowed.obeys) ((are.2 k).1 (inl refl)) in
+        (Contains-universe problem.inst.grid (cells_of problem.inst.grid) (edges_of problem.inst.grid) problem.bound (holds_all problem.inst.grid) k (conflict_fits problem node.plan c s is.paths.agents (λ i h. (is.paths.each i h).path) choice.0 choice.1))
+        (broken_is_new problem (unnamed node.sets) node.plan c s choice.0 (is.paths.each (agent_on c s) (agent_inside problem node c s is choice)).obeys) ((are.2 k).1 (inl refl)) in
         omega (arith, ap (sum_by (λ cs. missing us cs)) are.1, sum_by-set (λ cs. missing us cs) node.sets (agent_on c s) are.0 [] (in_sets problem node c s is choice), fewer)
 
     -- so two of them come to less
@@ -162,7 +162,7 @@ module _ (problem : Problem) where
       there : (found : Option FreeNode) → IsBounded problem e.node found → sum_by (λ n. with_label n.is_bounded (weight (lacking n.sets))) (option_to_list found) ≤ weight (lacking e.node.sets)
       there None none = omega arith
       there (Some n) is =
-          omega (arith, sum_by-cons (λ n. with_label n.is_bounded (weight (lacking n.sets))) n [], ap (λ l. weight (lacking l)) is.1, ap (λ b. with_label b (weight (lacking n.sets))) is.2)
+          omega (arith, sum_by-cons (λ n. with_label n.is_bounded (weight (lacking n.sets))) n [], ap (λ l. weight (lacking l)) is.0.1, ap (λ b. with_label b (weight (lacking n.sets))) is.1)
 
 -- as the law says it
 pub search_ends : SearchEnds

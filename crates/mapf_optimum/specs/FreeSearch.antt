@@ -1,5 +1,5 @@
 -- The steps of a search that may branch on any conflict: best first by label.
-use Rattle.std.specs.Prelude.{◌≡◌, ◌⊎◌, ◌↔◌, ℕ, ◌<◌, ◌≤◌, true, false, List, [], ◌∷◌, ◌++◌, length, replicate, All, Option, Some, None, MatchOption, Contains, IsPermutation, slice_index, slice_index_or, slice_set}
+use Rattle.std.specs.Prelude.{◌≡◌, ◌⊎◌, ◌↔◌, ℕ, ◌+◌, ◌<◌, ◌≤◌, true, false, List, [], ◌∷◌, ◌++◌, length, replicate, All, Option, Some, None, MatchOption, Contains, IsPermutation, slice_index, slice_index_or, slice_set, sum_by}
 use Rattle.std.specs.Option.{option_to_list}
 use Rattle.std.specs.declared.cmp.Ordering.{Ordering}
 use Rattle.std.specs.Ordering.{nat_cmp, on, then_cmp, flip_args}
@@ -13,7 +13,7 @@ use Rattle.mapf_tree.specs.declared.tree.side.Side.{Side}
 use Rattle.mapf_tree.specs.declared.tree.side.Side.TheVariants.{Left, Right}
 use Rattle.mapf_tree.specs.Problem.{Problem}
 use Rattle.mapf_tree.specs.Tree.{agent_on, constraint_on, IsAllowedFor}
-use Rattle.mapf_optimum.specs.FreeTree.{FreeNode, IsFreeNode, IsCandidate, IsChoice, IsLeastPathOf, HaveLeastPaths, CoversAll}
+use Rattle.mapf_optimum.specs.FreeTree.{FreeNode, IsFreeNode, IsCandidate, IsChoice, IsLeastPathOf, CoversAll}
 
 -- the sets of a side: those of the node, where the side's agent has one constraint more
 abbrev pub AreSideSets : List (List Constraint) → Conflict → Side → List (List Constraint) → Type 0
@@ -31,10 +31,27 @@ abbrev pub IsSideOf : Problem → FreeNode → Conflict → Side → Option Free
 IsSideOf problem node c side (Some child) = IsFreeNode problem child × AreSideSets node.sets c side child.sets
 IsSideOf problem node c side None = (sets : List (List Constraint)) → AreSideSets node.sets c side sets → (plan : List (List ℕ)) → ¬ IsCandidate problem sets plan
 
--- the same sets, and a label that was found from the pairs; or none, where they have no candidate
+-- a node of the same sets
+abbrev pub IsSame : Problem → FreeNode → FreeNode → Type 0
+IsSame problem old new = IsFreeNode problem new × (new.sets ≡ old.sets)
+
+-- the same sets, and a label that was found from the groups; or none, where they have no candidate
 abbrev pub IsBounded : Problem → FreeNode → Option FreeNode → Type 0
-IsBounded problem old (Some new) = IsFreeNode problem new × (new.sets ≡ old.sets) × (new.is_bounded ≡ true)
+IsBounded problem old (Some new) = IsSame problem old new × (new.is_bounded ≡ true)
 IsBounded problem old None = (plan : List (List ℕ)) → ¬ IsCandidate problem old.sets plan
+
+-- a node of which nothing but its sets, its plan, and what least paths cost is known
+pub record IsFreshNode (sets : List (List Constraint)) (costs : List ℕ) (plan : List (List ℕ)) (node : FreeNode) : Type 0 where
+  pub same_sets : node.sets ≡ sets
+  pub same_costs : node.costs ≡ costs
+  pub same_plan : node.plan ≡ plan
+  pub no_groups : node.groups ≡ []
+  pub by_cost : node.label ≡ sum_by (λ c. c) costs
+  pub unbounded : node.is_bounded ≡ false
+
+-- the other agents' least paths leave so much of the bound
+abbrev pub IsLeftFor : Problem → List ℕ → ℕ → ℕ → Type 0
+IsLeftFor problem costs agent left = left + sum_by (λ c. c) costs ≡ problem.bound + slice_index_or costs agent 0
 
 -- a node without constraints; or none, where there is no valid plan within the bound
 abbrev pub IsRootOf : Problem → Option FreeNode → Type 0
@@ -71,7 +88,7 @@ pub record Expands (problem : Problem) (old new : List FreeNode) : Type 0 where
   pub choice : IsChoice problem node.plan conflict
   pub sides : PutsSides problem node conflict rest new
 
--- a node of the least label whose label wasn't found from its pairs is taken out, and waits again once it was
+-- a node of the least label whose label wasn't found from its groups is taken out, and waits again once it was
 pub record Bounds (problem : Problem) (old new : List FreeNode) : Type 0 where
   pub node : FreeNode
   pub rest : List FreeNode
@@ -80,6 +97,11 @@ pub record Bounds (problem : Problem) (old new : List FreeNode) : Type 0 where
   pub found : Option FreeNode
   pub bounded : IsBounded problem node found
   pub put : IsPermutation (option_to_list found ++ rest) new
+
+-- what holds between two steps of a search among the candidates under some sets: all that wait are nodes, and no candidate is lost
+pub record IsUnderWayFrom (problem : Problem) (sets : List (List Constraint)) (waiting : List FreeNode) : Type 0 where
+  pub free : All (IsFreeNode problem) waiting
+  pub covers : (plan : List (List ℕ)) → IsCandidate problem sets plan → (n : FreeNode) × Contains waiting n × IsCandidate problem n.sets plan
 
 -- what holds between two steps: all that wait are nodes, and no valid plan within the bound is lost
 pub record IsUnderWay (problem : Problem) (waiting : List FreeNode) : Type 0 where
@@ -90,7 +112,3 @@ pub record IsUnderWay (problem : Problem) (waiting : List FreeNode) : Type 0 whe
 pub record HasStartTables (inst : Instance) (tables : List (List (Option ℕ))) : Type 0 where
   pub each : length tables ≡ length inst.starts
   pub shortest : (i : ℕ) → i < length inst.starts → AreDistances inst.grid (slice_index inst.starts i) (slice_index_or tables i [])
-
--- agents took other least paths, which cost together the same
-abbrev pub AreSettled : Problem → List (List Constraint) → (old new : List (List ℕ)) → Type 0
-AreSettled problem sets old new = HaveLeastPaths problem sets new × (plan_cost new ≡ plan_cost old)

@@ -1,5 +1,5 @@
 -- What holds of every search that may branch on any conflict: nothing is lost, and what is found is an optimum.
-use Rattle.std.specs.Prelude.{◌⊎◌, ℕ, ◌+◌, ◌<◌, ◌≤◌, List, [], length, All, Some, sum_by}
+use Rattle.std.specs.Prelude.{◌≡◌, ◌⊎◌, ℕ, ◌+◌, ◌<◌, ◌≤◌, true, List, [], length, All, Some, sum_by}
 use Rattle.std.specs.List.{AllByRecursion}
 use Rattle.mapf_plan.specs.declared.conflict.Conflict.{Conflict}
 use Rattle.mapf_plan.specs.Plan.{HasNoConflict, IsOptimum, IsValid, plan_cost}
@@ -34,10 +34,10 @@ ExpansionCovers = (problem : Problem) (old new : List FreeNode) → IsUnderWay p
 abbrev pub BoundingCovers : Type 0
 BoundingCovers = (problem : Problem) (old new : List FreeNode) → IsUnderWay problem old → Bounds problem old new → IsUnderWay problem new
 
--- a plan without conflict of a node of the least label is an optimum
+-- a plan without conflict of a bounded node of the least label is an optimum
 abbrev pub LeastIsOptimum : Type 0
 LeastIsOptimum =
-    (problem : Problem) (waiting rest : List FreeNode) (x : FreeNode) → IsUnderWay problem waiting → IsTaken waiting (Some x) rest →
+    (problem : Problem) (waiting rest : List FreeNode) (x : FreeNode) → IsUnderWay problem waiting → IsTaken waiting (Some x) rest → x.is_bounded ≡ true →
     HasNoConflict problem.rule x.plan → IsOptimum problem.rule problem.inst problem.bound x.plan
 
 -- no valid plan costs less than the least label

@@ -7,4 +7,4 @@ pub mod Dependence
 pub mod Steps
 pub mod TwoAgents
 pub mod Told
-pub mod KnownPairs
+pub mod Groups

@@ -7,29 +7,27 @@ ghost use Rattle.mapf_plan.specs.Path.{at, cost, IsPath};
 ghost use Rattle.mapf_plan.specs.Plan.{place, IsConflict};
 ghost use Rattle.mapf_tree.specs.Tree.{IsAllowedFor};
 ghost use Rattle.mapf_optimum.specs.FreeTree.{IsChoice};
+ghost use Rattle.mapf_optimum.specs.Groups.{alone};
 
+use crate::part::Part;
 use mapf_grid::{Cell, Map};
 use mapf_low::{Constraint, Constraints};
 use mapf_plan::{Conflict, Path, Plan, Rule};
-use mapf_tree::Problem;
 
-/// Whether the agent may take this path under these constraints.
+/// Whether one of the part's agents may take this path under these constraints.
 pub(crate) fn is_allowed(
-    problem: &Problem,
+    part: &Part<'_, '_>,
     agent: usize,
     constraints: &Constraints,
     path: &Path,
 ) -> bool
-    requires { agent < length problem.now.inst.starts }
-    ensures { IsTrue result → IsAllowedFor problem.now agent constraints.now path.now }
+    requires { agent < length part.now.agents }
+    ensures { IsTrue result → IsAllowedFor (alone part.now) agent constraints.now path.now }
 {
-    let instance = problem.instance();
-    let (start, goal) = (instance.start(agent), instance.goal(agent));
-    let cost = path.cost();
-    if cost > problem.bound() {
+    if path.cost() > part.bound() {
         return false;
     }
-    leads(instance.map(), path, start, goal) && obeys(constraints, path)
+    leads(part.map(), path, part.start(agent), part.goal(agent)) && obeys(constraints, path)
 }
 
 /// Whether the path leads from start to goal by steps of the map, and doesn't wait on the goal at its end.
@@ -101,10 +99,10 @@ fn breaks(path: &Path, constraint: &Constraint) -> bool
 }
 
 /// Whether the plan has this conflict by the problem's rule, and up to its bound.
-pub(crate) fn is_choice(problem: &Problem, plan: &Plan, conflict: &Conflict) -> bool
-    ensures { IsTrue result → IsChoice problem.now plan.now conflict.now }
+pub(crate) fn is_choice(part: &Part<'_, '_>, plan: &Plan, conflict: &Conflict) -> bool
+    ensures { IsTrue result → IsChoice (alone part.now) plan.now conflict.now }
 {
-    conflict.time() <= problem.bound() && has_conflict(problem.rule(), plan, conflict)
+    conflict.time() <= part.bound() && has_conflict(part.rule(), plan, conflict)
 }
 
 /// Whether the plan has this conflict by the rule.

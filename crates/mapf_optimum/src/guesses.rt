@@ -4,13 +4,19 @@
 mod branching;
 mod conflicts;
 mod few_conflicts;
+mod grouping;
+mod guide;
 mod known_costs;
 mod marks;
 mod occupancy;
 mod visit;
 
 pub(crate) use branching::branching_conflict;
-pub(crate) use conflicts::{colliding_pairs, conflicts_without, partners};
+pub(crate) use conflicts::{
+    add_conflicts, colliding_pairs, conflicts_again, conflicts_without, hide, partners, show,
+};
 pub(crate) use few_conflicts::few_conflicts;
+pub(crate) use grouping::{hints_in, next_group};
+pub use guide::Guide;
 pub(crate) use known_costs::KnownCosts;
 pub(crate) use occupancy::Occupancy;

@@ -1,6 +1,7 @@
 //! What holds of every search that may branch on any conflict: functions that do nothing, each with one law as its contract.
 
 ghost use Rattle.mapf_optimum.specs.Laws.{HasASide, PairsRaise, ExpansionCovers, BoundingCovers, LeastIsOptimum, LeastLabelIsBelow, NothingWaits, SearchEnds};
+ghost use Rattle.mapf_optimum.specs.Groups.{GroupsRestrict, GroupsAdd};
 
 /// A candidate at a node is one on one of the two sides of any conflict of its plan.
 pub fn has_a_side()
@@ -40,4 +41,14 @@ pub fn nothing_waits()
 /// Some number falls with each step, so a search ends.
 pub fn search_ends()
     ensures { SearchEnds }
+{}
+
+/// A candidate has a candidate of each group of agents.
+pub fn groups_restrict()
+    ensures { GroupsRestrict }
+{}
+
+/// What groups without a common agent cost at least comes to a lower bound.
+pub fn groups_add()
+    ensures { GroupsAdd }
 {}

@@ -6,7 +6,6 @@ ghost use Rattle.mapf_plan.specs.declared.answer.TheConstants.{MOST_BOUND};
 ghost use Rattle.mapf_tree.specs.Tree.{IsAllowedFor};
 ghost use Rattle.mapf_optimum.specs.FreeSearch.{IsLeastWithin, HasStartTables};
 
-use crate::least_paths::LeastPaths;
 use mapf_grid::{Instance, NoMemory};
 use mapf_low::{Backwards, Constraints, Distances, Lookup, cheapest_backwards};
 use mapf_plan::{Path, Rule};
@@ -76,27 +75,38 @@ impl<'p> LowLevel<'p> {
         let found = self.least_path(alloc, agent, constraints, self.problem.bound(), 0)?;
         Ok(found.map(|path| path.cost()))
     }
-}
 
-impl<'p> LeastPaths for LowLevel<'p> {
-    ghost problem = { λ p. p };
-
-    fn rule(&self) -> Rule {
+    /// By which rule plans have conflicts.
+    pub(crate) fn rule(&self) -> Rule
+        ensures { result ≡ self.now.rule }
+    {
         self.problem.rule()
     }
 
-    fn bound(&self) -> u32 {
+    /// What a plan of them may cost at most.
+    pub(crate) fn bound(&self) -> u32
+        ensures bound { result ≡ self.now.bound }
+        ensures small { result ≤ MOST_BOUND }
+    {
         self.problem.bound()
     }
 
-    fn least_path(
+    /// A least path of the agent under these constraints, at a cost within the bound, where none that it may take costs less than
+    /// `least`.
+    pub(crate) fn least_path(
         &self,
         alloc: Global,
         agent: usize,
         constraints: &Constraints,
         bound: u32,
         least: u32,
-    ) -> Result<Option<Path>, NoMemory> {
+    ) -> Result<Option<Path>, NoMemory>
+        requires agent { agent < length self.now.inst.starts }
+        requires small { bound ≤ MOST_BOUND }
+        requires least { (path : List ℕ)
+            → IsAllowedFor (record (self.now) { bound = bound }) agent constraints.now path → least ≤ cost path }
+        ensures { IfOk result (IsLeastWithin self.now bound agent constraints.now) }
+    {
         let instance = self.problem.instance();
         let by = Backwards {
             from_start: &self.from_starts[agent],

@@ -1,29 +1,22 @@
 //! The nodes of a search that may branch on any conflict.
 
-ghost use Rattle.std.specs.Prelude.{◌≡◌, ◌+◌, ◌<◌, ◌≤◌, length, max, Contains, IfOk, MatchOption, slice_set};
-ghost use Rattle.std.specs.List.{AllByRecursion};
+ghost use Rattle.std.specs.Prelude.{◌≡◌, ◌<◌, ◌≤◌, false, length, max, sum_by, IfOk, MatchOption, slice_set};
+ghost use Rattle.mapf_grid.specs.declared.instance.TheConstants.{MOST_AGENTS};
 ghost use Rattle.mapf_plan.specs.Path.{cost};
-ghost use Rattle.mapf_plan.specs.Plan.{path_of, plan_cost, HasNoConflict};
+ghost use Rattle.mapf_plan.specs.Plan.{HasNoConflict};
 ghost use Rattle.mapf_plan.specs.declared.answer.TheConstants.{MOST_BOUND};
-ghost use Rattle.mapf_tree.specs.Family.{Leaves, AreRootPaths};
-ghost use Rattle.mapf_optimum.specs.FreeTree.{IsFreeNode, IsChoice};
-ghost use Rattle.mapf_optimum.specs.FreeSearch.{IsRootOf, IsSideOf, IsBounded};
-ghost use Rattle.mapf_optimum.specs.KnownPairs.{AreKnown};
-ghost use Rattle.mapf_optimum.specs.TwoAgents.{IsFreshNode};
+ghost use Rattle.mapf_tree.specs.Family.{AreRootPaths};
+ghost use Rattle.mapf_optimum.specs.FreeTree.{IsChoice, IsFreeNode, IsLowerBoundOf};
+ghost use Rattle.mapf_optimum.specs.FreeSearch.{IsFreshNode, IsLeftFor, IsRootOf, IsSame, IsSideOf};
+ghost use Rattle.mapf_optimum.specs.Groups.{AreOf, alone};
 
+mod grouped;
 mod order;
 
-use crate::PairBound;
-use crate::agents::{copy_paths, copy_sets, empty_sets};
-use crate::guesses::{
-    KnownCosts, Occupancy, branching_conflict, colliding_pairs, conflicts_without,
-};
-use crate::least_paths::LeastPaths;
-use crate::low_level::LowLevel;
-use crate::pair_bounds::{pair_bounds, pairs_without};
-use crate::pair_costs::PairCosts;
-use crate::pairs::disjoint_surplus;
-use crate::settling::settled;
+use crate::agents::{copy_paths, copy_sets, costs_of, costs_with, empty_sets, sum_of};
+use crate::group_bound::{GroupBound, least_of_groups, solved_with, unsolved_with};
+use crate::guesses::{KnownCosts, branching_conflict, conflicts_without};
+use crate::part::Part;
 use mapf_grid::NoMemory;
 use mapf_low::Constraints;
 use mapf_plan::{Conflict, Path, Plan};
@@ -31,22 +24,26 @@ use mapf_tree::{Problem, Side, agent_of, constraint_of, left_of_bound};
 use std::alloc::Global;
 use std::marker::Model;
 
-/// Each agent's set of constraints, a plan of least paths under them, and a label: what each valid plan that obeys the sets costs
-/// at least.
+/// Each agent's set of constraints, a plan of paths that obey them, and a label: what each valid plan that obeys the sets costs at least.
 pub struct FreeNode {
     sets: Vec<Constraints>,
+    /// What a least path of each agent costs.
+    costs: Vec<u32>,
+    /// The plan that is shown: its conflicts are branched on, and without conflict it is an optimum.
     plan: Plan,
-    /// What two agents cost together at least, of those pairs of which it is known.
-    pairs: Vec<PairBound>,
+    /// What groups cost together at least, of those of which it is known.
+    groups: Vec<GroupBound>,
     label: u64,
     /// How many pairs of agents collide in the plan.
     collisions: usize,
-    /// Whether the label was found from the pairs.
+    /// Whether the label was found from the groups.
     is_bounded: bool,
     /// The conflicts of the plan that were found then; before, those that it has in common with its parent.
     conflicts: Vec<Conflict>,
-    /// Whose path differs from its parent's.
+    /// Whose set has one constraint more than the parent's.
     changed: Option<usize>,
+    /// Groups whose plans were shown, of which nothing is known yet.
+    hints: Vec<Vec<usize>>,
 }
 
 // By hand, so that a proof about what holds one sees a call where it is dropped, and not its fields.
@@ -54,13 +51,15 @@ impl Drop for FreeNode {
     fn drop(self) {
         let FreeNode {
             sets: _,
+            costs: _,
             plan: _,
-            pairs: _,
+            groups: _,
             label: _,
             collisions: _,
             is_bounded: _,
             conflicts: _,
             changed: _,
+            hints: _,
         } = self;
     }
 }
@@ -72,8 +71,9 @@ impl Model for FreeNode {
 
     ghost view = { λ n. record {
       sets = n.sets.items;
+      costs = n.costs.items;
       plan = n.plan;
-      pairs = n.pairs.items;
+      groups = n.groups.items;
       label = n.label;
       collisions = n.collisions;
       is_bounded = n.is_bounded;
@@ -92,28 +92,37 @@ impl FreeNode {
     {
         // An instance has one agent at least, and at most 1,000.
         let agents = problem.instance().agents();
+        let costs = costs_of(alloc, &paths)?;
         let plan = Plan::of(paths);
         if plan.cost() > u64::from(problem.bound()) {
             return Ok(None);
         }
         let sets = empty_sets(alloc, agents)?;
-        Ok(Some(FreeNode::new(alloc, sets, plan)))
+        Ok(Some(FreeNode::new(alloc, sets, costs, plan)))
     }
 
-    /// A node of these sets, with least paths under them: nothing else is known.
-    pub(crate) fn new(alloc: Global, sets: Vec<Constraints>, plan: Plan) -> FreeNode
-        ensures { IsFreshNode sets.items plan result }
+    /// A node of these sets and this plan, whose label is what least paths cost: nothing else is known.
+    pub(crate) fn new(
+        alloc: Global,
+        sets: Vec<Constraints>,
+        costs: Vec<u32>,
+        plan: Plan,
+    ) -> FreeNode
+        requires { length costs.items ≤ MOST_AGENTS }
+        ensures { IsFreshNode sets.items costs.items plan result }
     {
-        let label = plan.cost();
+        let label = sum_of(&costs);
         FreeNode {
             sets,
+            costs,
             plan,
-            pairs: Vec::new(alloc),
+            groups: Vec::new(alloc),
             label,
             collisions: 0,
             is_bounded: false,
             conflicts: Vec::new(alloc),
             changed: None,
+            hints: Vec::new(alloc),
         }
     }
 
@@ -121,27 +130,34 @@ impl FreeNode {
     pub(crate) fn choice(
         &self,
         alloc: Global,
-        low: &LowLevel<'_>,
+        part: &Part<'_, '_>,
         costs: &mut KnownCosts,
     ) -> Result<Option<Conflict>, NoMemory>
-        requires { IsFreeNode low.now self.now }
+        requires { IsFreeNode (alone part.now) self.now }
         ensures { IfOk result (λ found.
-            MatchOption found (HasNoConflict low.now.rule self.now.plan) (IsChoice low.now self.now.plan)) }
+            MatchOption found (HasNoConflict (alone part.now).rule self.now.plan) (IsChoice (alone part.now) self.now.plan)) }
     {
-        let guess = branching_conflict(alloc, low, &self.sets, &self.plan, &self.conflicts, costs)?;
+        let guess = branching_conflict(
+            alloc,
+            part,
+            &self.sets,
+            &self.costs,
+            &self.plan,
+            &self.conflicts,
+            costs,
+        )?;
         match guess {
             Some(conflict) => Ok(Some(conflict)),
-            None => Ok(self.first_conflict(low)),
+            None => Ok(self.first_conflict(part)),
         }
     }
 
     /// The first conflict of the plan.
-    pub(crate) fn first_conflict<L: LeastPaths>(&self, low: &L) -> Option<Conflict>
-        requires { IsFreeNode (L.problem low.now) self.now }
-        ensures { MatchOption result (HasNoConflict (L.problem low.now).rule self.now.plan)
-            (IsChoice (L.problem low.now) self.now.plan) }
+    fn first_conflict(&self, part: &Part<'_, '_>) -> Option<Conflict>
+        requires { IsFreeNode (alone part.now) self.now }
+        ensures { MatchOption result (HasNoConflict (alone part.now).rule self.now.plan) (IsChoice (alone part.now) self.now.plan) }
     {
-        self.plan.first_conflict_by(low.rule())
+        self.plan.first_conflict_by(part.rule())
     }
 
     /// What each valid plan costs at least that obeys the sets.
@@ -151,11 +167,18 @@ impl FreeNode {
         self.label
     }
 
-    /// Whether the label was found from the pairs.
+    /// Whether the label was found from the groups.
     pub(crate) fn is_bounded(&self) -> bool
         ensures { result ≡ self.now.is_bounded }
     {
         self.is_bounded
+    }
+
+    /// Each agent's set.
+    pub(crate) fn sets(&self) -> &[Constraints]
+        ensures { result.now ≡ self.now.sets }
+    {
+        &self.sets
     }
 
     /// The plan.
@@ -164,83 +187,40 @@ impl FreeNode {
     {
         let FreeNode {
             sets: _,
+            costs: _,
             plan,
-            pairs: _,
+            groups: _,
             label: _,
             collisions: _,
             is_bounded: _,
             conflicts: _,
             changed: _,
+            hints: _,
         } = self;
         plan
     }
 
-    /// The node with the label that its pairs give, if that is greater; none where it is over the bound. Its agents take least paths
-    /// with few conflicts.
-    pub(crate) fn bounded(
-        self,
-        alloc: Global,
-        low: &LowLevel<'_>,
-        occupancy: &mut Occupancy,
-        costs: &mut PairCosts,
-    ) -> Result<Option<FreeNode>, NoMemory>
-        requires node { IsFreeNode low.now self }
-        requires costs { AreKnown low.now costs.old }
-        ensures costs { AreKnown low.now costs.new }
-        ensures bounded { IfOk result (IsBounded low.now self) }
-    {
-        let problem = low.problem();
-        let FreeNode {
-            sets,
-            plan,
-            pairs: known,
-            label,
-            collisions: _,
-            is_bounded: _,
-            conflicts,
-            changed,
-        } = self;
-        let (plan, conflicts) = settled(alloc, low, &sets, &plan, changed, conflicts, occupancy)?;
-        let pairs = pair_bounds(alloc, low, &sets, &plan, known, &conflicts, costs)?;
-        let surplus = disjoint_surplus(alloc, &plan, &pairs)?;
-        let label = label.max(plan.cost().saturating_add(surplus));
-        if label > u64::from(problem.bound()) {
-            return Ok(None);
-        }
-        let collisions = colliding_pairs(&conflicts);
-        Ok(Some(FreeNode {
-            sets,
-            plan,
-            pairs,
-            label,
-            collisions,
-            is_bounded: true,
-            conflicts,
-            changed: None,
-        }))
-    }
-
     /// The node on this side of a conflict of its plan; none where that has no candidate.
-    pub(crate) fn side<L: LeastPaths>(
+    pub(crate) fn side(
         &self,
         alloc: Global,
-        low: &L,
+        part: &Part<'_, '_>,
         conflict: &Conflict,
         side: Side,
     ) -> Result<Option<FreeNode>, NoMemory>
-        requires node { IsFreeNode (L.problem low.now) self.now }
-        requires choice { IsChoice (L.problem low.now) self.now.plan conflict.now }
-        ensures { IfOk result (IsSideOf (L.problem low.now) self.now conflict.now side) }
+        requires node { IsFreeNode (alone part.now) self.now }
+        requires choice { IsChoice (alone part.now) self.now.plan conflict.now }
+        ensures { IfOk result (IsSideOf (alone part.now) self.now conflict.now side) }
     {
         let agent = agent_of(conflict, side);
         let set = self.sets[agent].with(constraint_of(conflict, side))?;
-        let bound = self.left_for(low, agent);
-        let least = self.plan.paths()[agent].cost();
-        let Some(path) = low.least_path(alloc, agent, &set, bound, least)? else {
+        let bound = self.left_for(part, agent);
+        let Some(path) = part.least_path(alloc, agent, &set, bound, self.costs[agent])? else {
             return Ok(None);
         };
         let child = self.child(alloc, agent, set, path)?;
-        Ok(Some(child))
+        let least = least_of_groups(alloc, part, &child.sets, &child.costs, &child.groups)?;
+        Ok(Some(child.raised(part, least)))
     }
 
     /// The node where this agent has another set, and another path.
@@ -252,39 +232,56 @@ impl FreeNode {
         path: Path,
     ) -> Result<FreeNode, NoMemory>
         requires set { agent < length self.now.sets }
+        requires cost { agent < length self.now.costs }
+        requires agents { length self.now.costs ≡ length self.now.plan }
         requires path { agent < length self.now.plan }
         ensures sets { IfOk result (λ child. child.sets ≡ slice_set self.now.sets agent set) }
+        ensures costs { IfOk result (λ child. child.costs ≡ slice_set self.now.costs agent (cost path)) }
         ensures plan { IfOk result (λ child. child.plan ≡ slice_set self.now.plan agent path) }
-        ensures pairs { IfOk result (λ child. AllByRecursion (Contains self.now.pairs) child.pairs) }
-        ensures label { IfOk result (λ child. child.label ≡ max self.now.label (plan_cost child.plan)) }
+        ensures groups { IfOk result (λ child. AreOf self.now.groups child.groups) }
+        ensures label { IfOk result (λ child. child.label ≡ max self.now.label (sum_by (λ c. c) child.costs)) }
+        ensures fresh { IfOk result (λ child. child.is_bounded ≡ false) }
     {
+        let costs = costs_with(alloc, &self.costs, agent, path.cost())?;
         let mut paths = copy_paths(alloc, self.plan.paths())?;
         paths[agent] = path;
         let mut sets = copy_sets(alloc, &self.sets)?;
         sets[agent] = set;
-        let pairs = pairs_without(alloc, &self.pairs, agent)?;
-        let plan = Plan::of(paths);
-        let label = self.label.max(plan.cost());
+        let label = self.label.max(sum_of(&costs));
         Ok(FreeNode {
             sets,
-            plan,
-            pairs,
+            costs,
+            plan: Plan::of(paths),
+            groups: unsolved_with(alloc, &self.groups, agent)?,
             label,
             collisions: self.collisions,
             is_bounded: false,
             conflicts: conflicts_without(alloc, &self.conflicts, agent)?,
             changed: Some(agent),
+            hints: solved_with(alloc, &self.groups, agent)?,
         })
     }
 
-    /// What the other agents' paths leave of the bound.
-    fn left_for<L: LeastPaths>(&self, low: &L, agent: usize) -> u32
-        requires agent { agent < length self.now.plan }
-        requires within { plan_cost self.now.plan ≤ (L.problem low.now).bound }
-        ensures leaves { Leaves (L.problem low.now) self.now.plan agent result }
+    /// What the other agents' least paths leave of the bound.
+    fn left_for(&self, part: &Part<'_, '_>, agent: usize) -> u32
+        requires node { IsFreeNode (alone part.now) self.now }
+        requires agent { agent < length self.now.costs }
+        ensures left { IsLeftFor (alone part.now) self.now.costs agent result }
         ensures small { result ≤ MOST_BOUND }
     {
-        let own = self.plan.paths()[agent].cost();
-        left_of_bound(low.bound(), self.plan.cost(), own)
+        // That there are at most 1,000 agents is known from a call alone.
+        let _paths = self.plan.paths();
+        left_of_bound(part.bound(), sum_of(&self.costs), self.costs[agent])
+    }
+
+    /// The node with this label, where it is greater than its own and within the bound.
+    pub(crate) fn raised(self, part: &Part<'_, '_>, least: u64) -> FreeNode
+        requires node { IsFreeNode (alone part.now) self }
+        requires below { IsLowerBoundOf (alone part.now) self.sets least }
+        ensures { IsSame (alone part.now) self result }
+    {
+        let mut node = self;
+        node.label = node.label.max(least.min(u64::from(part.bound())));
+        node
     }
 }

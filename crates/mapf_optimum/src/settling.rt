@@ -1,233 +1,207 @@
-//! Which of its least paths each agent takes: those with few conflicts.
+//! Which paths of the same costs the agents take: those with few conflicts.
 
 ghost use Rattle.std.specs.Prelude.{◌≡◌, ◌<◌, length, IfOk, OnOk};
-ghost use Rattle.mapf_optimum.specs.FreeTree.{HaveLeastPaths};
-ghost use Rattle.mapf_optimum.specs.FreeSearch.{AreSettled};
+ghost use Rattle.mapf_optimum.specs.FreeTree.{HaveAllowedPaths};
+ghost use Rattle.mapf_optimum.specs.Groups.{alone};
 
-use crate::agents::{agent_at, copy_paths};
 use crate::allowed::is_allowed;
-use crate::guesses::{Occupancy, conflicts_without, few_conflicts, partners};
-use crate::low_level::LowLevel;
+use crate::guesses::{
+    Occupancy, add_conflicts, conflicts_without, few_conflicts, hide, partners, show,
+};
+use crate::part::Part;
 use mapf_grid::NoMemory;
 use mapf_low::Constraints;
-use mapf_plan::{Conflict, Path, Plan};
+use mapf_plan::{Conflict, Path};
 use std::alloc::Global;
 
 /// How many times agents choose anew since another one did, at most.
 const MOST_ROUNDS: u32 = 4;
 
-/// The plan, in which the agent that changed, or each in turn where there is none, took another least path with few conflicts, and then
-/// those that collide with it others, if they have fewer by that; and its conflicts, of which those that the agent isn't in are known.
-pub(crate) fn settled(
+/// The agent that changed, or each in turn where there is none, takes another path of the same cost with few conflicts, and then those
+/// that collide with it do, if they have fewer by that. The conflicts are those of the paths then, if they were those of the agents that
+/// didn't change before.
+pub(crate) fn settle(
     alloc: Global,
-    low: &LowLevel<'_>,
-    sets: &[Constraints],
-    plan: &Plan,
-    changed: Option<usize>,
-    known: Vec<Conflict>,
-    occupancy: &mut Occupancy,
-) -> Result<(Plan, Vec<Conflict>), NoMemory>
-    requires sets { length sets.now ≡ length low.now.inst.starts }
-    requires paths { HaveLeastPaths low.now sets.now plan.now }
-    ensures { IfOk result (λ settled. AreSettled low.now sets.now plan.now settled.0) }
-{
-    let mut paths = copy_paths(alloc, plan.paths())?;
-    let mut conflicts = known;
-    let mut is_new = begin(
-        alloc,
-        low,
-        sets,
-        &mut paths,
-        changed,
-        &mut conflicts,
-        occupancy,
-    )?;
-    for _round in 0..MOST_ROUNDS {
-        let may_change = partners(alloc, &conflicts, &is_new)?;
-        is_new = settle_again(
-            alloc,
-            low,
-            sets,
-            &mut paths,
-            &may_change,
-            &mut conflicts,
-            occupancy,
-        )?;
-    }
-    Ok((Plan::of(paths), conflicts))
-}
-
-/// The agent that changed, or each in turn where there is none, takes a least path. Answers who did.
-fn begin(
-    alloc: Global,
-    low: &LowLevel<'_>,
+    part: &Part<'_, '_>,
     sets: &[Constraints],
     paths: &mut Vec<Path>,
     changed: Option<usize>,
     conflicts: &mut Vec<Conflict>,
     occupancy: &mut Occupancy,
-) -> Result<Vec<usize>, NoMemory>
-    requires sets { length sets.now ≡ length low.now.inst.starts }
-    requires paths { HaveLeastPaths low.now sets.now paths.old.items }
-    ensures { OnOk result (AreSettled low.now sets.now paths.old.items paths.new.items) }
+) -> Result<(), NoMemory>
+    requires sets { length sets.now ≡ length (alone part.now).inst.starts }
+    requires paths { HaveAllowedPaths (alone part.now) sets.now paths.old.items }
+    ensures { OnOk result (HaveAllowedPaths (alone part.now) sets.now paths.new.items) }
 {
-    let mut is_new = Vec::new(alloc);
+    let is_new = first_to_settle(alloc, part, paths, changed, occupancy)?;
+    for agent in &is_new {
+        settle_one(alloc, part, sets, paths, *agent, conflicts, occupancy)?;
+    }
+    settle_partners(alloc, part, sets, paths, is_new, conflicts, occupancy)
+}
+
+/// Shows the paths, and answers who settles first.
+fn first_to_settle(
+    alloc: Global,
+    part: &Part<'_, '_>,
+    paths: &[Path],
+    changed: Option<usize>,
+    occupancy: &mut Occupancy,
+) -> Result<Vec<usize>, NoMemory> {
+    let mut first = Vec::new(alloc);
+    for (agent, path) in paths.iter().enumerate() {
+        show(part, agent, path, occupancy)?;
+    }
     if let Some(agent) = changed {
-        if agent < sets.len() {
-            occupancy.show(paths)?;
-            is_new.push(agent)?;
-            settle(alloc, low, sets, paths, agent, conflicts, occupancy)?;
-            return Ok(is_new);
-        }
+        first.push(agent)?;
+        return Ok(first);
     }
-    occupancy.clear();
-    for agent in 0..sets.len() {
-        is_new.push(agent)?;
-        settle(alloc, low, sets, paths, agent, conflicts, occupancy)?;
+    for agent in 0..paths.len() {
+        hide(part, agent, occupancy);
+        first.push(agent)?;
     }
-    Ok(is_new)
+    Ok(first)
+}
+
+/// Those that collide with these agents take other paths of the same costs, if they have fewer conflicts by that.
+pub(crate) fn settle_partners(
+    alloc: Global,
+    part: &Part<'_, '_>,
+    sets: &[Constraints],
+    paths: &mut Vec<Path>,
+    agents: Vec<usize>,
+    conflicts: &mut Vec<Conflict>,
+    occupancy: &mut Occupancy,
+) -> Result<(), NoMemory>
+    requires sets { length sets.now ≡ length (alone part.now).inst.starts }
+    requires paths { HaveAllowedPaths (alone part.now) sets.now paths.old.items }
+    ensures { OnOk result (HaveAllowedPaths (alone part.now) sets.now paths.new.items) }
+{
+    let mut is_new = agents;
+    for _round in 0..MOST_ROUNDS {
+        let may_change = partners(alloc, conflicts, &is_new)?;
+        is_new = settle_again(alloc, part, sets, paths, &may_change, conflicts, occupancy)?;
+    }
+    Ok(())
 }
 
 /// Those agents choose anew. Answers who took another path.
 fn settle_again(
     alloc: Global,
-    low: &LowLevel<'_>,
+    part: &Part<'_, '_>,
     sets: &[Constraints],
     paths: &mut Vec<Path>,
     agents: &[usize],
     conflicts: &mut Vec<Conflict>,
     occupancy: &mut Occupancy,
 ) -> Result<Vec<usize>, NoMemory>
-    requires sets { length sets.now ≡ length low.now.inst.starts }
-    requires paths { HaveLeastPaths low.now sets.now paths.old.items }
-    ensures { OnOk result (AreSettled low.now sets.now paths.old.items paths.new.items) }
+    requires sets { length sets.now ≡ length (alone part.now).inst.starts }
+    requires paths { HaveAllowedPaths (alone part.now) sets.now paths.old.items }
+    ensures { OnOk result (HaveAllowedPaths (alone part.now) sets.now paths.new.items) }
 {
     let mut is_new = Vec::new(alloc);
     for agent in agents {
-        settle_better(
-            alloc,
-            low,
-            sets,
-            paths,
-            *agent,
-            conflicts,
-            occupancy,
-            &mut is_new,
-        )?;
+        if settle_better(alloc, part, sets, paths, *agent, conflicts, occupancy)? {
+            is_new.push(*agent)?;
+        }
     }
     Ok(is_new)
 }
 
-/// The agent takes a least path with the fewest collisions that is found, and its conflicts are added.
-fn settle(
+/// The agent takes a path of the same cost with the fewest collisions that is found, and its conflicts are added.
+fn settle_one(
     alloc: Global,
-    low: &LowLevel<'_>,
+    part: &Part<'_, '_>,
     sets: &[Constraints],
     paths: &mut Vec<Path>,
     agent: usize,
     conflicts: &mut Vec<Conflict>,
     occupancy: &mut Occupancy,
 ) -> Result<(), NoMemory>
-    requires agent { agent < length low.now.inst.starts }
-    requires sets { length sets.now ≡ length low.now.inst.starts }
-    requires paths { HaveLeastPaths low.now sets.now paths.old.items }
-    ensures { OnOk result (AreSettled low.now sets.now paths.old.items paths.new.items) }
+    requires sets { length sets.now ≡ length (alone part.now).inst.starts }
+    requires paths { HaveAllowedPaths (alone part.now) sets.now paths.old.items }
+    ensures { OnOk result (HaveAllowedPaths (alone part.now) sets.now paths.new.items) }
 {
-    let found = proposed(alloc, low, sets, paths, agent, occupancy)?;
-    let _is_new = accept(low, sets, paths, agent, found);
-    occupancy.add_conflicts(agent, &paths[agent], conflicts)?;
-    occupancy.put(agent, &paths[agent])?;
+    if let Some(path) = proposed(alloc, part, sets, paths, agent, occupancy)? {
+        let _is_new = accept(part, sets, paths, agent, path);
+    }
+    if let Some(path) = paths.get(agent) {
+        add_conflicts(alloc, part, agent, path, conflicts, occupancy)?;
+        show(part, agent, path, occupancy)?;
+    }
     Ok(())
 }
 
 /// A path of the agent at the cost of its own, with few conflicts; its own is taken out of the table.
 fn proposed(
     alloc: Global,
-    low: &LowLevel<'_>,
+    part: &Part<'_, '_>,
     sets: &[Constraints],
     paths: &[Path],
     agent: usize,
     occupancy: &mut Occupancy,
 ) -> Result<Option<Path>, NoMemory>
-    requires agent { agent < length low.now.inst.starts }
-    requires sets { length sets.now ≡ length low.now.inst.starts }
-    requires paths { length paths.now ≡ length low.now.inst.starts }
+    requires { length sets.now ≡ length (alone part.now).inst.starts }
 {
-    occupancy.take(agent);
-    let stands = agent_at(low.problem(), agent, &sets[agent], paths[agent].cost());
+    hide(part, agent, occupancy);
+    if agent >= paths.len() || agent >= sets.len() {
+        return Ok(None);
+    }
+    let cost = paths[agent].cost();
+    if cost > part.bound() {
+        return Ok(None);
+    }
+    let stands = part.agent(agent, &sets[agent], cost);
     few_conflicts(alloc, &stands, occupancy)
 }
 
-/// The agent takes the path, if there is one that it may take at the cost of its own, and then it says so.
-fn accept(
-    low: &LowLevel<'_>,
+/// The agent takes the path, if it may, and then it says so.
+pub(crate) fn accept(
+    part: &Part<'_, '_>,
     sets: &[Constraints],
     paths: &mut Vec<Path>,
     agent: usize,
-    found: Option<Path>,
+    path: Path,
 ) -> bool
-    requires agent { agent < length low.now.inst.starts }
-    requires sets { length sets.now ≡ length low.now.inst.starts }
-    requires paths { HaveLeastPaths low.now sets.now paths.old.items }
-    ensures { AreSettled low.now sets.now paths.old.items paths.new.items }
+    requires sets { length sets.now ≡ length (alone part.now).inst.starts }
+    requires paths { HaveAllowedPaths (alone part.now) sets.now paths.old.items }
+    ensures { HaveAllowedPaths (alone part.now) sets.now paths.new.items }
 {
-    let problem = low.problem();
-    if let Some(path) = found {
-        if path.cost() == paths[agent].cost() && is_allowed(problem, agent, &sets[agent], &path) {
-            paths[agent] = path;
-            return true;
-        }
+    if agent >= sets.len() || !is_allowed(part, agent, &sets[agent], &path) {
+        return false;
     }
-    false
+    paths[agent] = path;
+    true
 }
 
-/// The agent takes another least path, if it has fewer conflicts by that, and then it is one of those that are new.
+/// The agent takes another path of the same cost, if it has fewer conflicts by that, and then it says so.
 fn settle_better(
     alloc: Global,
-    low: &LowLevel<'_>,
+    part: &Part<'_, '_>,
     sets: &[Constraints],
     paths: &mut Vec<Path>,
     agent: usize,
     conflicts: &mut Vec<Conflict>,
     occupancy: &mut Occupancy,
-    is_new: &mut Vec<usize>,
-) -> Result<(), NoMemory>
-    requires sets { length sets.now ≡ length low.now.inst.starts }
-    requires paths { HaveLeastPaths low.now sets.now paths.old.items }
-    ensures { OnOk result (AreSettled low.now sets.now paths.old.items paths.new.items) }
+) -> Result<bool, NoMemory>
+    requires sets { length sets.now ≡ length (alone part.now).inst.starts }
+    requires paths { HaveAllowedPaths (alone part.now) sets.now paths.old.items }
+    ensures { OnOk result (HaveAllowedPaths (alone part.now) sets.now paths.new.items) }
 {
-    if agent >= sets.len() {
-        return Ok(());
-    }
     let mut others = conflicts_without(alloc, conflicts, agent)?;
     if others.len() == conflicts.len() {
-        return Ok(());
+        return Ok(false);
     }
-    let found = proposed(alloc, low, sets, paths, agent, occupancy)?;
-    let better = if_fewer(agent, found, conflicts.len(), &mut others, occupancy)?;
-    let is_better = accept(low, sets, paths, agent, better);
-    if is_better {
-        *conflicts = others;
-        is_new.push(agent)?;
+    let mut is_better = false;
+    if let Some(path) = proposed(alloc, part, sets, paths, agent, occupancy)? {
+        add_conflicts(alloc, part, agent, &path, &mut others, occupancy)?;
+        if others.len() < conflicts.len() && accept(part, sets, paths, agent, path) {
+            *conflicts = others;
+            is_better = true;
+        }
     }
-    occupancy.put(agent, &paths[agent])?;
-    Ok(())
-}
-
-/// The path, if there is one whose agent then leaves fewer conflicts than so many; those that it has are added to the others.
-fn if_fewer(
-    agent: usize,
-    found: Option<Path>,
-    most: usize,
-    others: &mut Vec<Conflict>,
-    occupancy: &Occupancy,
-) -> Result<Option<Path>, NoMemory> {
-    let Some(path) = found else {
-        return Ok(None);
-    };
-    occupancy.add_conflicts(agent, &path, others)?;
-    if others.len() < most {
-        return Ok(Some(path));
+    if let Some(path) = paths.get(agent) {
+        show(part, agent, path, occupancy)?;
     }
-    Ok(None)
+    Ok(is_better)
 }

@@ -7,14 +7,22 @@ ghost use Rattle.mapf_optimum.specs.Told.{IsBegun, IsWatched};
 
 use crate::FreeNode;
 use crate::expansion::expand;
-use crate::guesses::{KnownCosts, Occupancy};
+use crate::group_costs::GroupCosts;
+use crate::groups::bounded;
+use crate::guesses::Guide;
 use crate::low_level::LowLevel;
-use crate::pair_costs::PairCosts;
+use crate::part::Part;
 use crate::waiting::Waiting;
 use mapf_grid::NoMemory;
 use mapf_plan::{Answer, Path};
 use mapf_tree::{Problem, Watch, root_paths};
 use std::alloc::Global;
+
+/// With how much effort a group's plan is looked for, at most.
+const EFFORT: usize = 500;
+
+/// How many nodes of groups are expanded, at most, to bound one node.
+const MOST_GROUP_NODES: u64 = 3_000;
 
 /// A plan without conflict that costs least, whichever of several; none exactly where no plan without conflict costs at most the
 /// bound; or, at the problem's limit on nodes, a lower bound.
@@ -75,8 +83,7 @@ fn search_from<W: Watch>(
 {
     let waiting = begin(alloc, problem, paths)?;
     let low = LowLevel::new(alloc, problem)?;
-    let mut occupancy = Occupancy::new(alloc, problem)?;
-    search(alloc, &low, waiting, &mut occupancy, nodes, watch)
+    search(alloc, &low, waiting, nodes, watch)
 }
 
 /// The root alone, if there is one.
@@ -96,7 +103,6 @@ fn search<W: Watch>(
     alloc: Global,
     low: &LowLevel<'_>,
     waiting: Waiting,
-    occupancy: &mut Occupancy,
     most: Option<u64>,
     watch: &mut W,
 ) -> Result<Answer, NoMemory>
@@ -106,8 +112,9 @@ fn search<W: Watch>(
 {
     let problem = low.problem();
     let mut waiting = waiting;
-    let mut pair_costs = PairCosts::new(alloc);
-    let mut costs = KnownCosts::new(alloc);
+    let part = Part::whole(alloc, low)?;
+    let mut known = GroupCosts::new(alloc);
+    let mut guide = Guide::new(alloc, problem)?;
     let mut nodes = 0;
     'steps: loop {
         let Some(node) = waiting.take_least() else {
@@ -116,12 +123,13 @@ fn search<W: Watch>(
             return Ok(Answer::None { bound });
         };
         if !node.is_bounded() {
-            waiting.put(node.bounded(alloc, low, occupancy, &mut pair_costs)?)?;
+            guide.left = MOST_GROUP_NODES;
+            waiting.put(bounded(alloc, &part, node, EFFORT, &mut known, &mut guide)?)?;
             continue 'steps;
         }
         let least = node.label();
         watch.nodes_expanded(nodes, least);
-        let Some(conflict) = node.choice(alloc, low, &mut costs)? else {
+        let Some(conflict) = node.choice(alloc, &part, &mut guide.costs)? else {
             let plan = node.into_plan();
             let stated = plan.cost();
             return Ok(Answer::Plan { plan, stated });
@@ -129,7 +137,7 @@ fn search<W: Watch>(
         if is_limit(most, nodes) {
             return Ok(Answer::GaveUp { nodes, least });
         }
-        expand(alloc, low, &node, &conflict, &mut waiting)?;
+        expand(alloc, &part, &node, &conflict, &mut waiting)?;
         nodes = nodes.saturating_add(1);
     }
 }

@@ -1,7 +1,9 @@
 //! The conflicts of a plan.
 
+use crate::guesses::Occupancy;
+use crate::part::Part;
 use mapf_grid::NoMemory;
-use mapf_plan::Conflict;
+use mapf_plan::{Conflict, Path};
 use mapf_tree::{Side, agent_of};
 use std::alloc::Global;
 
@@ -64,4 +66,110 @@ pub(crate) fn partners(
         }
     }
     Ok(found)
+}
+
+/// Makes this the path of one of the part's agents in the table.
+pub(crate) fn show(
+    part: &Part<'_, '_>,
+    agent: usize,
+    path: &Path,
+    occupancy: &mut Occupancy,
+) -> Result<(), NoMemory> {
+    if let Some(number) = part.agents().get(agent) {
+        occupancy.set(*number, path)?;
+    }
+    Ok(())
+}
+
+/// One of the part's agents has no path in the table.
+pub(crate) fn hide(part: &Part<'_, '_>, agent: usize, occupancy: &mut Occupancy) {
+    if let Some(number) = part.agents().get(agent) {
+        occupancy.take(*number);
+    }
+}
+
+/// Adds the conflicts that one of the part's agents has on this path with its others, as they stand in the table.
+pub(crate) fn add_conflicts(
+    alloc: Global,
+    part: &Part<'_, '_>,
+    agent: usize,
+    path: &Path,
+    conflicts: &mut Vec<Conflict>,
+    occupancy: &Occupancy,
+) -> Result<(), NoMemory> {
+    let Some(number) = part.agents().get(agent) else {
+        return Ok(());
+    };
+    let mut found = Vec::new(alloc);
+    occupancy.add_conflicts(*number, path, &mut found)?;
+    for conflict in &found {
+        if let Some(conflict) = in_part(part, conflict) {
+            conflicts.push(conflict)?;
+        }
+    }
+    Ok(())
+}
+
+/// The conflict by the agents' numbers in the part, if both are in it.
+fn in_part(part: &Part<'_, '_>, conflict: &Conflict) -> Option<Conflict> {
+    Some(match *conflict {
+        Conflict::Vertex {
+            time,
+            first,
+            second,
+            cell,
+        } => Conflict::Vertex {
+            time,
+            first: part.place_of(first)?,
+            second: part.place_of(second)?,
+            cell,
+        },
+        Conflict::Swapping {
+            time,
+            first,
+            second,
+            from,
+            to,
+        } => Conflict::Swapping {
+            time,
+            first: part.place_of(first)?,
+            second: part.place_of(second)?,
+            from,
+            to,
+        },
+        Conflict::Following {
+            time,
+            follower,
+            leader,
+            cell,
+        } => Conflict::Following {
+            time,
+            follower: part.place_of(follower)?,
+            leader: part.place_of(leader)?,
+            cell,
+        },
+    })
+}
+
+/// The conflicts of the paths, of which those of other agents are known, and shows these agents' paths.
+pub(crate) fn conflicts_again(
+    alloc: Global,
+    part: &Part<'_, '_>,
+    agents: &[usize],
+    paths: &[Path],
+    known: &[Conflict],
+    occupancy: &mut Occupancy,
+) -> Result<Vec<Conflict>, NoMemory> {
+    let mut conflicts = Vec::from_slice(alloc, known)?;
+    for agent in agents {
+        hide(part, *agent, occupancy);
+        conflicts = conflicts_without(alloc, &conflicts, *agent)?;
+    }
+    for agent in agents {
+        if let Some(path) = paths.get(*agent) {
+            add_conflicts(alloc, part, *agent, path, &mut conflicts, occupancy)?;
+            show(part, *agent, path, occupancy)?;
+        }
+    }
+    Ok(conflicts)
 }

@@ -1,6 +1,6 @@
 //! What agents' least paths cost, by what they are forbidden: each is searched once, as long as it is remembered.
 
-use crate::low_level::LowLevel;
+use crate::part::Part;
 use mapf_grid::NoMemory;
 use mapf_low::Constraints;
 use std::alloc::Global;
@@ -23,19 +23,22 @@ impl KnownCosts {
         }
     }
 
-    /// What a least path of the agent costs under these constraints; none where it has none within the problem's bound.
+    /// What a least path of one of the part's agents costs under these constraints; none where it has none within the problem's bound.
     pub(super) fn cost_under(
         &mut self,
         alloc: Global,
-        low: &LowLevel<'_>,
+        part: &Part<'_, '_>,
         agent: usize,
         constraints: &Constraints,
     ) -> Result<Option<u32>, NoMemory> {
-        let key = constraints.mixed_into(agent as u64);
+        let Some(number) = part.agents().get(agent) else {
+            return Ok(None);
+        };
+        let key = constraints.mixed_into(*number as u64);
         if let Some(cost) = self.costs.get(&key) {
             return Ok(*cost);
         }
-        let cost = low.cost_under(alloc, agent, constraints)?;
+        let cost = part.low().cost_under(alloc, *number, constraints)?;
         if self.costs.len() >= MOST_KNOWN {
             self.costs.clear();
         }

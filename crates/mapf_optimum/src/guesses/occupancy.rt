@@ -72,13 +72,11 @@ impl Occupancy {
         Ok(())
     }
 
-    /// Makes these all agents' paths.
-    pub(crate) fn show(&mut self, paths: &[Path]) -> Result<(), NoMemory> {
-        for (agent, path) in paths.iter().enumerate() {
-            if !self.has(agent, path) {
-                self.take(agent);
-                self.put(agent, path)?;
-            }
+    /// Makes this the agent's path.
+    pub(crate) fn set(&mut self, agent: usize, path: &Path) -> Result<(), NoMemory> {
+        if !self.has(agent, path) {
+            self.take(agent);
+            self.put(agent, path)?;
         }
         Ok(())
     }
@@ -88,13 +86,6 @@ impl Occupancy {
         match self.paths.get(agent) {
             Some(Some(known)) => known.cells() == path.cells(),
             _ => false,
-        }
-    }
-
-    /// No agent has a path here.
-    pub(crate) fn clear(&mut self) {
-        for agent in 0..self.paths.len() {
-            self.take(agent);
         }
     }
 

@@ -62,7 +62,7 @@ fn next_layer(
 /// Whether it is known that two agents depend on one another: whichever paths of their costs they take under their constraints,
 /// they collide. All pairs of cells are looked at on which they may be without a collision, time step by time step, until both
 /// rest on their goals. Once there were more pairs than the budget has, it isn't known.
-pub(super) fn are_dependent(
+pub(crate) fn are_dependent(
     alloc: Global,
     rule: Rule,
     one: &Agent,

@@ -4,7 +4,7 @@ use Rattle.std.proofs.lemmas.List.Sorted.{IsPermutation-trans, IsPermutation-app
 use Rattle.mapf_optimum.proofs.expansion.expand.Goals as goal
 
 pub returns : goal.returns
-returns g c = record {
+returns c = record {
   left = c.in_ok-side.field-0;
   right = c.in_ok-side-2.field-0;
   left_side = c.in_ok-side.ensures;

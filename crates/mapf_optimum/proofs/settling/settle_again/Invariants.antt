@@ -1,5 +1,6 @@
-use Rattle.mapf_optimum.specs.FreeSearch.{AreSettled}
+use Rattle.mapf_optimum.specs.FreeTree.{HaveAllowedPaths}
+use Rattle.mapf_optimum.specs.Groups.{alone}
 use Rattle.mapf_optimum.proofs.settling.settle_again.Given as goal
 
 abbrev pub invariant-loop-agent : goal.invariant-loop-agent
-invariant-loop-agent l = AreSettled l.low l.sets l.initial.paths.items l.paths.items
+invariant-loop-agent l = HaveAllowedPaths (alone l.part) l.sets l.paths.items

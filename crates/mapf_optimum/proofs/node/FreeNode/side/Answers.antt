@@ -1,50 +1,55 @@
-use Rattle.std.proofs.Common.{ap, arith, ◌∙◌, length}
-use Rattle.mapf_optimum.specs.FreeTree.{FreeNode}
-use Rattle.mapf_optimum.proofs.Sides.{in_plan, in_sets, agent_inside, side_made, side_without, side_with, pays_no_less, cost_at}
+use Rattle.std.proofs.Common.{ap, ◌∙◌, subst, subst₂, sym, List, ℕ}
+use Rattle.mapf_low.specs.declared.constraint.Constraint.{Constraint}
+use Rattle.mapf_optimum.specs.declared.group_bound.GroupBound.{GroupBound}
+use Rattle.mapf_optimum.specs.FreeTree.{FreeNode, IsFreeNode, IsLowerBoundOf, AreGroupBounds, AreLeastCosts}
+use Rattle.mapf_optimum.specs.Groups.{alone}
+use Rattle.mapf_optimum.proofs.Sides.{side_made, side_without, side_with, pays_no_less, cost_at, child_is}
 use Rattle.mapf_optimum.proofs.node.FreeNode.side.Goals as goal
 
-pub index-requires : goal.index-requires
-index-requires g c =
-    omega (arith, c.agent_of-agent.ensures, ap (λ (n : FreeNode). length n.sets) c.self.view_is, in_sets (g.L.LeastPaths.problem c.args.low.now) c.args.self.now c.args.conflict.now c.args.side c.requires.node c.requires.choice)
-
-pub left_for-bound-requires-clause-agent : goal.left_for-bound-requires-clause-agent
-left_for-bound-requires-clause-agent g c =
-    omega (arith, c.agent_of-agent.ensures, in_plan (g.L.LeastPaths.problem c.args.low.now) c.args.self.now c.args.conflict.now c.args.side c.requires.node c.requires.choice)
-
-pub left_for-bound-requires-clause-within : goal.left_for-bound-requires-clause-within
-left_for-bound-requires-clause-within g c = omega (arith, c.requires.node.dear, c.requires.node.within)
-
-pub bounds-paths-agent : goal.bounds-paths-agent
-bounds-paths-agent g c =
-    omega (arith, c.agent_of-agent.ensures, ap length (c.paths.ensures.paths ∙ ap (λ (n : FreeNode). n.plan) c.self.view_is), in_plan (g.L.LeastPaths.problem c.args.low.now) c.args.self.now c.args.conflict.now c.args.side c.requires.node c.requires.choice)
-
-pub least_path-requires-clause-agent : goal.least_path-requires-clause-agent
-least_path-requires-clause-agent g c =
-    omega (arith, c.agent_of-agent.ensures, agent_inside (g.L.LeastPaths.problem c.args.low.now) c.args.self.now c.args.conflict.now c.args.side c.requires.node c.requires.choice)
-
 pub least_path-requires-clause-least : goal.least_path-requires-clause-least
-least_path-requires-clause-least g c =
-    pays_no_less (g.L.LeastPaths.problem c.args.low.now) c.args.self.now c.args.conflict.now c.args.side c.requires.node c.requires.choice c.agent_of-agent.result c.left_for-bound.result c.in_ok-set.set
-    (side_made (g.L.LeastPaths.problem c.args.low.now) c.args.self.now c.args.conflict.now c.args.side c.requires.node c.requires.choice c.agent_of-agent.result c.constraint_of.result c.self.inside.sets.items c.index.result.now c.in_ok-set.set c.agent_of-agent.ensures c.constraint_of.ensures (ap (λ n. n.sets) c.self.view_is) c.index.ensures c.in_ok-set.ensures)
-    c.agent_of-agent.ensures c.left_for-bound.ensures.leaves c.cost-least.result
-    (cost_at (g.L.LeastPaths.problem c.args.low.now) c.args.self.now c.args.conflict.now c.args.side c.requires.node c.requires.choice c.agent_of-agent.result c.cost-least.result c.paths.result.now c.index-paths-agent.result c.agent_of-agent.ensures c.cost-least.ensures.cost c.index-paths-agent.is (c.paths.ensures.paths ∙ ap (λ n. n.plan) c.self.view_is))
+least_path-requires-clause-least c =
+    pays_no_less (alone c.args.part.now) c.args.self.now c.args.conflict.now c.args.side c.requires.node c.requires.choice c.agent_of-agent.result c.left_for-bound.result c.in_ok-set.set
+    (side_made (alone c.args.part.now) c.args.self.now c.args.conflict.now c.args.side c.requires.node c.requires.choice c.agent_of-agent.result c.constraint_of.result c.self.inside.sets.items c.index.result.now c.in_ok-set.set c.agent_of-agent.ensures c.constraint_of.ensures (ap (λ (n : FreeNode). n.sets) c.self.view_is) c.index.ensures c.in_ok-set.ensures)
+    c.agent_of-agent.ensures c.left_for-bound.ensures.left c.index-2.result.now
+    (cost_at (alone c.args.part.now) c.args.self.now c.args.conflict.now c.args.side c.requires.node c.requires.choice c.agent_of-agent.result c.index-2.result.now c.self.inside.costs.items c.agent_of-agent.ensures c.index-2.ensures (ap (λ (n : FreeNode). n.costs) c.self.view_is))
 
 pub returns-in_default : goal.returns-in_default
-returns-in_default g c =
-    side_without (g.L.LeastPaths.problem c.args.low.now) c.args.self.now c.args.conflict.now c.args.side c.requires.node c.requires.choice c.agent_of-agent.result c.left_for-bound.result c.in_ok-set.set
-    (side_made (g.L.LeastPaths.problem c.args.low.now) c.args.self.now c.args.conflict.now c.args.side c.requires.node c.requires.choice c.agent_of-agent.result c.constraint_of.result c.self.inside.sets.items c.index.result.now c.in_ok-set.set c.agent_of-agent.ensures c.constraint_of.ensures (ap (λ n. n.sets) c.self.view_is) c.index.ensures c.in_ok-set.ensures)
-    c.agent_of-agent.ensures c.left_for-bound.ensures.leaves c.in_ok-path.field-0 c.in_ok-path.ensures c.in_default.is
+returns-in_default c =
+    side_without (alone c.args.part.now) c.args.self.now c.args.conflict.now c.args.side c.requires.node c.requires.choice c.agent_of-agent.result c.left_for-bound.result c.in_ok-set.set
+    (side_made (alone c.args.part.now) c.args.self.now c.args.conflict.now c.args.side c.requires.node c.requires.choice c.agent_of-agent.result c.constraint_of.result c.self.inside.sets.items c.index.result.now c.in_ok-set.set c.agent_of-agent.ensures c.constraint_of.ensures (ap (λ (n : FreeNode). n.sets) c.self.view_is) c.index.ensures c.in_ok-set.ensures)
+    c.agent_of-agent.ensures c.left_for-bound.ensures.left c.in_ok-path.field-0 c.in_ok-path.ensures c.in_default.is
 
-pub child-requires-clause-set : goal.child-requires-clause-set
-child-requires-clause-set g c =
-    omega (arith, c.agent_of-agent.ensures, in_sets (g.L.LeastPaths.problem c.args.low.now) c.args.self.now c.args.conflict.now c.args.side c.requires.node c.requires.choice)
+pub least_of_groups-requires-clause-costs : goal.least_of_groups-requires-clause-costs
+least_of_groups-requires-clause-costs c =
+    let is : IsFreeNode (alone c.args.part.now) c.in_ok-child.child =
+    child_is (alone c.args.part.now) c.args.self.now c.args.conflict.now c.args.side c.requires.node c.requires.choice c.agent_of-agent.result c.left_for-bound.result c.in_ok-set.set
+    (side_made (alone c.args.part.now) c.args.self.now c.args.conflict.now c.args.side c.requires.node c.requires.choice c.agent_of-agent.result c.constraint_of.result c.self.inside.sets.items c.index.result.now c.in_ok-set.set c.agent_of-agent.ensures c.constraint_of.ensures (ap (λ (n : FreeNode). n.sets) c.self.view_is) c.index.ensures c.in_ok-set.ensures)
+    c.agent_of-agent.ensures c.left_for-bound.ensures.left c.in_ok-path.field-0 c.in_ok-path.ensures c.in-Some.path c.in_ok-child.child c.in-Some.is c.in_ok-child.ensures.sets c.in_ok-child.ensures.costs c.in_ok-child.ensures.plan c.in_ok-child.ensures.groups c.in_ok-child.ensures.label
+    c.in_ok-child.ensures.fresh in
+    subst₂ (λ (l : List (List Constraint)) (k : List ℕ). AreLeastCosts (alone c.args.part.now) l k) (sym (c.deref.ensures.value ∙ ap (λ (n : FreeNode). n.sets) c.child-2.view_is)) (sym (c.deref-2.ensures.value ∙ ap (λ (n : FreeNode). n.costs) c.child-2.view_is)) is.costs
 
-pub child-requires-clause-path : goal.child-requires-clause-path
-child-requires-clause-path g c =
-    omega (arith, c.agent_of-agent.ensures, in_plan (g.L.LeastPaths.problem c.args.low.now) c.args.self.now c.args.conflict.now c.args.side c.requires.node c.requires.choice)
+pub least_of_groups-requires-clause-groups : goal.least_of_groups-requires-clause-groups
+least_of_groups-requires-clause-groups c =
+    let is : IsFreeNode (alone c.args.part.now) c.in_ok-child.child =
+    child_is (alone c.args.part.now) c.args.self.now c.args.conflict.now c.args.side c.requires.node c.requires.choice c.agent_of-agent.result c.left_for-bound.result c.in_ok-set.set
+    (side_made (alone c.args.part.now) c.args.self.now c.args.conflict.now c.args.side c.requires.node c.requires.choice c.agent_of-agent.result c.constraint_of.result c.self.inside.sets.items c.index.result.now c.in_ok-set.set c.agent_of-agent.ensures c.constraint_of.ensures (ap (λ (n : FreeNode). n.sets) c.self.view_is) c.index.ensures c.in_ok-set.ensures)
+    c.agent_of-agent.ensures c.left_for-bound.ensures.left c.in_ok-path.field-0 c.in_ok-path.ensures c.in-Some.path c.in_ok-child.child c.in-Some.is c.in_ok-child.ensures.sets c.in_ok-child.ensures.costs c.in_ok-child.ensures.plan c.in_ok-child.ensures.groups c.in_ok-child.ensures.label
+    c.in_ok-child.ensures.fresh in
+    subst₂ (λ (l : List (List Constraint)) (k : List GroupBound). AreGroupBounds (alone c.args.part.now) l k) (sym (c.deref.ensures.value ∙ ap (λ (n : FreeNode). n.sets) c.child-2.view_is)) (sym (c.deref-3.ensures.value ∙ ap (λ (n : FreeNode). n.groups) c.child-2.view_is)) is.groups
+
+pub raised-requires-clause-node : goal.raised-requires-clause-node
+raised-requires-clause-node c =
+    child_is (alone c.args.part.now) c.args.self.now c.args.conflict.now c.args.side c.requires.node c.requires.choice c.agent_of-agent.result c.left_for-bound.result c.in_ok-set.set
+    (side_made (alone c.args.part.now) c.args.self.now c.args.conflict.now c.args.side c.requires.node c.requires.choice c.agent_of-agent.result c.constraint_of.result c.self.inside.sets.items c.index.result.now c.in_ok-set.set c.agent_of-agent.ensures c.constraint_of.ensures (ap (λ (n : FreeNode). n.sets) c.self.view_is) c.index.ensures c.in_ok-set.ensures)
+    c.agent_of-agent.ensures c.left_for-bound.ensures.left c.in_ok-path.field-0 c.in_ok-path.ensures c.in-Some.path c.in_ok-child.child c.in-Some.is c.in_ok-child.ensures.sets c.in_ok-child.ensures.costs c.in_ok-child.ensures.plan c.in_ok-child.ensures.groups c.in_ok-child.ensures.label
+    c.in_ok-child.ensures.fresh
+
+pub raised-requires-clause-below : goal.raised-requires-clause-below
+raised-requires-clause-below c =
+    subst (λ (l : List (List Constraint)). IsLowerBoundOf (alone c.args.part.now) l c.in_ok-least.least) (c.deref.ensures.value ∙ ap (λ (n : FreeNode). n.sets) c.child-2.view_is) c.in_ok-least.ensures
 
 pub returns : goal.returns
-returns g c =
-    side_with (g.L.LeastPaths.problem c.args.low.now) c.args.self.now c.args.conflict.now c.args.side c.requires.node c.requires.choice c.agent_of-agent.result c.left_for-bound.result c.in_ok-set.set
-    (side_made (g.L.LeastPaths.problem c.args.low.now) c.args.self.now c.args.conflict.now c.args.side c.requires.node c.requires.choice c.agent_of-agent.result c.constraint_of.result c.self.inside.sets.items c.index.result.now c.in_ok-set.set c.agent_of-agent.ensures c.constraint_of.ensures (ap (λ n. n.sets) c.self.view_is) c.index.ensures c.in_ok-set.ensures)
-    c.agent_of-agent.ensures c.left_for-bound.ensures.leaves c.in_ok-path.field-0 c.in_ok-path.ensures c.in-Some.path c.in_ok-child.child c.in-Some.is c.in_ok-child.ensures.sets c.in_ok-child.ensures.plan c.in_ok-child.ensures.pairs c.in_ok-child.ensures.label
+returns c =
+    side_with (alone c.args.part.now) c.args.self.now c.args.conflict.now c.args.side c.requires.node c.requires.choice c.agent_of-agent.result c.left_for-bound.result c.in_ok-set.set
+    (side_made (alone c.args.part.now) c.args.self.now c.args.conflict.now c.args.side c.requires.node c.requires.choice c.agent_of-agent.result c.constraint_of.result c.self.inside.sets.items c.index.result.now c.in_ok-set.set c.agent_of-agent.ensures c.constraint_of.ensures (ap (λ (n : FreeNode). n.sets) c.self.view_is) c.index.ensures c.in_ok-set.ensures)
+    c.agent_of-agent.ensures c.left_for-bound.ensures.left c.in_ok-child.child c.raised.result c.in_ok-child.ensures.sets c.raised.ensures

@@ -1,0 +1,200 @@
+//! What groups of agents cost together at least.
+
+ghost use Rattle.std.specs.Prelude.{◌≡◌, ℕ, ◌<◌, false, length, slice_index, slice_index_or, Contains, IfOk, IsFalse, IsTrue};
+ghost use Rattle.mapf_optimum.specs.FreeTree.{AreGroupBounds, AreLeastCosts, IsGroup, IsLowerBoundOf};
+ghost use Rattle.mapf_optimum.specs.Groups.{AreChosen, AreOf, Takes, alone};
+
+use crate::part::Part;
+use mapf_grid::NoMemory;
+use mapf_low::Constraints;
+use std::alloc::Global;
+
+/// Some agents, and what their paths cost together at least.
+#[derive(Drop)]
+pub struct GroupBound {
+    /// Their numbers, each once.
+    pub agents: Vec<usize>,
+    /// What their paths cost, added up, at least.
+    pub least: u64,
+    /// Whether the plan that is shown has paths of theirs without a conflict.
+    pub is_solved: bool,
+}
+
+/// What the agents of a part cost together at least, of which each costs so much alone: groups without a common agent are chosen that
+/// cost more than their agents alone, the last ones first.
+///
+/// An error is that memory ran out.
+pub(crate) fn least_of_groups(
+    alloc: Global,
+    part: &Part<'_, '_>,
+    sets: &[Constraints],
+    costs: &[u32],
+    groups: &[GroupBound],
+) -> Result<u64, NoMemory>
+    requires costs { AreLeastCosts (alone part.now) sets.now costs.now }
+    requires groups { AreGroupBounds (alone part.now) sets.now groups.now }
+    ensures { IfOk result (IsLowerBoundOf (alone part.now) sets.now) }
+{
+    let mut taken = vec![in alloc; false; costs.len()]?;
+    let sum = add_groups(part, sets, costs, groups, &mut taken);
+    Ok(add_alone(part, sets, costs, &mut taken, sum))
+}
+
+/// Marks the agents of dear groups, and answers what these cost.
+fn add_groups(
+    part: &Part<'_, '_>,
+    sets: &[Constraints],
+    costs: &[u32],
+    groups: &[GroupBound],
+    taken: &mut Vec<bool>,
+) -> u64
+    requires groups { AreGroupBounds (alone part.now) sets.now groups.now }
+    requires taken { AreChosen (alone part.now) sets.now taken.old.items 0 }
+    ensures { AreChosen (alone part.now) sets.now taken.new.items result }
+{
+    let mut sum = 0_u64;
+    for place in 0..groups.len() {
+        let group = &groups[groups.len() - 1 - place];
+        if is_dear(group, costs) && take(taken, &group.agents) {
+            sum = sum.saturating_add(group.least);
+        }
+    }
+    sum
+}
+
+/// Adds what each agent without a mark costs alone.
+fn add_alone(
+    part: &Part<'_, '_>,
+    sets: &[Constraints],
+    costs: &[u32],
+    taken: &mut Vec<bool>,
+    before: u64,
+) -> u64
+    requires costs { AreLeastCosts (alone part.now) sets.now costs.now }
+    requires taken { AreChosen (alone part.now) sets.now taken.old.items before }
+    ensures { AreChosen (alone part.now) sets.now taken.new.items result }
+{
+    let mut sum = before;
+    for agent in 0..costs.len() {
+        if !taken[agent] {
+            taken[agent] = true;
+            sum = sum.saturating_add(u64::from(costs[agent]));
+        }
+    }
+    sum
+}
+
+/// Whether the group costs more than its agents alone.
+fn is_dear(group: &GroupBound, costs: &[u32]) -> bool {
+    let mut sum = 0_u64;
+    for agent in &group.agents {
+        if let Some(cost) = costs.get(*agent) {
+            sum = sum.saturating_add(u64::from(*cost));
+        }
+    }
+    group.least > sum
+}
+
+/// Marks these agents if none has a mark, and says whether it did.
+fn take(taken: &mut Vec<bool>, agents: &[usize]) -> bool
+    requires { (k : ℕ) → k < length agents.now → slice_index agents.now k < length taken.old.items }
+    ensures takes { IsTrue result → Takes agents.now taken.old.items taken.new.items }
+    ensures stands { IsFalse result → taken.new.items ≡ taken.old.items }
+{
+    if !are_free(taken, agents) {
+        return false;
+    }
+    for agent in agents {
+        taken[*agent] = true;
+    }
+    true
+}
+
+/// Whether none of these agents has a mark.
+fn are_free(taken: &[bool], agents: &[usize]) -> bool
+    requires { (k : ℕ) → k < length agents.now → slice_index agents.now k < length taken.now }
+    ensures { IsTrue result → (i : ℕ) → Contains agents.now i → slice_index_or taken.now i false ≡ false }
+{
+    for agent in agents {
+        if taken[*agent] {
+            return false;
+        }
+    }
+    true
+}
+
+/// Whether these agents rise, and are below so many.
+pub(crate) fn are_group(agents: &[usize], count: usize) -> bool
+    ensures { IsTrue result → IsGroup count agents.now }
+{
+    let mut next = 0;
+    for agent in agents {
+        if *agent < next || *agent >= count {
+            return false;
+        }
+        next = *agent + 1;
+    }
+    true
+}
+
+/// The groups, of which those that this agent is in aren't solved.
+pub(crate) fn unsolved_with(
+    alloc: Global,
+    groups: &[GroupBound],
+    agent: usize,
+) -> Result<Vec<GroupBound>, NoMemory>
+    ensures { IfOk result (λ kept. AreOf groups.now kept.items) }
+{
+    let mut kept = Vec::new(alloc);
+    for group in groups {
+        let is_solved = group.is_solved && !group.agents.contains(&agent);
+        kept.push(copy_of(alloc, group, is_solved)?)?;
+    }
+    Ok(kept)
+}
+
+/// Those of the groups that have an agent that isn't one of these; or all but that of these, where their plan isn't shown.
+pub(crate) fn groups_without(
+    alloc: Global,
+    groups: &[GroupBound],
+    agents: &[usize],
+    is_shown: bool,
+) -> Result<Vec<GroupBound>, NoMemory>
+    ensures { IfOk result (λ kept. AreOf groups.now kept.items) }
+{
+    let mut kept = Vec::new(alloc);
+    for group in groups {
+        let is_within = group.agents.iter().all(|agent| agents.contains(agent));
+        if !is_within || !is_shown && group.agents.len() < agents.len() {
+            kept.push(copy_of(alloc, group, group.is_solved)?)?;
+        }
+    }
+    Ok(kept)
+}
+
+/// The same group, solved or not.
+fn copy_of(alloc: Global, group: &GroupBound, is_solved: bool) -> Result<GroupBound, NoMemory>
+    ensures agents { IfOk result (λ copy. copy.agents.items ≡ group.now.agents.items) }
+    ensures least { IfOk result (λ copy. copy.least ≡ group.now.least) }
+{
+    Ok(GroupBound {
+        agents: Vec::from_slice(alloc, &group.agents)?,
+        least: group.least,
+        is_solved,
+    })
+}
+
+/// The agents of the solved groups that this agent is in.
+pub(crate) fn solved_with(
+    alloc: Global,
+    groups: &[GroupBound],
+    agent: usize,
+) -> Result<Vec<Vec<usize>>, NoMemory> {
+    let mut found = Vec::new(alloc);
+    for group in groups {
+        if group.is_solved && group.agents.contains(&agent) {
+            found.push(Vec::from_slice(alloc, &group.agents)?)?;
+        }
+    }
+    Ok(found)
+}

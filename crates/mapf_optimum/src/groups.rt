@@ -1,0 +1,182 @@
+//! What agents cost together at least under sets of constraints, by groups of them, of which the same is asked.
+
+ghost use Rattle.std.specs.Prelude.{◌≡◌, IfOk};
+ghost use Rattle.mapf_optimum.specs.FreeTree.{IsFreeNode, IsLowerBoundOf};
+ghost use Rattle.mapf_optimum.specs.FreeSearch.{IsBounded, IsSame};
+ghost use Rattle.mapf_optimum.specs.Groups.{AreKnown, alone};
+
+use crate::FreeNode;
+use crate::agents::{copy_paths, copy_sets};
+use crate::expansion::expand;
+use crate::group_costs::{Found, GroupCosts};
+use crate::guesses::Guide;
+use crate::part::Part;
+use crate::waiting::Waiting;
+use mapf_grid::NoMemory;
+use std::alloc::Global;
+
+/// How many groups are asked for at one node, at most.
+const MOST_ASKED: usize = 100;
+
+/// How often no plan of a group is found before little effort is made for it.
+const MOST_FAILURES: u32 = 2;
+
+/// Little effort.
+const LITTLE: usize = 10;
+
+/// What the candidates of a node cost at least, and one that costs so much, if it is known or found with so much effort.
+#[cycle(groups)]
+pub(crate) fn ask(
+    alloc: Global,
+    part: &Part<'_, '_>,
+    node: FreeNode,
+    effort: usize,
+    known: &mut GroupCosts,
+    guide: &mut Guide,
+) -> Result<Found, NoMemory>
+    requires node { IsFreeNode (alone part.now) node }
+    requires known { AreKnown part.now.problem known.old }
+    ensures known { AreKnown part.now.problem known.new }
+    ensures least { IfOk result (λ found. IsLowerBoundOf (alone part.now) node.sets found.least) }
+{
+    let effort = effort_for(part, effort, guide);
+    if let Some(found) = known.find(alloc, part, node.sets(), effort)? {
+        return Ok(found);
+    }
+    let sets = copy_sets(alloc, node.sets())?;
+    let found = look_for(alloc, part, node, effort, known, guide)?;
+    if found.plan.is_none() {
+        guide.add_failure(part.agents())?;
+    }
+    known.learn(alloc, part, &sets, &found, effort)?;
+    Ok(found)
+}
+
+/// So much effort, or little, where it was in vain before.
+fn effort_for(part: &Part<'_, '_>, effort: usize, guide: &Guide) -> usize {
+    if guide.failures_of(part.agents()) > MOST_FAILURES {
+        effort.min(LITTLE)
+    } else {
+        effort
+    }
+}
+
+/// The same by a search from the node: nodes are bounded and expanded, the least label first, until one has a plan without conflict, or
+/// the effort was made.
+#[cycle(groups)]
+fn look_for(
+    alloc: Global,
+    part: &Part<'_, '_>,
+    node: FreeNode,
+    effort: usize,
+    known: &mut GroupCosts,
+    guide: &mut Guide,
+) -> Result<Found, NoMemory>
+    requires node { IsFreeNode (alone part.now) node }
+    requires known { AreKnown part.now.problem known.old }
+    ensures known { AreKnown part.now.problem known.new }
+    ensures least { IfOk result (λ found. IsLowerBoundOf (alone part.now) node.sets found.least) }
+{
+    let mut waiting = Waiting::new(alloc);
+    waiting.put(Some(node))?;
+    for _step in 0..effort.saturating_mul(3) {
+        let Some(node) = waiting.take_least() else {
+            return Ok(nothing(part));
+        };
+        if node.is_bounded() {
+            let Some(conflict) = node.choice(alloc, part, &mut guide.costs)? else {
+                return shown_by(alloc, node);
+            };
+            if guide.left == 0 {
+                return Ok(Found {
+                    least: node.label(),
+                    plan: None,
+                });
+            }
+            guide.left = guide.left.saturating_sub(1);
+            expand(alloc, part, &node, &conflict, &mut waiting)?;
+        } else {
+            waiting.put(bounded(alloc, part, node, effort / 2, known, guide)?)?;
+        }
+    }
+    match waiting.take_least() {
+        Some(node) => Ok(Found {
+            least: node.label(),
+            plan: None,
+        }),
+        None => Ok(nothing(part)),
+    }
+}
+
+/// There is no candidate.
+fn nothing(part: &Part<'_, '_>) -> Found {
+    Found {
+        least: u64::from(part.bound()) + 1,
+        plan: None,
+    }
+}
+
+/// The node's plan, at the node's label.
+fn shown_by(alloc: Global, node: FreeNode) -> Result<Found, NoMemory>
+    ensures { IfOk result (λ found. found.least ≡ node.label) }
+{
+    let least = node.label();
+    let plan = copy_paths(alloc, node.into_plan().paths())?;
+    Ok(Found {
+        least,
+        plan: Some(plan),
+    })
+}
+
+/// The node with the label and the plans that its groups give; none where the label is over the bound.
+#[cycle(groups)]
+pub(crate) fn bounded(
+    alloc: Global,
+    part: &Part<'_, '_>,
+    node: FreeNode,
+    effort: usize,
+    known: &mut GroupCosts,
+    guide: &mut Guide,
+) -> Result<Option<FreeNode>, NoMemory>
+    requires node { IsFreeNode (alone part.now) node }
+    requires known { AreKnown part.now.problem known.old }
+    ensures known { AreKnown part.now.problem known.new }
+    ensures bounded { IfOk result (IsBounded (alone part.now) node) }
+{
+    let settled = node.settled(alloc, part, &mut guide.occupancy)?;
+    let asked = grouped(alloc, part, settled, effort, known, guide)?;
+    asked.finished(alloc, part, &mut guide.occupancy)
+}
+
+/// The node whose agents were asked for in groups: those that collide become one.
+#[cycle(groups)]
+fn grouped(
+    alloc: Global,
+    part: &Part<'_, '_>,
+    node: FreeNode,
+    effort: usize,
+    known: &mut GroupCosts,
+    guide: &mut Guide,
+) -> Result<FreeNode, NoMemory>
+    requires node { IsFreeNode (alone part.now) node }
+    requires known { AreKnown part.now.problem known.old }
+    ensures known { AreKnown part.now.problem known.new }
+    ensures same { IfOk result (IsSame (alone part.now) node) }
+{
+    let mut now = node;
+    let mut vain = Vec::new(alloc);
+    for _asked in 0..MOST_ASKED {
+        let Some(agents) = now.next_group(alloc, &vain)? else {
+            return Ok(now);
+        };
+        let inner = part.part(alloc, &agents)?;
+        let group = now.part(alloc, part, &agents)?;
+        let found = ask(alloc, &inner, group, effort, known, guide)?;
+        let (next, is_solved) = now.with_group(alloc, part, &agents, found, &mut guide.occupancy)?;
+        now = next;
+        if !is_solved {
+            vain.push(agents)?;
+        }
+    }
+    Ok(now)
+}

@@ -1,0 +1,309 @@
+//! Nodes whose agents are asked for in groups.
+
+ghost use Rattle.std.specs.Prelude.{◌≡◌, ℕ, ◌+◌, ◌<◌, ◌≤◌, true, length, slice_index_or, sum_by, IfOk, IfSome, IsTrue, OnOk};
+ghost use Rattle.mapf_plan.specs.Path.{cost};
+ghost use Rattle.mapf_plan.specs.Plan.{path_of, plan_cost};
+ghost use Rattle.mapf_optimum.specs.FreeTree.{AreLeastCosts, HaveAllowedPaths, IsFreeNode, IsGroup, IsGroupBound, IsLowerBoundOf, paths_in};
+ghost use Rattle.mapf_optimum.specs.FreeSearch.{IsBounded, IsFreshNode, IsSame};
+ghost use Rattle.mapf_optimum.specs.Groups.{alone, costs_in, sets_in};
+
+use super::FreeNode;
+use crate::agents::{copy_paths, some_costs, some_paths, some_sets, sum_of};
+use crate::group_bound::{GroupBound, are_group, groups_without, least_of_groups};
+use crate::group_costs::Found;
+use crate::guesses::{Occupancy, colliding_pairs, conflicts_again, hints_in, next_group};
+use crate::pairs::are_dependent;
+use crate::part::Part;
+use crate::settling::{accept, settle, settle_partners};
+use mapf_grid::NoMemory;
+use mapf_low::Constraints;
+use mapf_plan::{Conflict, Path, Plan};
+use std::alloc::Global;
+
+/// How many pairs of cells are looked at, at most, to tell whether two agents depend on one another.
+const BUDGET: usize = 20_000;
+
+impl FreeNode {
+    /// The node whose agents take other paths of the same costs, with few conflicts.
+    pub(crate) fn settled(
+        self,
+        alloc: Global,
+        part: &Part<'_, '_>,
+        occupancy: &mut Occupancy,
+    ) -> Result<FreeNode, NoMemory>
+        requires { IsFreeNode (alone part.now) self }
+        ensures { IfOk result (IsSame (alone part.now) self) }
+    {
+        let mut paths = copy_paths(alloc, self.plan.paths())?;
+        let mut conflicts = Vec::from_slice(alloc, &self.conflicts)?;
+        settle(
+            alloc,
+            part,
+            &self.sets,
+            &mut paths,
+            self.changed,
+            &mut conflicts,
+            occupancy,
+        )?;
+        Ok(self.showing(part, paths, conflicts))
+    }
+
+    /// The node with this plan, which has these conflicts.
+    fn showing(self, part: &Part<'_, '_>, paths: Vec<Path>, conflicts: Vec<Conflict>) -> FreeNode
+        requires node { IsFreeNode (alone part.now) self }
+        requires paths { HaveAllowedPaths (alone part.now) self.sets paths.items }
+        ensures same { IsSame (alone part.now) self result }
+    {
+        // That a plan has an agent, and at most 1,000, is known from a call alone.
+        let _paths = self.plan.paths();
+        let mut node = self;
+        node.plan = Plan::of(paths);
+        node.conflicts = conflicts;
+        node.is_bounded = false;
+        node
+    }
+
+    /// Some of its agents by themselves: nothing but their sets, their paths, and what least ones cost is known.
+    pub(crate) fn part(
+        &self,
+        alloc: Global,
+        part: &Part<'_, '_>,
+        agents: &[usize],
+    ) -> Result<FreeNode, NoMemory>
+        requires node { IsFreeNode (alone part.now) self.now }
+        requires some { 0 < length agents.now }
+        requires few { length agents.now ≤ length (alone part.now).inst.starts }
+        requires group { IsGroup (length (alone part.now).inst.starts) agents.now }
+        ensures { IfOk result (IsFreshNode (sets_in self.now.sets agents.now) (costs_in self.now.costs agents.now)
+            (paths_in self.now.plan agents.now)) }
+    {
+        let sets = some_sets(alloc, &self.sets, agents)?;
+        let costs = some_costs(alloc, &self.costs, agents)?;
+        let paths = some_paths(alloc, self.plan.paths(), agents)?;
+        let mut node = FreeNode::new(alloc, sets, costs, Plan::of(paths));
+        node.hints = hints_in(alloc, &self.groups, agents)?;
+        Ok(node)
+    }
+
+    /// The agents that are asked for next, if there are some that were not in vain before.
+    pub(crate) fn next_group(
+        &self,
+        alloc: Global,
+        vain: &[Vec<usize>],
+    ) -> Result<Option<Vec<usize>>, NoMemory>
+        ensures some { IfOk result (λ found. IfSome found (λ agents. 0 < length agents.items)) }
+        ensures few { IfOk result (λ found. IfSome found (λ agents. length agents.items < length self.now.sets)) }
+        ensures group { IfOk result (λ found. IfSome found (λ agents. IsGroup (length self.now.sets) agents.items)) }
+    {
+        let count = self.sets.len();
+        let guess = next_group(
+            alloc,
+            &self.hints,
+            &self.groups,
+            &self.conflicts,
+            count,
+            vain,
+        )?;
+        let Some(agents) = guess else {
+            return Ok(None);
+        };
+        if agents.is_empty() || agents.len() >= count || !are_group(&agents, count) {
+            return Ok(None);
+        }
+        Ok(Some(agents))
+    }
+
+    /// The node with what was found of a group, and whether its plan is shown then.
+    pub(crate) fn with_group(
+        self,
+        alloc: Global,
+        part: &Part<'_, '_>,
+        agents: &[usize],
+        found: Found,
+        occupancy: &mut Occupancy,
+    ) -> Result<(FreeNode, bool), NoMemory>
+        requires node { IsFreeNode (alone part.now) self }
+        requires group { IsGroupBound (alone part.now) self.sets agents.now found.least }
+        ensures { IfOk result (λ next. IsSame (alone part.now) self next.0) }
+    {
+        let mut paths = copy_paths(alloc, self.plan.paths())?;
+        let is_solved = adopt(part, &self.sets, agents, found.plan, &mut paths);
+        let mut conflicts = conflicts_again(
+            alloc,
+            part,
+            agents,
+            &paths,
+            &self.conflicts,
+            occupancy,
+        )?;
+        if is_solved {
+            let new = Vec::from_slice(alloc, agents)?;
+            settle_partners(
+                alloc,
+                part,
+                &self.sets,
+                &mut paths,
+                new,
+                &mut conflicts,
+                occupancy,
+            )?;
+        }
+        let mut groups = groups_without(alloc, &self.groups, agents, is_solved)?;
+        groups.push(GroupBound {
+            agents: Vec::from_slice(alloc, agents)?,
+            least: found.least,
+            is_solved,
+        })?;
+        let mut node = self.showing(part, paths, conflicts);
+        node.groups = groups;
+        Ok((node, is_solved))
+    }
+
+    /// The node with the label that its groups give; none where that is over the bound.
+    pub(crate) fn finished(
+        self,
+        alloc: Global,
+        part: &Part<'_, '_>,
+        occupancy: &mut Occupancy,
+    ) -> Result<Option<FreeNode>, NoMemory>
+        requires { IsFreeNode (alone part.now) self }
+        ensures { IfOk result (IsBounded (alone part.now) self) }
+    {
+        let least = self.least(alloc, part)?;
+        if least > u64::from(part.bound()) {
+            return Ok(None);
+        }
+        let node = self.raised(part, least);
+        Ok(Some(node.bounded(alloc, part, occupancy)?))
+    }
+
+    /// What each valid plan costs at least that obeys the sets, by the groups, or by both agents, where there are two.
+    fn least(&self, alloc: Global, part: &Part<'_, '_>) -> Result<u64, NoMemory>
+        requires { IsFreeNode (alone part.now) self.now }
+        ensures { IfOk result (IsLowerBoundOf (alone part.now) self.now.sets) }
+    {
+        if self.sets.len() == 2 && !self.conflicts.is_empty() && self.are_dependent(alloc, part)? {
+            // What a bound is at most is known from a call alone.
+            let _bound = part.bound();
+            return Ok(sum_of(&self.costs) + 1);
+        }
+        least_of_groups(alloc, part, &self.sets, &self.costs, &self.groups)
+    }
+
+    /// Whether it is known that its two agents collide on whichever least paths.
+    fn are_dependent(&self, alloc: Global, part: &Part<'_, '_>) -> Result<bool, NoMemory>
+        requires node { IsFreeNode (alone part.now) self.now }
+        requires two { length self.now.sets ≡ 2 }
+        ensures { IfOk result (λ known. IsTrue known → IsLowerBoundOf (alone part.now) self.now.sets (sum_by (λ c. c) self.now.costs + 1)) }
+    {
+        if self.label > sum_of(&self.costs) {
+            return Ok(false);
+        }
+        // What a bound is at most is known from a call alone.
+        let _bound = part.bound();
+        let one = part.agent(0, &self.sets[0], self.costs[0]);
+        let other = part.agent(1, &self.sets[1], self.costs[1]);
+        let mut budget = BUDGET;
+        are_dependent(alloc, part.rule(), &one, &other, &mut budget)
+    }
+
+    /// The node whose label was found from its groups: where its plan costs more than the label, it shows least paths instead.
+    fn bounded(
+        self,
+        alloc: Global,
+        part: &Part<'_, '_>,
+        occupancy: &mut Occupancy,
+    ) -> Result<FreeNode, NoMemory>
+        requires { IsFreeNode (alone part.now) self }
+        ensures same { IfOk result (IsSame (alone part.now) self) }
+        ensures bounded { IfOk result (λ node. node.is_bounded ≡ true) }
+    {
+        let mut node = self;
+        if node.plan.cost() > node.label {
+            node = node.with_least_paths(alloc, part, occupancy)?;
+        }
+        node.collisions = colliding_pairs(&node.conflicts);
+        node.changed = None;
+        node.hints = Vec::new(alloc);
+        node.is_bounded = true;
+        Ok(node)
+    }
+
+    /// The node that shows least paths.
+    fn with_least_paths(
+        self,
+        alloc: Global,
+        part: &Part<'_, '_>,
+        occupancy: &mut Occupancy,
+    ) -> Result<FreeNode, NoMemory>
+        requires { IsFreeNode (alone part.now) self }
+        ensures same { IfOk result (IsSame (alone part.now) self) }
+        ensures label { IfOk result (λ node. node.label ≡ self.label) }
+        ensures least { IfOk result (λ node. plan_cost node.plan ≤ node.label) }
+    {
+        let mut paths = copy_paths(alloc, self.plan.paths())?;
+        let new = take_least_paths(alloc, part, &self.sets, &self.costs, &mut paths)?;
+        let conflicts = conflicts_again(alloc, part, &new, &paths, &self.conflicts, occupancy)?;
+        let mut node = self;
+        node.plan = Plan::of(paths);
+        node.conflicts = conflicts;
+        node.is_bounded = false;
+        Ok(node)
+    }
+}
+
+/// Each agent whose path costs more than a least one takes a least one. Answers who did.
+fn take_least_paths(
+    alloc: Global,
+    part: &Part<'_, '_>,
+    sets: &[Constraints],
+    costs: &[u32],
+    paths: &mut Vec<Path>,
+) -> Result<Vec<usize>, NoMemory>
+    requires sets { length sets.now ≡ length (alone part.now).inst.starts }
+    requires costs { AreLeastCosts (alone part.now) sets.now costs.now }
+    requires paths { HaveAllowedPaths (alone part.now) sets.now paths.old.items }
+    ensures paths { OnOk result (HaveAllowedPaths (alone part.now) sets.now paths.new.items) }
+    ensures least { OnOk result ((i : ℕ) → i < length paths.new.items → cost (path_of paths.new.items i) ≤ slice_index_or costs.now i 0) }
+{
+    let mut new = Vec::new(alloc);
+    for agent in 0..paths.len() {
+        if paths[agent].cost() > costs[agent] {
+            if let Some(path) = part.least_path(
+                alloc,
+                agent,
+                &sets[agent],
+                part.bound(),
+                costs[agent],
+            )? {
+                paths[agent] = path;
+                new.push(agent)?;
+            }
+        }
+    }
+    Ok(new)
+}
+
+/// The agents of a group take the paths that were found, if there are some and each may take its own, and says whether they did.
+fn adopt(
+    part: &Part<'_, '_>,
+    sets: &[Constraints],
+    agents: &[usize],
+    found: Option<Vec<Path>>,
+    paths: &mut Vec<Path>,
+) -> bool
+    requires sets { length sets.now ≡ length (alone part.now).inst.starts }
+    requires paths { HaveAllowedPaths (alone part.now) sets.now paths.old.items }
+    ensures { HaveAllowedPaths (alone part.now) sets.now paths.new.items }
+{
+    let Some(found) = found else {
+        return false;
+    };
+    let mut is_solved = found.len() == agents.len();
+    for (agent, path) in agents.iter().zip(found) {
+        if !accept(part, sets, paths, *agent, path) {
+            is_solved = false;
+        }
+    }
+    is_solved
+}
