@@ -87,22 +87,47 @@ impl GroupCosts {
         requires { AreKnown part.now.problem self.now }
         ensures { IfOk result (λ known. IfSome known (λ found. IsLowerBoundOf (alone part.now) sets.now found.least)) }
     {
-        let Some(place) = self.places.get(&key_of(part.agents(), sets)) else {
+        let Some(known) = self.known_of(part, sets, effort) else {
             return Ok(None);
         };
-        let Some(known) = self.known.get(*place) else {
-            return Ok(None);
-        };
-        if known.plan.is_none() && known.effort < effort {
-            return Ok(None);
-        }
-        if !are_same_agents(&known.agents, part.agents()) || !are_same_sets(&known.sets, sets) {
-            return Ok(None);
-        }
         Ok(Some(Found {
             least: known.least,
             plan: copy_plan(alloc, &known.plan)?,
         }))
+    }
+
+    /// What they cost together at least, if that is known.
+    pub(crate) fn least(
+        &self,
+        part: &Part<'_, '_>,
+        sets: &[Constraints],
+        effort: usize,
+    ) -> Option<u64>
+        requires { AreKnown part.now.problem self.now }
+        ensures { IfSome result (IsLowerBoundOf (alone part.now) sets.now) }
+    {
+        Some(self.known_of(part, sets, effort)?.least)
+    }
+
+    /// What is known of the part's agents under these sets, if as much effort was made.
+    fn known_of(
+        &self,
+        part: &Part<'_, '_>,
+        sets: &[Constraints],
+        effort: usize,
+    ) -> Option<&KnownGroup>
+        requires { AreKnown part.now.problem self.now }
+        ensures { IfSome result (λ known. IsLowerBoundOf (alone part.now) sets.now known.now.least) }
+    {
+        let place = self.places.get(&key_of(part.agents(), sets))?;
+        let known = self.known.get(*place)?;
+        if known.plan.is_none() && known.effort < effort {
+            return None;
+        }
+        if !are_same_agents(&known.agents, part.agents()) || !are_same_sets(&known.sets, sets) {
+            return None;
+        }
+        Some(known)
     }
 
     /// Remembers what was found of the part's agents under these sets, with so much effort.

@@ -13,7 +13,8 @@ mod visit;
 
 pub(crate) use branching::branching_conflict;
 pub(crate) use conflicts::{
-    add_conflicts, colliding_pairs, conflicts_again, conflicts_without, hide, partners, show,
+    add_conflicts, colliding_pairs, conflicts_again, conflicts_among, conflicts_without, hide,
+    partners, show,
 };
 pub(crate) use few_conflicts::few_conflicts;
 pub(crate) use grouping::{hints_in, next_group};

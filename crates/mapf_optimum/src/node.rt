@@ -42,6 +42,8 @@ pub struct FreeNode {
     conflicts: Vec<Conflict>,
     /// Whose set has one constraint more than the parent's.
     changed: Option<usize>,
+    /// Whether all conflicts of the plan are known, and none changed.
+    is_known: bool,
     /// Groups whose plans were shown, of which nothing is known yet.
     hints: Vec<Vec<usize>>,
 }
@@ -59,6 +61,7 @@ impl Drop for FreeNode {
             is_bounded: _,
             conflicts: _,
             changed: _,
+            is_known: _,
             hints: _,
         } = self;
     }
@@ -122,6 +125,7 @@ impl FreeNode {
             is_bounded: false,
             conflicts: Vec::new(alloc),
             changed: None,
+            is_known: false,
             hints: Vec::new(alloc),
         }
     }
@@ -195,6 +199,7 @@ impl FreeNode {
             is_bounded: _,
             conflicts: _,
             changed: _,
+            is_known: _,
             hints: _,
         } = self;
         plan
@@ -258,6 +263,7 @@ impl FreeNode {
             is_bounded: false,
             conflicts: conflicts_without(alloc, &self.conflicts, agent)?,
             changed: Some(agent),
+            is_known: false,
             hints: solved_with(alloc, &self.groups, agent)?,
         })
     }

@@ -90,11 +90,6 @@ impl<'a, 'p> Part<'a, 'p> {
         &self.agents
     }
 
-    /// The agent's number in the part, if it is found there.
-    pub(crate) fn place_of(&self, agent: usize) -> Option<usize> {
-        self.agents.binary_search(&agent).ok()
-    }
-
     /// By which rule plans have conflicts.
     pub(crate) fn rule(&self) -> Rule
         ensures { result ≡ (alone self.now).rule }
@@ -180,7 +175,7 @@ impl<'a, 'p> Part<'a, 'p> {
 }
 
 /// All of so many agents.
-fn all_below(alloc: Global, agents: usize) -> Result<Vec<usize>, NoMemory>
+pub(crate) fn all_below(alloc: Global, agents: usize) -> Result<Vec<usize>, NoMemory>
     ensures long { IfOk result (λ all. length all.items ≡ agents) }
     ensures each { IfOk result (λ all. (i : ℕ) → i < agents → slice_index all.items i ≡ i) }
 {

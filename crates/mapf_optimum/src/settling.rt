@@ -8,7 +8,7 @@ use crate::allowed::is_allowed;
 use crate::guesses::{
     Occupancy, add_conflicts, conflicts_without, few_conflicts, hide, partners, show,
 };
-use crate::part::Part;
+use crate::part::{Part, all_below};
 use mapf_grid::NoMemory;
 use mapf_low::Constraints;
 use mapf_plan::{Conflict, Path};
@@ -17,15 +17,16 @@ use std::alloc::Global;
 /// How many times agents choose anew since another one did, at most.
 const MOST_ROUNDS: u32 = 4;
 
-/// The agent that changed, or each in turn where there is none, takes another path of the same cost with few conflicts, and then those
-/// that collide with it do, if they have fewer by that. The conflicts are those of the paths then, if they were those of the agents that
-/// didn't change before.
+/// The agent that changed, or each in turn where there is none and conflicts aren't known, takes another path of the same cost with few
+/// conflicts, and then those that collide do, if they have fewer by that. The conflicts are those of the paths then, if they were those
+/// of the agents that didn't change before.
 pub(crate) fn settle(
     alloc: Global,
     part: &Part<'_, '_>,
     sets: &[Constraints],
     paths: &mut Vec<Path>,
     changed: Option<usize>,
+    is_known: bool,
     conflicts: &mut Vec<Conflict>,
     occupancy: &mut Occupancy,
 ) -> Result<(), NoMemory>
@@ -33,11 +34,16 @@ pub(crate) fn settle(
     requires paths { HaveAllowedPaths (alone part.now) sets.now paths.old.items }
     ensures { OnOk result (HaveAllowedPaths (alone part.now) sets.now paths.new.items) }
 {
-    let is_new = first_to_settle(alloc, part, paths, changed, occupancy)?;
+    let is_new = first_to_settle(alloc, part, paths, changed, is_known, occupancy)?;
     for agent in &is_new {
         settle_one(alloc, part, sets, paths, *agent, conflicts, occupancy)?;
     }
-    settle_partners(alloc, part, sets, paths, is_new, conflicts, occupancy)
+    let who = if is_new.is_empty() {
+        all_below(alloc, paths.len())?
+    } else {
+        is_new
+    };
+    settle_partners(alloc, part, sets, paths, who, conflicts, occupancy)
 }
 
 /// Shows the paths, and answers who settles first.
@@ -46,6 +52,7 @@ fn first_to_settle(
     part: &Part<'_, '_>,
     paths: &[Path],
     changed: Option<usize>,
+    is_known: bool,
     occupancy: &mut Occupancy,
 ) -> Result<Vec<usize>, NoMemory> {
     let mut first = Vec::new(alloc);
@@ -56,7 +63,11 @@ fn first_to_settle(
         first.push(agent)?;
         return Ok(first);
     }
-    for agent in 0..paths.len() {
+    if is_known {
+        return Ok(first);
+    }
+    // The first one has nobody to avoid.
+    for agent in 1..paths.len() {
         hide(part, agent, occupancy);
         first.push(agent)?;
     }

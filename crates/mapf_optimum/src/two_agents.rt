@@ -72,10 +72,13 @@ pub fn least_of_two(
     let mut sets = Vec::with_capacity(alloc, 2)?;
     sets.push_reserved(first_set);
     sets.push_reserved(second_set);
+    let part = Part::of(low, agents);
+    if let Some(least) = known.least(&part, &sets, EFFORT) {
+        return Ok(least);
+    }
     let mut paths = Vec::with_capacity(alloc, 2)?;
     paths.push_reserved(one.copy(alloc)?);
     paths.push_reserved(other.copy(alloc)?);
-    let part = Part::of(low, agents);
     let node = FreeNode::new(alloc, sets, costs, Plan::of(paths));
     guide.left = PAIR_NODES;
     let found = ask(alloc, &part, node, EFFORT, known, guide)?;

@@ -103,15 +103,15 @@ pub(crate) fn add_conflicts(
     let mut found = Vec::new(alloc);
     occupancy.add_conflicts(*number, path, &mut found)?;
     for conflict in &found {
-        if let Some(conflict) = in_part(part, conflict) {
+        if let Some(conflict) = among(part.agents(), conflict) {
             conflicts.push(conflict)?;
         }
     }
     Ok(())
 }
 
-/// The conflict by the agents' numbers in the part, if both are in it.
-fn in_part(part: &Part<'_, '_>, conflict: &Conflict) -> Option<Conflict> {
+/// The conflict by the places of its agents among these, if both are there.
+fn among(agents: &[usize], conflict: &Conflict) -> Option<Conflict> {
     Some(match *conflict {
         Conflict::Vertex {
             time,
@@ -120,8 +120,8 @@ fn in_part(part: &Part<'_, '_>, conflict: &Conflict) -> Option<Conflict> {
             cell,
         } => Conflict::Vertex {
             time,
-            first: part.place_of(first)?,
-            second: part.place_of(second)?,
+            first: agents.binary_search(&first).ok()?,
+            second: agents.binary_search(&second).ok()?,
             cell,
         },
         Conflict::Swapping {
@@ -132,8 +132,8 @@ fn in_part(part: &Part<'_, '_>, conflict: &Conflict) -> Option<Conflict> {
             to,
         } => Conflict::Swapping {
             time,
-            first: part.place_of(first)?,
-            second: part.place_of(second)?,
+            first: agents.binary_search(&first).ok()?,
+            second: agents.binary_search(&second).ok()?,
             from,
             to,
         },
@@ -144,8 +144,8 @@ fn in_part(part: &Part<'_, '_>, conflict: &Conflict) -> Option<Conflict> {
             cell,
         } => Conflict::Following {
             time,
-            follower: part.place_of(follower)?,
-            leader: part.place_of(leader)?,
+            follower: agents.binary_search(&follower).ok()?,
+            leader: agents.binary_search(&leader).ok()?,
             cell,
         },
     })
@@ -172,4 +172,19 @@ pub(crate) fn conflicts_again(
         }
     }
     Ok(conflicts)
+}
+
+/// The conflicts that these agents have with one another, by their places.
+pub(crate) fn conflicts_among(
+    alloc: Global,
+    conflicts: &[Conflict],
+    agents: &[usize],
+) -> Result<Vec<Conflict>, NoMemory> {
+    let mut found = Vec::new(alloc);
+    for conflict in conflicts {
+        if let Some(conflict) = among(agents, conflict) {
+            found.push(conflict)?;
+        }
+    }
+    Ok(found)
 }

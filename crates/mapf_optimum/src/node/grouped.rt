@@ -11,7 +11,9 @@ use super::FreeNode;
 use crate::agents::{copy_paths, some_costs, some_paths, some_sets, sum_of};
 use crate::group_bound::{GroupBound, are_group, groups_without, least_of_groups};
 use crate::group_costs::Found;
-use crate::guesses::{Occupancy, colliding_pairs, conflicts_again, hints_in, next_group};
+use crate::guesses::{
+    Occupancy, colliding_pairs, conflicts_again, conflicts_among, hints_in, next_group,
+};
 use crate::pairs::are_dependent;
 use crate::part::Part;
 use crate::settling::{accept, settle, settle_partners};
@@ -42,6 +44,7 @@ impl FreeNode {
             &self.sets,
             &mut paths,
             self.changed,
+            self.is_known,
             &mut conflicts,
             occupancy,
         )?;
@@ -82,6 +85,8 @@ impl FreeNode {
         let paths = some_paths(alloc, self.plan.paths(), agents)?;
         let mut node = FreeNode::new(alloc, sets, costs, Plan::of(paths));
         node.hints = hints_in(alloc, &self.groups, agents)?;
+        node.conflicts = conflicts_among(alloc, &self.conflicts, agents)?;
+        node.is_known = true;
         Ok(node)
     }
 
@@ -224,6 +229,7 @@ impl FreeNode {
         }
         node.collisions = colliding_pairs(&node.conflicts);
         node.changed = None;
+        node.is_known = false;
         node.hints = Vec::new(alloc);
         node.is_bounded = true;
         Ok(node)
