@@ -1,11 +1,9 @@
 //! The solver: from the bytes of two files to the bytes of the answer, with any number of workers.
 #![tactic(auto)]
 
-mod alone;
 mod answers;
-mod any_answers;
-mod any_runs;
 mod ask;
+mod asked;
 pub mod laws;
 mod means;
 mod pace;
@@ -17,12 +15,10 @@ mod sessions;
 mod sessions_alone;
 mod solving;
 mod wanted;
-mod watch;
 
-pub use alone::answer_alone;
-pub use answers::{answer, answer_watched};
-pub use any_answers::{answer_any, answer_any_alone, answer_any_watched};
-pub use any_runs::{run_any, run_any_watched};
+pub use answers::{
+    answer, answer_alone, answer_any, answer_any_alone, answer_any_watched, answer_watched,
+};
 pub use ask::Ask;
 pub use mapf_bounds::solve_by_bounds;
 pub use mapf_tree::{NoWatch, Watch};
@@ -30,5 +26,5 @@ pub use means::Means;
 pub use pace::{MOST_SESSION_NODES, MOST_WORKER_TURNS, Pace};
 pub use refusal::Refusal;
 pub use run_fault::RunFault;
-pub use runs::{run, run_watched};
+pub use runs::{run, run_any, run_any_watched, run_watched};
 pub use solving::{solve, solve_paced, solve_watched, solve_with};

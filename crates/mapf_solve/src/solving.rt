@@ -4,14 +4,13 @@ ghost use Rattle.std.specs.Prelude.{◌≡◌, ◌<◌, ◌≤◌, IfOk, None, O
 ghost use Rattle.mapf_tree.specs.Answered.{IsAnswerOf, IsBestAnswer};
 ghost use Rattle.mapf_board.specs.declared.limits.TheConstants.{MOST_WORKERS};
 ghost use Rattle.mapf_bounds.specs.Told as by_bounds;
-ghost use Rattle.mapf_solve.specs.Told.{IsWatched};
+ghost use Rattle.mapf_solve.specs.Told.{IsWatched, Tells};
 ghost use Rattle.mapf_solve.specs.declared.pace.TheConstants.{MOST_SESSION_NODES, MOST_WORKER_TURNS};
 
 use crate::means::Means;
 use crate::pace::{MOST_SESSION_NODES, MOST_WORKER_TURNS, Pace};
 use crate::rounds::root;
 use crate::sessions::{Lookahead, OneProblem, SessionSearch, session};
-use crate::watch::tell;
 use mapf_board::{AlwaysGrants, Gate, Supply};
 use mapf_bounds::finish_by_bounds;
 use mapf_grid::NoMemory;
@@ -162,4 +161,17 @@ fn begin<'p, P: OneProblem, R: Threads + Sync, G: Gate, S: Supply>(
     let root = root(means, problem, first)?;
     let search = Search::from_root(means.alloc, problem, root)?;
     Ok(SessionSearch { search, lookahead })
+}
+
+/// Tells a watch how far a search has come, unless the tree has no root or memory ran out.
+fn tell<W: Watch>(watch: &mut W, search: &Search<'_>)
+    ensures { Tells W.told search.now watch.old watch.new }
+{
+    if search.last().is_none() && search.waiting().is_empty() {
+        return;
+    }
+    let nodes = search.taken_nodes();
+    if let Some(least) = search.lower_bound() {
+        watch.nodes_expanded(nodes, least);
+    }
 }

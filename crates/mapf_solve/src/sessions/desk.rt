@@ -14,17 +14,8 @@ use std::marker::PhantomData;
 /// One of the slots of a board.
 #[derive(Clone, Copy)]
 pub(crate) struct Slot {
-    number: usize,
+    pub(crate) number: usize,
     ghost of_board: { number < MOST_SLOTS },
-}
-
-impl Slot {
-    /// The slot of this number.
-    pub(crate) fn at(number: usize) -> Slot
-        requires { number < MOST_SLOTS }
-    {
-        Slot { number }
-    }
 }
 
 /// What a board gives back for a job.
@@ -83,21 +74,11 @@ impl<'p, 's, P: OneProblem, B: OneBoard> Desk<'p, 's, P, B> {
         self.numbers.iter().any(|number| number.is_some())
     }
 
-    /// The first slot that has no job.
-    pub(crate) fn free_slot(&self) -> Option<Slot> {
+    /// The first slot whose job has this number, or without one the first that has no job.
+    pub(crate) fn slot_with(&self, job: Option<u64>) -> Option<Slot> {
         for number in 0..MOST_SLOTS {
-            if self.numbers[number].is_none() {
-                return Some(Slot::at(number));
-            }
-        }
-        None
-    }
-
-    /// The slot whose job has this number.
-    pub(crate) fn slot_of(&self, number: u64) -> Option<Slot> {
-        for place in 0..MOST_SLOTS {
-            if self.numbers[place] == Some(number) {
-                return Some(Slot::at(place));
+            if self.numbers[number] == job {
+                return Some(Slot { number });
             }
         }
         None

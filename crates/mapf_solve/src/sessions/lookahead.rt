@@ -23,7 +23,7 @@ pub(crate) type Numbers = (Option<u64>, Option<u64>);
 pub(crate) struct Lookahead<'p, P: OneProblem> {
     alloc: Global,
     /// Boxed, since a session takes what is handed on and gives it back.
-    own_paths: Box<OwnPaths<'p>>,
+    pub(crate) own_paths: Box<OwnPaths<'p>>,
     /// The nodes that wait and were asked for their children: the numbers of the jobs.
     asked: BTreeMap<Key, Numbers>,
     /// How many workers there are.
@@ -122,25 +122,15 @@ impl<'p, P: OneProblem> Lookahead<'p, P> {
         Some(job)
     }
 
-    /// Performs a job that nobody claimed: its path is remembered, unless memory runs out.
-    pub(crate) fn perform(&mut self, job: &SideJob<'p>)
-        requires { job.now.query.problem ≡ P.problem }
-    {
-        self.own_paths.search(job.node(), job.query());
-    }
-
     /// Keeps what a worker left: the path of the child, or nothing where there was no memory for it.
     pub(crate) fn keep(&mut self, given: Given<'p>)
         requires { IsGivenOf P.problem given }
         ensures { self.old.alone.children < u64.MAX
             → self.new.alone.children ≡ self.old.alone.children + children_in given.entry }
     {
-        match given {
-            Left::Answer(pair) => {
-                self.alone.count();
-                self.learn(pair);
-            }
-            Left::Job(_dropped) => {}
+        if let Left::Answer(pair) = given {
+            self.alone.count();
+            self.learn(pair);
         }
     }
 

@@ -65,7 +65,7 @@ impl<'p, 's, P: OneProblem, B: OneBoard, G> SessionSource<'p, 's, P, B, G> {
     fn post(&mut self, node: &Node)
         requires { IsBranching P.problem node.now }
     {
-        if self.lookahead.has_asked(node) || self.desk.free_slot().is_none() {
+        if self.lookahead.has_asked(node) || self.desk.slot_with(None).is_none() {
             return;
         }
         let left = self.post_side(node, Side::Left);
@@ -77,7 +77,7 @@ impl<'p, 's, P: OneProblem, B: OneBoard, G> SessionSource<'p, 's, P, B, G> {
     fn post_side(&mut self, node: &Node, side: Side) -> Option<u64>
         requires { IsBranching P.problem node.now }
     {
-        let slot = self.desk.free_slot()?;
+        let slot = self.desk.slot_with(None)?;
         let job = self.lookahead.job(node, side)?;
         let number = job.number();
         self.desk.post(slot, job);
@@ -89,7 +89,7 @@ impl<'p, 's, P: OneProblem, B: OneBoard, G> SessionSource<'p, 's, P, B, G> {
     fn fetch(&mut self, number: Option<u64>) -> Option<SideJob<'p>>
         ensures { IfSome result (λ job. job.query.problem ≡ P.problem) }
     {
-        let slot = self.desk.slot_of(number?)?;
+        let slot = self.desk.slot_with(Some(number?))?;
         let Err(Found::Posted) = self.keep_done(slot) else {
             return None;
         };
@@ -123,7 +123,8 @@ impl<'p, 's, P: OneProblem, B: OneBoard, G: Gate> Children for SessionSource<'p,
             if let Some(job) = self.fetch(number) {
                 let number = job.number();
                 self.gate.enter(number);
-                self.lookahead.perform(&job);
+                let lookahead = &mut self.lookahead;
+                lookahead.own_paths.search(job.node(), job.query());
                 self.gate.leave(number);
             }
         }
@@ -138,7 +139,7 @@ impl<'p, 's, P: OneProblem, B: OneBoard, G: Gate> Children for SessionSource<'p,
             return;
         }
         for number in 0..MOST_SLOTS {
-            let slot = Slot::at(number);
+            let slot = Slot { number };
             if self.desk.is_used(slot) {
                 let _done = self.keep_done(slot);
             }

@@ -1,6 +1,6 @@
 use Rattle.std.proofs.Common.{IfSome, IsErr, MatchOption, inr, subst}
 use Rattle.mapf_tree.specs.LowerBound.{IsBelowAll, IsLowerBound}
-use Rattle.mapf_solve.proofs.watch.tell.Goals as goal
+use Rattle.mapf_solve.proofs.solving.tell.Goals as goal
 
 pub returns-in-Some : goal.returns-in-Some
 returns-in-Some g c =

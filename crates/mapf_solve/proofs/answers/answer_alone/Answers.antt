@@ -1,6 +1,6 @@
 use Rattle.mapf_solve.proofs.Answering.{answered_is_best, answered_keeps_limit}
 use Rattle.mapf_solve.proofs.OneOut.{only_text, only_fault}
-use Rattle.mapf_solve.proofs.alone.answer_alone.Goals as goal
+use Rattle.mapf_solve.proofs.answers.answer_alone.Goals as goal
 
 pub returns-clause-best : goal.returns-clause-best
 returns-clause-best c = answered_is_best (λ bytes. bytes.items) c.args.map.now c.args.scen.now c.args.ask _ c.text_or_fault_alone.ensures.text

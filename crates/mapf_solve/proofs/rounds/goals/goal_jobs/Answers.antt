@@ -2,7 +2,7 @@ use Rattle.std.proofs.Common.{ℕ, arith, ap, ◌∙◌}
 use Rattle.mapf_grid.specs.Grid.{Grid}
 use Rattle.mapf_solve.specs.Rounds.{WantedTable, wanted_table}
 use Rattle.mapf_solve.proofs.AgentJobs.{as_many, jobs_more}
-use Rattle.mapf_solve.proofs.rounds.tables.goal_jobs.Goals as goal
+use Rattle.mapf_solve.proofs.rounds.goals.goal_jobs.Goals as goal
 
 pub push_reserved-requires : goal.push_reserved-requires
 push_reserved-requires c = omega (arith, as_many (wanted_table c.args.instance.now) c.loop-agent.agent c.loop-agent.jobs.items c.loop-agent.invariant.0, c.loop-agent.invariant.1)

@@ -3,7 +3,7 @@ use Rattle.mapf_grid.specs.Grid.{Grid}
 use Rattle.mapf_grid.specs.Instance.{Instance}
 use Rattle.mapf_plan.specs.Text.{CanWrite}
 use Rattle.mapf_solve.proofs.Answering.{can_write}
-use Rattle.mapf_solve.proofs.answers.spell.Goals as goal
+use Rattle.mapf_solve.proofs.asked.spell.Goals as goal
 
 pub write-requires : goal.write-requires
 write-requires c =
