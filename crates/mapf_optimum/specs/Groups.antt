@@ -71,6 +71,10 @@ AreOf old new = (g : GroupBound) → Contains new g → (k : GroupBound) × Cont
 abbrev pub AreKnown : Problem → List KnownGroup → Type 0
 AreKnown problem known = (k : KnownGroup) → Contains known k → IsLowerBoundOf (part_of problem k.agents.items) k.sets.items k.least
 
+-- what an agent is forbidden by the first of these sets it is by the second ones, too
+abbrev pub AreWithin : List (List Constraint) → List (List Constraint) → Type 0
+AreWithin few more = (i : ℕ) → AllByRecursion (Contains (slice_index_or more i [])) (slice_index_or few i [])
+
 -- a candidate has a candidate of each group
 abbrev pub GroupsRestrict : Type 0
 GroupsRestrict =

@@ -1,14 +1,15 @@
 //! What groups of agents cost together, by what they are forbidden: each is searched once, as long as it is remembered.
 
 ghost use Rattle.std.specs.Prelude.{◌≡◌, [], Contains, IfOk, IfSome, IsTrue};
+ghost use Rattle.std.specs.List.{AllByRecursion};
 ghost use Rattle.mapf_optimum.specs.FreeTree.{IsLowerBoundOf};
-ghost use Rattle.mapf_optimum.specs.Groups.{AreKnown, alone};
+ghost use Rattle.mapf_optimum.specs.Groups.{AreKnown, AreWithin, alone, part_of};
 ghost use Rattle.mapf_optimum.specs.declared.group_costs.KnownGroup.{KnownGroup};
 
 use crate::agents::{copy_paths, copy_sets};
 use crate::part::Part;
 use mapf_grid::NoMemory;
-use mapf_low::Constraints;
+use mapf_low::{Constraint, Constraints};
 use mapf_plan::Path;
 use std::alloc::Global;
 use std::collections::HashMap;
@@ -16,6 +17,9 @@ use std::marker::Model;
 
 /// How many groups are remembered, at most: then all are forgotten.
 const MOST_KNOWN: usize = 50_000;
+
+/// How much of what is known of some agents is looked at, at most, the last first.
+const MOST_TRIED: usize = 16;
 
 /// What a search among the plans of some agents found.
 #[derive(Drop)]
@@ -37,6 +41,8 @@ pub struct KnownGroup {
     plan: Option<Vec<Path>>,
     /// With how much effort a plan was looked for.
     effort: usize,
+    /// Where what was known last of the same agents stands.
+    before: Option<usize>,
 }
 
 /// What is known of groups of a problem's agents.
@@ -44,6 +50,8 @@ pub struct GroupCosts {
     known: Vec<KnownGroup>,
     /// Where a group is looked for: what is found there is compared.
     places: HashMap<u64, usize>,
+    /// Where what is known last of some agents stands.
+    lasts: HashMap<u64, usize>,
 }
 
 // By hand, so that a proof about what holds one sees a call where it is dropped, and not its fields.
@@ -52,6 +60,7 @@ impl Drop for GroupCosts {
         let GroupCosts {
             known: _,
             places: _,
+            lasts: _,
         } = self;
     }
 }
@@ -73,6 +82,7 @@ impl GroupCosts {
         GroupCosts {
             known: Vec::new(alloc),
             places: HashMap::new(alloc),
+            lasts: HashMap::new(alloc),
         }
     }
 
@@ -130,6 +140,23 @@ impl GroupCosts {
         Some(known)
     }
 
+    /// What the part's agents cost together at least, by what is known of them under fewer constraints.
+    pub(crate) fn least_under_fewer(&self, part: &Part<'_, '_>, sets: &[Constraints]) -> u64
+        requires { AreKnown part.now.problem self.now }
+        ensures { IsLowerBoundOf (alone part.now) sets.now result }
+    {
+        let mut least = 0;
+        let mut place = self.lasts.get(&agents_key(part.agents())).copied();
+        for _tried in 0..MOST_TRIED {
+            let Some(known) = place.and_then(|place| self.known.get(place)) else {
+                return least;
+            };
+            least = least.max(least_if_fewer(known, part, sets));
+            place = known.before;
+        }
+        least
+    }
+
     /// Remembers what was found of the part's agents under these sets, with so much effort.
     pub(crate) fn learn(
         &mut self,
@@ -146,12 +173,14 @@ impl GroupCosts {
         let key = key_of(part.agents(), sets);
         self.make_room();
         let number = self.known.len();
+        let before = self.lasts.insert(agents_key(part.agents()), number)?;
         self.known.push(KnownGroup {
             agents: Vec::from_slice(alloc, part.agents())?,
             sets: copy_sets(alloc, sets)?,
             least: found.least,
             plan: copy_plan(alloc, &found.plan)?,
             effort,
+            before,
         })?;
         self.places.insert(key, number)?;
         Ok(())
@@ -164,8 +193,50 @@ impl GroupCosts {
         if self.known.len() >= MOST_KNOWN {
             self.known.clear();
             self.places.clear();
+            self.lasts.clear();
         }
     }
+}
+
+/// What is known of a group, where that is the part's agents under fewer constraints, or else 0.
+fn least_if_fewer(known: &KnownGroup, part: &Part<'_, '_>, sets: &[Constraints]) -> u64
+    requires { IsLowerBoundOf (part_of part.now.problem known.now.agents.items) known.now.sets.items known.now.least }
+    ensures { IsLowerBoundOf (alone part.now) sets.now result }
+{
+    if !are_same_agents(&known.agents, part.agents()) || !are_within(&known.sets, sets) {
+        return 0;
+    }
+    known.least
+}
+
+/// Whether the constraints of each of these sets are among those of the other ones.
+fn are_within(few: &[Constraints], more: &[Constraints]) -> bool
+    ensures { IsTrue result → AreWithin few.now more.now }
+{
+    if few.len() != more.len() {
+        return false;
+    }
+    for place in 0..few.len() {
+        if !is_within(few[place].as_slice(), more[place].as_slice()) {
+            return false;
+        }
+    }
+    true
+}
+
+/// Whether these constraints are among the other ones.
+fn is_within(few: &[Constraint], more: &[Constraint]) -> bool
+    ensures { IsTrue result → AllByRecursion (Contains more.now) few.now }
+{
+    if few.len() > more.len() {
+        return false;
+    }
+    for constraint in few {
+        if !more.contains(constraint) {
+            return false;
+        }
+    }
+    true
 }
 
 /// Equal paths, if there are some.

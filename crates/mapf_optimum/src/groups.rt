@@ -44,7 +44,8 @@ pub(crate) fn ask(
         return Ok(found);
     }
     let sets = copy_sets(alloc, node.sets())?;
-    let found = look_for(alloc, part, node, effort, known, guide)?;
+    let least = known.least_under_fewer(part, &sets);
+    let found = look_for(alloc, part, node.raised(part, least), effort, known, guide)?;
     if found.plan.is_none() {
         guide.add_failure(part.agents())?;
     }
