@@ -1,14 +1,10 @@
--- What least paths of all agents cost.
-use Rattle.std.proofs.Common.{◌≡◌, ℕ, suc, ◌<◌, ◌≤◌, List, [], ◌∷◌, length, get_or, subst, sym, ◌∙◌, arith}
+-- Numbers beside what the paths of a plan cost.
+use Rattle.std.proofs.Common.{◌≡◌, ℕ, suc, ◌<◌, ◌≤◌, List, [], ◌∷◌, length, get_or, ◌∙◌, arith}
 use Rattle.std.specs.List.{sum_by}
 use Rattle.std.proofs.lemmas.List.{get_or_default}
 use Rattle.std.proofs.lemmas.List.Sums.{sum_by-cons}
 use Rattle.mapf_plan.specs.Path.{cost}
 use Rattle.mapf_plan.specs.Plan.{path_of, plan_cost}
-use Rattle.mapf_low.specs.declared.constraint.Constraint.{Constraint}
-use Rattle.mapf_tree.specs.Problem.{Problem}
-use Rattle.mapf_optimum.specs.FreeTree.{AreLeastCosts, IsLowerBoundOf}
-use Rattle.mapf_optimum.proofs.LeastPaths.{takes_allowed}
 
 -- numbers that are no more than what the paths cost come to no more
 pub costs_at_most : (costs : List ℕ) (plan : List (List ℕ)) → length costs ≡ length plan → ((i : ℕ) → i < length costs → get_or costs i 0 ≤ cost (path_of plan i)) → sum_by (λ k. k) costs ≤ plan_cost plan
@@ -25,12 +21,6 @@ costs_at_least [] (p ∷ ps) size each = absurd (omega (arith, size))
 costs_at_least (c ∷ cs) [] size each = absurd (omega (arith, size))
 costs_at_least (c ∷ cs) (p ∷ ps) size each =
     omega (arith, sum_by-cons (λ k. k) c cs, sum_by-cons cost p ps, each 0 (omega arith), costs_at_least cs ps (omega (arith, size)) (λ i h. each (suc i) (omega (arith, h))))
-
--- so what least paths cost is a lower bound
-pub costs_are_below : (problem : Problem) (sets : List (List Constraint)) (costs : List ℕ) → AreLeastCosts problem sets costs → IsLowerBoundOf problem sets (sum_by (λ k. k) costs)
-costs_are_below problem sets costs are other candidate =
-    costs_at_most costs other (are.agents ∙ sym candidate.valid.agents)
-    (λ i h. let l : i < length problem.inst.starts = subst (λ n. i < n) are.agents h in let w = are.each i l in omega (arith, w.2, w.1.least (path_of other i) (takes_allowed problem sets other candidate i l)))
 
 -- a number, as it is read
 pub number_at : (costs : List ℕ) (a k : ℕ) → k ≡ get_or costs a k → a < length costs → k ≡ get_or costs a 0

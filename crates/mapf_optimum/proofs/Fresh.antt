@@ -11,7 +11,7 @@ use Rattle.mapf_tree.specs.Problem.{Problem}
 use Rattle.mapf_optimum.specs.declared.group_bound.GroupBound.{GroupBound}
 use Rattle.mapf_optimum.specs.FreeTree.{FreeNode, IsFreeNode, AreGroupBounds, AreLeastCosts, HaveAllowedPaths, HaveLeastPaths, IsLowerBoundOf}
 use Rattle.mapf_optimum.specs.FreeSearch.{IsFreshNode}
-use Rattle.mapf_optimum.proofs.Costs.{costs_are_below}
+use Rattle.mapf_optimum.proofs.LeastPaths.{costs_below}
 
 -- least paths are paths that the agents may take
 pub least_allowed : (problem : Problem) (sets : List (List Constraint)) (plan : List (List ℕ)) → HaveLeastPaths problem sets plan → HaveAllowedPaths problem sets plan
@@ -40,7 +40,7 @@ fresh_is problem node sets costs plan fresh size least paths within = record {
   alone = omega (arith, fresh.by_cost, sums);
   dear = λ bounded. absurd (true≢false (sym bounded ∙ fresh.unbounded));
   within = omega (arith, fresh.by_cost, within);
-  below = λ other candidate. omega (arith, fresh.by_cost, sums, costs_are_below problem node.sets node.costs there other candidate);
+  below = λ other candidate. omega (arith, fresh.by_cost, sums, costs_below problem node.sets node.costs there other candidate);
 }
   where
     there : AreLeastCosts problem node.sets node.costs

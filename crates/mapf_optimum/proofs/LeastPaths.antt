@@ -1,8 +1,8 @@
 -- What least paths cost is a lower bound on each candidate.
-use Rattle.std.proofs.Common.{◌≡◌, ℕ, suc, ◌<◌, ◌≤◌, List, [], ◌∷◌, length, get_or, subst, sym, ◌∙◌, ⊎_elim, arith}
+use Rattle.std.proofs.Common.{ℕ, ◌<◌, ◌≤◌, List, [], length, get_or, subst, sym, ◌∙◌, ⊎_elim, arith}
 use Rattle.std.proofs.lemmas.Bool.{cases_lt}
 use Rattle.std.specs.List.{sum_by}
-use Rattle.std.proofs.lemmas.List.Sums.{get_or-le-sum_by, sum_by-cons}
+use Rattle.std.proofs.lemmas.List.Sums.{get_or-le-sum_by}
 use Rattle.mapf_grid.proofs.Lists.{sum_by-le}
 use Rattle.mapf_plan.specs.Path.{cost}
 use Rattle.mapf_plan.specs.Plan.{path_of, plan_cost}
@@ -11,6 +11,7 @@ use Rattle.mapf_low.proofs.OwnPaths.{own_path_costs}
 use Rattle.mapf_tree.specs.Problem.{Problem}
 use Rattle.mapf_tree.specs.Tree.{IsAllowedFor, IsOwnPathOf}
 use Rattle.mapf_optimum.specs.FreeTree.{IsCandidate, IsLeastPathOf, HaveLeastPaths, AreLeastCosts, IsLowerBoundOf}
+use Rattle.mapf_optimum.proofs.Costs.{costs_at_most}
 
 -- each agent's path in a candidate is one that it may take
 pub takes_allowed : (problem : Problem) (sets : List (List Constraint)) (other : List (List ℕ)) → IsCandidate problem sets other → (i : ℕ) → i < length problem.inst.starts →
@@ -37,18 +38,10 @@ pub pays_cost : (problem : Problem) (sets : List (List Constraint)) (costs : Lis
 pays_cost problem sets costs are other candidate i h =
     let w = are.each i h in omega (arith, w.2, w.1.least (path_of other i) (takes_allowed problem sets other candidate i h))
 
--- costs that are each at most a path's
-sum_at_most : (costs : List ℕ) (plan : List (List ℕ)) → length costs ≡ length plan → ((i : ℕ) → i < length costs → get_or costs i 0 ≤ cost (path_of plan i)) → sum_by (λ c. c) costs ≤ plan_cost plan
-sum_at_most [] [] n h = omega arith
-sum_at_most [] (y ∷ ys) n h = absurd (omega (arith, n))
-sum_at_most (x ∷ xs) [] n h = absurd (omega (arith, n))
-sum_at_most (x ∷ xs) (y ∷ ys) n h =
-    omega (arith, sum_by-cons (λ c. c) x xs, sum_by-cons cost y ys, h 0 (omega arith), sum_at_most xs ys (omega (arith, n)) (λ i l. h (suc i) (omega (arith, l))))
-
 -- so what least paths cost is no more than a candidate costs
 pub costs_below : (problem : Problem) (sets : List (List Constraint)) (costs : List ℕ) → AreLeastCosts problem sets costs → IsLowerBoundOf problem sets (sum_by (λ c. c) costs)
 costs_below problem sets costs are other candidate =
-    sum_at_most costs other (are.agents ∙ sym candidate.valid.agents) (λ i h. pays_cost problem sets costs are other candidate i (subst (λ n. i < n) are.agents h))
+    costs_at_most costs other (are.agents ∙ sym candidate.valid.agents) (λ i h. pays_cost problem sets costs are other candidate i (subst (λ n. i < n) are.agents h))
 
 -- an own path is a least one
 pub own_is_least : (problem : Problem) (i : ℕ) (cs : List Constraint) (path : List ℕ) → IsOwnPathOf problem i cs path → IsLeastPathOf problem i cs path

@@ -21,8 +21,8 @@ use Rattle.mapf_optimum.specs.FreeTree.{FreeNode, unnamed, IsFreeNode, IsCandida
 use Rattle.mapf_optimum.specs.FreeSearch.{AreSideSets, IsSideOf, IsSame, IsLeastWithin, IsLeftFor}
 use Rattle.mapf_optimum.specs.Groups.{AreOf}
 use Rattle.mapf_optimum.specs.Laws.{HasASide}
-use Rattle.mapf_optimum.proofs.LeastPaths.{takes_allowed, least_by_bound}
-use Rattle.mapf_optimum.proofs.Costs.{costs_at_most, costs_are_below, number_at}
+use Rattle.mapf_optimum.proofs.LeastPaths.{costs_below, takes_allowed, least_by_bound}
+use Rattle.mapf_optimum.proofs.Costs.{costs_at_most, number_at}
 use Rattle.mapf_optimum.proofs.SideSets.{side_agents, side_own, side_other, obeys_new, obeys_old}
 
 -- groups' bounds hold of fewer candidates, too
@@ -134,7 +134,7 @@ module _ (problem : Problem) (node : FreeNode) (c : Conflict) (s : Side) (is : I
         dear = λ bounded. absurd (true≢false (sym bounded ∙ fresh));
         within = omega (arith, label, is.within, ap (λ l. sum_by (λ k. k) l) costs, changed, left, least.allowed.within);
         below = λ other candidate.
-            omega (arith, label, is.below other (candidate_here other (subst (λ l. IsCandidate problem l other) sets candidate)), costs_are_below problem child.sets child.costs there other candidate);
+            omega (arith, label, is.below other (candidate_here other (subst (λ l. IsCandidate problem l other) sets candidate)), costs_below problem child.sets child.costs there other candidate);
       }
         where
           there : AreLeastCosts problem child.sets child.costs

@@ -7,16 +7,17 @@ mod few_conflicts;
 mod grouping;
 mod guide;
 mod known_costs;
+mod known_ways;
 mod marks;
 mod occupancy;
 mod visit;
+mod ways;
 
 pub(crate) use branching::branching_conflict;
 pub(crate) use conflicts::{
-    add_conflicts, colliding_pairs, conflicts_again, conflicts_among, conflicts_without, hide,
-    partners, show,
+    add_conflicts, are_better, colliding_pairs, conflicts_again, conflicts_among,
+    conflicts_without, hide, partners, show,
 };
-pub(crate) use few_conflicts::few_conflicts;
 pub(crate) use grouping::{hints_in, next_group};
 pub use guide::Guide;
 pub(crate) use known_costs::KnownCosts;

@@ -11,6 +11,7 @@ mod guesses;
 pub mod laws;
 mod low_level;
 mod node;
+mod other_paths;
 mod pair_bound;
 mod pairs;
 mod part;

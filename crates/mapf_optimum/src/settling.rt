@@ -5,8 +5,9 @@ ghost use Rattle.mapf_optimum.specs.FreeTree.{HaveAllowedPaths};
 ghost use Rattle.mapf_optimum.specs.Groups.{alone};
 
 use crate::allowed::is_allowed;
+use crate::group_bound::GroupBound;
 use crate::guesses::{
-    Occupancy, add_conflicts, conflicts_without, few_conflicts, hide, partners, show,
+    Occupancy, add_conflicts, are_better, conflicts_without, hide, partners, show,
 };
 use crate::part::{Part, all_below};
 use mapf_grid::NoMemory;
@@ -25,6 +26,7 @@ pub(crate) fn settle(
     part: &Part<'_, '_>,
     sets: &[Constraints],
     paths: &mut Vec<Path>,
+    groups: &[GroupBound],
     changed: Option<usize>,
     is_known: bool,
     conflicts: &mut Vec<Conflict>,
@@ -43,7 +45,7 @@ pub(crate) fn settle(
     } else {
         is_new
     };
-    settle_partners(alloc, part, sets, paths, who, conflicts, occupancy)
+    settle_partners(alloc, part, sets, paths, groups, who, conflicts, occupancy)
 }
 
 /// Shows the paths, and answers who settles first.
@@ -80,6 +82,7 @@ pub(crate) fn settle_partners(
     part: &Part<'_, '_>,
     sets: &[Constraints],
     paths: &mut Vec<Path>,
+    groups: &[GroupBound],
     agents: Vec<usize>,
     conflicts: &mut Vec<Conflict>,
     occupancy: &mut Occupancy,
@@ -91,7 +94,16 @@ pub(crate) fn settle_partners(
     let mut is_new = agents;
     for _round in 0..MOST_ROUNDS {
         let may_change = partners(alloc, conflicts, &is_new)?;
-        is_new = settle_again(alloc, part, sets, paths, &may_change, conflicts, occupancy)?;
+        is_new = settle_again(
+            alloc,
+            part,
+            sets,
+            paths,
+            groups,
+            &may_change,
+            conflicts,
+            occupancy,
+        )?;
     }
     Ok(())
 }
@@ -102,6 +114,7 @@ fn settle_again(
     part: &Part<'_, '_>,
     sets: &[Constraints],
     paths: &mut Vec<Path>,
+    groups: &[GroupBound],
     agents: &[usize],
     conflicts: &mut Vec<Conflict>,
     occupancy: &mut Occupancy,
@@ -112,7 +125,9 @@ fn settle_again(
 {
     let mut is_new = Vec::new(alloc);
     for agent in agents {
-        if settle_better(alloc, part, sets, paths, *agent, conflicts, occupancy)? {
+        if settle_better(
+            alloc, part, sets, paths, groups, *agent, conflicts, occupancy,
+        )? {
             is_new.push(*agent)?;
         }
     }
@@ -158,12 +173,16 @@ fn proposed(
     if agent >= paths.len() || agent >= sets.len() {
         return Ok(None);
     }
+    let Some(number) = part.agents().get(agent) else {
+        return Ok(None);
+    };
     let cost = paths[agent].cost();
     if cost > part.bound() {
         return Ok(None);
     }
     let stands = part.agent(agent, &sets[agent], cost);
-    few_conflicts(alloc, &stands, occupancy)
+    let key = sets[agent].mixed_into(u64::from(cost) << 16 | *number as u64);
+    occupancy.few_conflicts(alloc, key, &stands, part.agents())
 }
 
 /// The agent takes the path, if it may, and then it says so.
@@ -185,12 +204,13 @@ pub(crate) fn accept(
     true
 }
 
-/// The agent takes another path of the same cost, if it has fewer conflicts by that, and then it says so.
+/// The agent takes another path of the same cost, if it has fewer conflicts by that and no more with its group, and then it says so.
 fn settle_better(
     alloc: Global,
     part: &Part<'_, '_>,
     sets: &[Constraints],
     paths: &mut Vec<Path>,
+    groups: &[GroupBound],
     agent: usize,
     conflicts: &mut Vec<Conflict>,
     occupancy: &mut Occupancy,
@@ -206,7 +226,7 @@ fn settle_better(
     let mut is_better = false;
     if let Some(path) = proposed(alloc, part, sets, paths, agent, occupancy)? {
         add_conflicts(alloc, part, agent, &path, &mut others, occupancy)?;
-        if others.len() < conflicts.len() && accept(part, sets, paths, agent, path) {
+        if are_better(&others, conflicts, groups, agent) && accept(part, sets, paths, agent, path) {
             *conflicts = others;
             is_better = true;
         }

@@ -1,5 +1,6 @@
 //! The conflicts of a plan.
 
+use crate::group_bound::GroupBound;
 use crate::guesses::Occupancy;
 use crate::part::Part;
 use mapf_grid::NoMemory;
@@ -21,6 +22,34 @@ pub(crate) fn conflicts_without(
         }
     }
     Ok(kept)
+}
+
+/// Whether an agent's path is better by which these are the conflicts: there are fewer, and no more of the agent with its solved group.
+pub(crate) fn are_better(
+    new: &[Conflict],
+    old: &[Conflict],
+    groups: &[GroupBound],
+    agent: usize,
+) -> bool {
+    new.len() < old.len()
+        && conflicts_in_group(new, groups, agent) <= conflicts_in_group(old, groups, agent)
+}
+
+/// How many of these conflicts the agent has with others of a solved group.
+fn conflicts_in_group(conflicts: &[Conflict], groups: &[GroupBound], agent: usize) -> usize {
+    let mut count = 0_usize;
+    for group in groups {
+        if group.is_solved && group.agents.contains(&agent) {
+            for conflict in conflicts {
+                let (first, second) = agents_of(conflict);
+                let is_own = first == agent || second == agent;
+                if is_own && group.agents.contains(&first) && group.agents.contains(&second) {
+                    count = count.saturating_add(1);
+                }
+            }
+        }
+    }
+    count
 }
 
 /// How many pairs of agents have one of these conflicts.

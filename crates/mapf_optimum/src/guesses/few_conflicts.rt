@@ -1,118 +1,97 @@
 //! A path with few conflicts.
 
-use super::marks::Marks;
 use super::visit::Step;
+use super::ways::Ways;
 use crate::guesses::Occupancy;
-use crate::pairs::Agent;
 use mapf_grid::{Cell, NoMemory};
 use mapf_plan::{MOST_CELLS, Path};
 use std::alloc::Global;
 
-/// How many cells an agent may be on, at most, added up over all time steps: one that may be on more keeps its path.
-const MOST_STATES: usize = 20_000;
-
-/// A cell on which the agent may be at a time step, with the fewest collisions on the way there.
+/// How an agent comes to a cell with the fewest collisions.
 #[derive(Clone, Copy)]
-struct State {
-    cell: Cell,
-    /// The place of the state before.
+struct Arrival {
+    /// The place of the cell before.
     from: usize,
     collisions: u32,
+    /// How many it meets there, if it comes from another cell.
+    meetings: u32,
 }
 
-/// A path of the agent's cost with the fewest collisions with those that have a path in the table, as far as they are found; none where
-/// there is none.
-pub(crate) fn few_conflicts(
+/// The collisions of a cell to which no way is known.
+const UNKNOWN: u32 = u32::MAX;
+
+/// A path of these with the fewest collisions with the agents that have a path in the table; none where there is none.
+pub(super) fn few_conflicts(
     alloc: Global,
-    agent: &Agent<'_, '_>,
-    occupancy: &mut Occupancy,
+    ways: &Ways,
+    occupancy: &Occupancy,
 ) -> Result<Option<Path>, NoMemory> {
-    let mut states: Vec<State> = Vec::new(alloc);
-    states.push(State {
-        cell: agent.start(),
-        from: 0,
-        collisions: 0,
-    })?;
-    let mut begin = 0;
-    for time in 1..agent.cost() + 1 {
-        let end = states.len();
-        if end > MOST_STATES {
-            return Ok(None);
-        }
-        add_next(alloc, agent, begin, time, &mut states, occupancy)?;
-        begin = end;
+    if ways.cells() == ways.last().saturating_add(1) {
+        return Ok(None);
     }
-    trace(alloc, begin, &states)
+    let nowhere = Arrival {
+        from: 0,
+        collisions: UNKNOWN,
+        meetings: UNKNOWN,
+    };
+    let mut arrivals = vec![in alloc; nowhere; ways.cells()]?;
+    if let Some(first) = arrivals.get_mut(0) {
+        first.collisions = 0;
+    }
+    for (time, before) in (1..u32::MAX).zip(0..ways.last()) {
+        for place in ways.begin(before)..ways.begin(before.saturating_add(1)) {
+            go_on(ways, place, time, &mut arrivals, occupancy);
+        }
+    }
+    trace(alloc, ways, &arrivals)
 }
 
-/// Adds the states at this time step, from those of the time step before, which stand from a place on.
-fn add_next(
-    alloc: Global,
-    agent: &Agent<'_, '_>,
-    begin: usize,
-    time: u32,
-    states: &mut Vec<State>,
-    occupancy: &mut Occupancy,
-) -> Result<(), NoMemory> {
-    occupancy.marks.clear();
-    let is_forbidden = agent.is_forbidden_at(time);
-    for from in begin..states.len() {
-        let Some(state) = states.get(from) else {
+/// Goes on from the cell at a place, by the steps of a time step.
+fn go_on(ways: &Ways, place: usize, time: u32, arrivals: &mut Vec<Arrival>, occupancy: &Occupancy) {
+    let (Some(from), Some(known)) = (ways.cell(place), arrivals.get(place).copied()) else {
+        return;
+    };
+    if known.collisions == UNKNOWN {
+        return;
+    }
+    let is_entered = occupancy.is_entered(from, time);
+    for next in ways.moves(place) {
+        let (Some(to), Some(arrival)) = (ways.cell(*next), arrivals.get_mut(*next)) else {
             continue;
         };
-        let State {
-            cell,
-            collisions,
-            ..
-        } = *state;
-        for to in agent.moves(alloc, cell, time, is_forbidden)?.as_slice() {
-            if *to == agent.goal() && time.saturating_add(1) == agent.cost() {
-                continue;
+        let step = Step { from, to, time };
+        let mut collisions = known.collisions;
+        if from == to {
+            collisions = collisions.saturating_add(occupancy.meetings(&step));
+        } else {
+            if arrival.meetings == UNKNOWN {
+                arrival.meetings = occupancy.meetings(&step);
             }
-            let step = Step {
-                from: cell,
-                to: *to,
-                time,
-            };
-            let state = State {
-                cell: *to,
-                from,
-                collisions: collisions.saturating_add(occupancy.collisions(&step)),
-            };
-            add(state, states, &mut occupancy.marks)?;
-        }
-    }
-    Ok(())
-}
-
-/// Adds a state, if none of its cell at its time step has as few collisions.
-fn add(state: State, states: &mut Vec<State>, marks: &mut Marks) -> Result<(), NoMemory> {
-    if let Some(place) = marks.get(state.cell) {
-        if let Some(known) = states.get_mut(place) {
-            if state.collisions < known.collisions {
-                *known = state;
+            collisions = collisions.saturating_add(arrival.meetings);
+            if is_entered {
+                collisions = collisions.saturating_add(occupancy.passings(&step));
             }
         }
-        return Ok(());
+        if collisions < arrival.collisions {
+            arrival.from = place;
+            arrival.collisions = collisions;
+        }
     }
-    marks.put(state.cell, states.len());
-    states.push(state)?;
-    Ok(())
 }
 
-/// The path to the state at a place.
-fn trace(alloc: Global, last: usize, states: &[State]) -> Result<Option<Path>, NoMemory> {
-    let mut cells = Vec::new(alloc);
-    let mut place = last;
+/// The path to the first cell of the last time step.
+fn trace(alloc: Global, ways: &Ways, arrivals: &[Arrival]) -> Result<Option<Path>, NoMemory> {
+    let mut cells: Vec<Cell> = Vec::new(alloc);
+    let mut place = ways.begin(ways.last());
     for _cell in 0..MOST_CELLS {
-        let Some(state) = states.get(place) else {
+        let (Some(cell), Some(arrival)) = (ways.cell(place), arrivals.get(place)) else {
             return Ok(None);
         };
-        cells.push(state.cell)?;
+        cells.push(cell)?;
         if place == 0 {
             break;
         }
-        place = state.from;
+        place = arrival.from;
     }
     if cells.is_empty() || cells.len() > MOST_CELLS {
         return Ok(None);

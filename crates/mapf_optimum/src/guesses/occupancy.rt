@@ -1,11 +1,17 @@
 //! Who is where, and when.
 
+use super::few_conflicts::few_conflicts;
+use super::known_ways::KnownWays;
 use super::marks::Marks;
 use super::visit::{Step, Visit};
+use crate::pairs::Agent;
 use mapf_grid::{Cell, NoMemory};
 use mapf_plan::{Conflict, Path, Rule};
 use mapf_tree::Problem;
 use std::alloc::Global;
+
+/// How much a collision with an agent of the same part counts, where one with another agent counts 1.
+const HEAVY: u32 = 32;
 
 /// The paths of some of a problem's agents, by cell.
 #[derive(Drop)]
@@ -16,8 +22,11 @@ pub(crate) struct Occupancy {
     visits: Vec<Vec<Visit>>,
     /// Each agent's path, if it has one here.
     paths: Vec<Option<Path>>,
+    /// How much a collision with each of them counts.
+    weights: Vec<u32>,
     /// For a search of one agent among the others.
-    pub(super) marks: Marks,
+    marks: Marks,
+    ways: KnownWays,
 }
 
 impl Occupancy {
@@ -38,8 +47,46 @@ impl Occupancy {
             rule: problem.rule(),
             visits,
             paths,
+            weights: vec![in alloc; 1; instance.agents()]?,
             marks: Marks::new(alloc, cells)?,
+            ways: KnownWays::new(alloc),
         })
+    }
+
+    /// A path of the agent's cost with the fewest collisions with those that have a path here, where these of its part count more; none
+    /// where no other one is found. The number is for the agent, what it is forbidden and what it costs.
+    pub(crate) fn few_conflicts(
+        &mut self,
+        alloc: Global,
+        key: u64,
+        agent: &Agent<'_, '_>,
+        part: &[usize],
+    ) -> Result<Option<Path>, NoMemory> {
+        let place = self.ways.place_of(alloc, key, agent, &mut self.marks)?;
+        self.weigh(part, HEAVY);
+        let found = match self.ways.at(place) {
+            Some(ways) => few_conflicts(alloc, ways, self)?,
+            None => None,
+        };
+        self.weigh(part, 1);
+        Ok(found)
+    }
+
+    /// From now on a collision with one of these agents counts so much.
+    fn weigh(&mut self, agents: &[usize], weight: u32) {
+        for agent in agents {
+            if let Some(place) = self.weights.get_mut(*agent) {
+                *place = weight;
+            }
+        }
+    }
+
+    /// How much a collision with the agent counts.
+    fn weight_of(&self, visit: &Visit) -> u32 {
+        match self.weights.get(visit.agent) {
+            Some(weight) => *weight,
+            None => 1,
+        }
     }
 
     /// Takes the agent's path out, if it has one here.
@@ -97,17 +144,31 @@ impl Occupancy {
         }
     }
 
-    /// With how many that have a path here an agent collides that makes this step.
-    pub(super) fn collisions(&self, step: &Step) -> u32 {
-        let rule = self.rule;
+    /// What it counts to make this step, by those that have a path here and meet the agent where it goes to.
+    pub(super) fn meetings(&self, step: &Step) -> u32 {
         let mut count = 0_u32;
         for visit in self.visits_of(step.to) {
-            count = count.saturating_add(u32::from(visit.meets(rule, step)));
-        }
-        for visit in self.visits_of(step.from) {
-            count = count.saturating_add(u32::from(visit.passes(rule, step)));
+            if visit.meets(self.rule, step) {
+                count = count.saturating_add(self.weight_of(visit));
+            }
         }
         count
+    }
+
+    /// What it counts, by those that the agent passes where it comes from.
+    pub(super) fn passings(&self, step: &Step) -> u32 {
+        let mut count = 0_u32;
+        for visit in self.visits_of(step.from) {
+            if visit.passes(self.rule, step) {
+                count = count.saturating_add(self.weight_of(visit));
+            }
+        }
+        count
+    }
+
+    /// Whether one that has a path here comes to the cell from another one at this time step.
+    pub(super) fn is_entered(&self, cell: Cell, time: u32) -> bool {
+        self.visits_of(cell).iter().any(|visit| visit.enters(time))
     }
 
     /// Adds the conflicts of an agent without a path here, that takes this one, with those that have one.

@@ -27,6 +27,7 @@ impl Step {
 pub(super) struct Visit {
     pub(super) agent: usize,
     pub(super) time: u32,
+    cell: Cell,
     /// Where it was one time step before.
     before: Cell,
     /// Where it is one time step later.
@@ -41,6 +42,7 @@ impl Visit {
         Visit {
             agent,
             time,
+            cell: path.at(time),
             before: path.at(time.saturating_sub(1)),
             after: path.at(time.saturating_add(1)),
             rests: time == path.cost(),
@@ -50,6 +52,11 @@ impl Visit {
     /// Whether the agent is there at this time step.
     fn is_there(&self, time: u32) -> bool {
         self.time == time || self.rests && self.time < time
+    }
+
+    /// Whether the agent comes from another cell at this time step.
+    pub(super) fn enters(&self, time: u32) -> bool {
+        self.time == time && self.before != self.cell
     }
 
     /// Whether the agent, which visits the cell to which a step goes, collides with one that makes it.

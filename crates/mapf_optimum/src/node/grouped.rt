@@ -1,9 +1,8 @@
 //! Nodes whose agents are asked for in groups.
 
-ghost use Rattle.std.specs.Prelude.{◌≡◌, ℕ, ◌+◌, ◌<◌, ◌≤◌, true, length, slice_index_or, sum_by, IfOk, IfSome, IsTrue, OnOk};
-ghost use Rattle.mapf_plan.specs.Path.{cost};
-ghost use Rattle.mapf_plan.specs.Plan.{path_of, plan_cost};
-ghost use Rattle.mapf_optimum.specs.FreeTree.{AreLeastCosts, HaveAllowedPaths, IsFreeNode, IsGroup, IsGroupBound, IsLowerBoundOf, paths_in};
+ghost use Rattle.std.specs.Prelude.{◌≡◌, ℕ, ◌+◌, ◌<◌, ◌≤◌, true, length, sum_by, IfOk, IfSome, IsTrue};
+ghost use Rattle.mapf_plan.specs.Plan.{plan_cost};
+ghost use Rattle.mapf_optimum.specs.FreeTree.{HaveAllowedPaths, IsFreeNode, IsGroup, IsGroupBound, IsLowerBoundOf, paths_in};
 ghost use Rattle.mapf_optimum.specs.FreeSearch.{IsBounded, IsFreshNode, IsSame};
 ghost use Rattle.mapf_optimum.specs.Groups.{alone, costs_in, sets_in};
 
@@ -14,11 +13,11 @@ use crate::group_costs::Found;
 use crate::guesses::{
     Occupancy, colliding_pairs, conflicts_again, conflicts_among, hints_in, next_group,
 };
+use crate::other_paths::{adopt, take_least_paths};
 use crate::pairs::are_dependent;
 use crate::part::Part;
-use crate::settling::{accept, settle, settle_partners};
+use crate::settling::{settle, settle_partners};
 use mapf_grid::NoMemory;
-use mapf_low::Constraints;
 use mapf_plan::{Conflict, Path, Plan};
 use std::alloc::Global;
 
@@ -43,6 +42,7 @@ impl FreeNode {
             part,
             &self.sets,
             &mut paths,
+            &self.groups,
             self.changed,
             self.is_known,
             &mut conflicts,
@@ -133,6 +133,12 @@ impl FreeNode {
     {
         let mut paths = copy_paths(alloc, self.plan.paths())?;
         let is_solved = adopt(part, &self.sets, agents, found.plan, &mut paths);
+        let mut groups = groups_without(alloc, &self.groups, agents, is_solved)?;
+        groups.push(GroupBound {
+            agents: Vec::from_slice(alloc, agents)?,
+            least: found.least,
+            is_solved,
+        })?;
         let mut conflicts = conflicts_again(
             alloc,
             part,
@@ -148,17 +154,12 @@ impl FreeNode {
                 part,
                 &self.sets,
                 &mut paths,
+                &groups,
                 new,
                 &mut conflicts,
                 occupancy,
             )?;
         }
-        let mut groups = groups_without(alloc, &self.groups, agents, is_solved)?;
-        groups.push(GroupBound {
-            agents: Vec::from_slice(alloc, agents)?,
-            least: found.least,
-            is_solved,
-        })?;
         let mut node = self.showing(part, paths, conflicts);
         node.groups = groups;
         Ok((node, is_solved))
@@ -256,60 +257,4 @@ impl FreeNode {
         node.is_bounded = false;
         Ok(node)
     }
-}
-
-/// Each agent whose path costs more than a least one takes a least one. Answers who did.
-fn take_least_paths(
-    alloc: Global,
-    part: &Part<'_, '_>,
-    sets: &[Constraints],
-    costs: &[u32],
-    paths: &mut Vec<Path>,
-) -> Result<Vec<usize>, NoMemory>
-    requires sets { length sets.now ≡ length (alone part.now).inst.starts }
-    requires costs { AreLeastCosts (alone part.now) sets.now costs.now }
-    requires paths { HaveAllowedPaths (alone part.now) sets.now paths.old.items }
-    ensures paths { OnOk result (HaveAllowedPaths (alone part.now) sets.now paths.new.items) }
-    ensures least { OnOk result ((i : ℕ) → i < length paths.new.items → cost (path_of paths.new.items i) ≤ slice_index_or costs.now i 0) }
-{
-    let mut new = Vec::new(alloc);
-    for agent in 0..paths.len() {
-        if paths[agent].cost() > costs[agent] {
-            if let Some(path) = part.least_path(
-                alloc,
-                agent,
-                &sets[agent],
-                part.bound(),
-                costs[agent],
-            )? {
-                paths[agent] = path;
-                new.push(agent)?;
-            }
-        }
-    }
-    Ok(new)
-}
-
-/// The agents of a group take the paths that were found, if there are some and each may take its own, and says whether they did.
-fn adopt(
-    part: &Part<'_, '_>,
-    sets: &[Constraints],
-    agents: &[usize],
-    found: Option<Vec<Path>>,
-    paths: &mut Vec<Path>,
-) -> bool
-    requires sets { length sets.now ≡ length (alone part.now).inst.starts }
-    requires paths { HaveAllowedPaths (alone part.now) sets.now paths.old.items }
-    ensures { HaveAllowedPaths (alone part.now) sets.now paths.new.items }
-{
-    let Some(found) = found else {
-        return false;
-    };
-    let mut is_solved = found.len() == agents.len();
-    for (agent, path) in agents.iter().zip(found) {
-        if !accept(part, sets, paths, *agent, path) {
-            is_solved = false;
-        }
-    }
-    is_solved
 }

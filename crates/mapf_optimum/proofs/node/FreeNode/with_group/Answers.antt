@@ -24,5 +24,5 @@ returns c =
     let problem = alone c.args.part.now in
     grouped_is problem c.args.self _ c.push.new.self.items (subst (IsSame problem c.args.self) (sym c.node.view_is) c.showing-node.ensures.same)
     (bounds_with problem c.args.self.sets c.args.self.groups c.in_ok-groups.groups.items c.push.new.self.items _ c.requires.node.groups
-    (subst (λ l. AreOf l c.in_ok-groups.groups.items) (c.deref-4.ensures.value ∙ ap (λ (n : FreeNode). n.groups) c.self.view_is) c.in_ok-groups.ensures) c.in_ok-push.ensures.items
+    (subst (λ l. AreOf l c.in_ok-groups.groups.items) (c.deref-2.ensures.value ∙ ap (λ (n : FreeNode). n.groups) c.self.view_is) c.in_ok-groups.ensures) c.in_ok-push.ensures.items
     (subst (λ l. IsGroupBound problem c.args.self.sets l c.args.found.least) (sym c.in_ok-from_slice.ensures.items) c.requires.group))

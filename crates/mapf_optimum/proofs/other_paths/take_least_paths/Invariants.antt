@@ -3,7 +3,7 @@ use Rattle.mapf_plan.specs.Path.{cost}
 use Rattle.mapf_plan.specs.Plan.{path_of}
 use Rattle.mapf_optimum.specs.FreeTree.{HaveAllowedPaths}
 use Rattle.mapf_optimum.specs.Groups.{alone}
-use Rattle.mapf_optimum.proofs.node.grouped.take_least_paths.Given as goal
+use Rattle.mapf_optimum.proofs.other_paths.take_least_paths.Given as goal
 
 abbrev pub invariant-loop-agent : goal.invariant-loop-agent
 invariant-loop-agent l = record {

@@ -2,8 +2,8 @@ use Rattle.std.proofs.Common.{ℕ, ◌+◌, ◌<◌, List, Vec, Global, length, 
 use Rattle.mapf_optimum.specs.FreeTree.{HaveAllowedPaths}
 use Rattle.mapf_optimum.specs.Groups.{alone}
 use Rattle.mapf_optimum.proofs.Taking.{CostLeast, path_cost_at, no_cheaper, some_path, costs_least, takes_least, one_less, one_stays}
-use Rattle.mapf_optimum.proofs.node.grouped.take_least_paths.Goals as goal
-use Rattle.mapf_optimum.proofs.node.grouped.take_least_paths.Goals.{then-cost-costs+in_ok-path+in-Some+in_ok-push, then-cost-costs+in_ok-path+in_default, else-cost-costs}
+use Rattle.mapf_optimum.proofs.other_paths.take_least_paths.Goals as goal
+use Rattle.mapf_optimum.proofs.other_paths.take_least_paths.Goals.{then-cost-costs+in_ok-path+in-Some+in_ok-push, then-cost-costs+in_ok-path+in_default, else-cost-costs}
 
 pub least_path-requires-clause-least : goal.least_path-requires-clause-least
 least_path-requires-clause-least c =
