@@ -52,3 +52,8 @@ pub returns-clause-told : goal.returns-clause-told
 returns-clause-told g c =
     watched_behind g.W.Watch.told c.in_ok-bounds.bounds.problem c.args.search.problem c.args.search.last c.taken_nodes-nodes.result c.args.search.taken c.args.watch.now c.search_by_bounds.new.watch c.search_by_bounds.result
     (ap (λ (b : Bounding). b.problem) c.in_ok-bounds.ensures ∙ c.into_waiting-open_list.ensures.problem) c.taken_nodes-nodes.ensures.is c.taken_nodes-nodes.ensures.taken c.search_by_bounds.ensures.told
+
+pub returns-clause-answer : goal.returns-clause-answer
+returns-clause-answer g c =
+    stated_answer c.in_ok-bounds.bounds.problem c.args.search.problem c.search_by_bounds.result (ap (λ (b : Bounding). b.problem) c.in_ok-bounds.ensures ∙ c.into_waiting-open_list.ensures.problem) c.requires.unlimited
+    c.search_by_bounds.ensures.stated
