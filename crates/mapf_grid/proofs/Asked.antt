@@ -11,7 +11,7 @@ use Rattle.mapf_grid.specs.declared.fault.InstanceFault.{InstanceFault}
 use Rattle.mapf_grid.specs.declared.fault.InstanceFault.TheVariants as instance_fault
 use Rattle.mapf_grid.specs.declared.files.FilesFault.{FilesFault}
 use Rattle.mapf_grid.specs.declared.files.FilesFault.TheVariants as files
-use Rattle.mapf_grid.proofs.Unique.{one_map, one_scenario, one_instance, map_or_fault, scenario_or_fault, instance_or_fault, one_map_fault, one_scen_fault, one_instance_fault}
+use Rattle.mapf_grid.proofs.laws.Unique.{one_map, one_scenario, one_instance, map_or_fault, scenario_or_fault, instance_or_fault, one_map_fault, one_scen_fault, one_instance_fault}
 
 -- what a grid's rows are is that of an equal grid and equal rows
 carried : (g h : Grid) (r s : List Row) (P : Grid → List Row → Type 0) → g ≡ h → r ≡ s → P h s → P g r

@@ -1,4 +1,4 @@
-use Rattle.mapf_grid.proofs.Unique.{instance_or_fault}
+use Rattle.mapf_grid.proofs.laws.Unique.{instance_or_fault}
 use Rattle.mapf_grid.proofs.laws.instance_or_fault.Goals as goal
 
 pub returns : goal.returns

@@ -1,4 +1,4 @@
-use Rattle.mapf_grid.proofs.Unique.{one_scen_fault}
+use Rattle.mapf_grid.proofs.laws.Unique.{one_scen_fault}
 use Rattle.mapf_grid.proofs.laws.one_scen_fault.Goals as goal
 
 pub returns : goal.returns

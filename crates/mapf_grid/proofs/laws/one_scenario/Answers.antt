@@ -1,4 +1,4 @@
-use Rattle.mapf_grid.proofs.Unique.{one_scenario}
+use Rattle.mapf_grid.proofs.laws.Unique.{one_scenario}
 use Rattle.mapf_grid.proofs.laws.one_scenario.Goals as goal
 
 pub returns : goal.returns

@@ -1,7 +1,7 @@
 use Rattle.std.proofs.Common.{◌≡◌, ◌+◌, length, arith, eqb, false, sym, ◌∙◌}
 use Rattle.std.proofs.lemmas.Bool.{eqb-false}
 use Rattle.std.proofs.lemmas.List.{take_rest}
-use Rattle.mapf_grid.proofs.LineCuts.{lines_of-at_lf, lines_of-without_lf}
+use Rattle.mapf_grid.proofs.lines.LineCuts.{lines_of-at_lf, lines_of-without_lf}
 use Rattle.mapf_grid.proofs.lines.first_line.Goals as goal
 
 pub returns-in-Some-clause-line : goal.returns-in-Some-clause-line

@@ -1,7 +1,7 @@
 use Rattle.std.proofs.Common.{◌<◌, length, arith, rules}
 use Rattle.std.proofs.lemmas.List.{nil_from_length}
 use Rattle.std.proofs.lemmas.Bool.Decides.{nat_tests}
-use Rattle.mapf_grid.proofs.Parting.{words-nothing_behind, words-first, IsPartedBack-first}
+use Rattle.mapf_grid.proofs.lines.Parting.{words-nothing_behind, words-first, IsPartedBack-first}
 use Rattle.mapf_grid.proofs.words.first_word.Goals as goal
 
 pub returns-then-is_empty-clause-words : goal.returns-then-is_empty-clause-words

@@ -1,5 +1,5 @@
 use Rattle.std.proofs.Common.{rules, arith}
-use Rattle.mapf_grid.proofs.Parting.{IsBehindBlanks-more}
+use Rattle.mapf_grid.proofs.lines.Parting.{IsBehindBlanks-more}
 use Rattle.mapf_grid.proofs.words.trim_start.Goals as goal
 
 pub loop-line-preserved : goal.loop-line-preserved

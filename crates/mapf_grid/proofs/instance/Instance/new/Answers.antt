@@ -1,6 +1,6 @@
 use Rattle.std.proofs.Common.{subst}
 use Rattle.mapf_grid.specs.Instance.{IsInstance, IsInstanceFault}
-use Rattle.mapf_grid.proofs.InstanceOnly.{IsSound-instance, one_instance, only_no_memory}
+use Rattle.mapf_grid.proofs.instance.InstanceOnly.{IsSound-instance, one_instance, only_no_memory}
 use Rattle.mapf_grid.proofs.instance.Instance.new.Goals as goal
 
 pub invariant_of-result : goal.invariant_of-result

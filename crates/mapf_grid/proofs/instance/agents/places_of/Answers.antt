@@ -3,8 +3,8 @@ use Rattle.std.proofs.lemmas.Grind.{common_steps}
 use Rattle.std.proofs.lemmas.Option.{gets}
 use Rattle.std.proofs.lemmas.Result.{err_from_is_err_and}
 use Rattle.mapf_grid.specs.NewAgent.{IsNewAgent, HasAgentFault}
-use Rattle.mapf_grid.proofs.AgentRows.{AreAgents, AreAgents-more, IsInstance-all}
-use Rattle.mapf_grid.proofs.AgentFaults.{agent_fault}
+use Rattle.mapf_grid.proofs.instance.AgentRows.{AreAgents, AreAgents-more, IsInstance-all}
+use Rattle.mapf_grid.proofs.instance.AgentFaults.{agent_fault}
 use Rattle.mapf_grid.proofs.instance.agents.places_of.Goals as goal
 
 pub returns-in_err-start-clause-fault : goal.returns-in_err-start-clause-fault

@@ -1,6 +1,6 @@
 use Rattle.std.proofs.Common.{◌≡◌, ◌+◌, ◌/◌}
 use Rattle.mapf_grid.specs.Grid.{IsFree}
-use Rattle.mapf_grid.proofs.Neighbours.{free_neighbour}
+use Rattle.mapf_grid.proofs.map.Neighbours.{free_neighbour}
 use Rattle.mapf_grid.proofs.map.Map.free_at_left.Goals as goal
 
 pub returns : goal.returns

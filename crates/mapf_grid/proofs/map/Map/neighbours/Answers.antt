@@ -1,7 +1,7 @@
 use Rattle.std.proofs.Common.{ℕ, ◌<◌, List, subst}
 use Rattle.mapf_grid.specs.Grid.{Grid, IsFree, IsBeside}
 use Rattle.mapf_grid.specs.FreeNeighbours.{PushesFree}
-use Rattle.mapf_grid.proofs.Neighbours.{Holds, neighbours_of_cell, neighbours_are_steps}
+use Rattle.mapf_grid.proofs.map.Neighbours.{Holds, neighbours_of_cell, neighbours_are_steps}
 use Rattle.mapf_grid.proofs.map.Map.neighbours.Goals as goal
 
 wide : (c : goal.After-push_free-4) → 0 < c.args.self.now.width

@@ -2,8 +2,8 @@ use Rattle.std.proofs.Common.{◌+◌, arith, sym}
 use Rattle.mapf_grid.specs.declared.fault.MapFault.TheVariants.{TextAfterRows}
 use Rattle.std.proofs.lemmas.Result.{err_from_is_err_and}
 use Rattle.mapf_grid.specs.Lines.{lines_of}
-use Rattle.mapf_grid.proofs.MapFileSteps.{HasRead-blank, IsMapFault-text, blank-at_end}
-use Rattle.mapf_grid.proofs.MapFileLaws.{IsMap-one, IsMap-no_memory}
+use Rattle.mapf_grid.proofs.map.MapFileSteps.{HasRead-blank, IsMapFault-text, blank-at_end}
+use Rattle.mapf_grid.proofs.map.MapFileLaws.{IsMap-one, IsMap-no_memory}
 use Rattle.mapf_grid.proofs.map.Map.read.Goals as goal
 
 pub loop-text-preserved : goal.loop-text-preserved

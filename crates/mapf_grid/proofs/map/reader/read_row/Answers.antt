@@ -2,7 +2,7 @@ use Rattle.std.proofs.Common.{◌≡◌, ◌<◌, true, length, get_or, take, is
 use Rattle.std.proofs.lemmas.Bool.{cond-true}
 use Rattle.std.proofs.lemmas.List.{get_or-take, length-take}
 use Rattle.mapf_grid.specs.MapFile.{is_cell, is_ground}
-use Rattle.mapf_grid.proofs.RowCells.{AreCellBytes-more, IsMapRowFault-bad_cell, map-is_ground-more}
+use Rattle.mapf_grid.proofs.map.RowCells.{AreCellBytes-more, IsMapRowFault-bad_cell, map-is_ground-more}
 use Rattle.mapf_grid.proofs.map.reader.read_row.Goals as goal
 
 pub loop-x-preserved : goal.loop-x-preserved

@@ -2,8 +2,8 @@ use Rattle.std.proofs.Common.{◌≡◌, ◌+◌, ◌<◌, ◌++◌, map, arith}
 use Rattle.std.proofs.lemmas.Result.{err_from_is_err_and}
 use Rattle.mapf_grid.specs.Lines.{line_at, lines_of}
 use Rattle.mapf_grid.specs.MapFile.{is_ground}
-use Rattle.mapf_grid.proofs.MapFileSteps.{IsMapFault-missing_row, IsMapFault-wrong_row, HasRead-row, line_at-row}
-use Rattle.mapf_grid.proofs.RowCells.{IsRow-more, length-free-more}
+use Rattle.mapf_grid.proofs.map.MapFileSteps.{IsMapFault-missing_row, IsMapFault-wrong_row, HasRead-row, line_at-row}
+use Rattle.mapf_grid.proofs.map.RowCells.{IsRow-more, length-free-more}
 use Rattle.mapf_grid.proofs.map.reader.read_rows.Goals as goal
 
 pub returns-in_default-clause-fault : goal.returns-in_default-clause-fault

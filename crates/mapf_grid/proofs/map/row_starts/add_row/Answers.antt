@@ -1,6 +1,6 @@
 use Rattle.std.proofs.Common.{false, refl, arith}
 use Rattle.std.proofs.lemmas.Grind.{common_steps}
-use Rattle.mapf_grid.proofs.RowStarts.{row_starts-row}
+use Rattle.mapf_grid.proofs.map.RowStarts.{row_starts-row}
 use Rattle.mapf_grid.proofs.map.row_starts.add_row.Goals as goal
 
 pub returns-clause-starts : goal.returns-clause-starts

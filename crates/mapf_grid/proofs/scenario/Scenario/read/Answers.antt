@@ -2,8 +2,8 @@ use Rattle.std.proofs.Common.{◌≡◌, ◌∷◌, sym, subst, arith, rules}
 use Rattle.std.proofs.lemmas.Result.{err_from_is_err_and}
 use Rattle.mapf_grid.specs.Lines.{lines_of}
 use Rattle.mapf_grid.specs.ScenarioFile.{IsVersion, IsScenario, IsScenFault}
-use Rattle.mapf_grid.proofs.FileFaults.{only_no_memory}
-use Rattle.mapf_grid.proofs.Unique.{one_scenario}
+use Rattle.mapf_grid.proofs.scenario.FileFaults.{only_no_memory}
+use Rattle.mapf_grid.proofs.laws.Unique.{one_scenario}
 use Rattle.mapf_grid.proofs.scenario.Scenario.read.Goals as goal
 
 pub returns-in_err-rows-clause-only : goal.returns-in_err-rows-clause-only

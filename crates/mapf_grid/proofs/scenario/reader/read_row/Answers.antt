@@ -2,7 +2,7 @@ use Rattle.std.proofs.Common.{inr, ap, ◌∙◌, arith}
 use Rattle.std.proofs.lemmas.Result.{err_from_is_err_and}
 use Rattle.mapf_grid.specs.Lines.{number_of}
 use Rattle.mapf_grid.specs.RowFields.{AreFields}
-use Rattle.mapf_grid.proofs.RowFaults.{SpellsFields-all, AreNumbersBefore-second, AreNumbersBefore-more, IsScenarioRowFault-number}
+use Rattle.mapf_grid.proofs.scenario.RowFaults.{SpellsFields-all, AreNumbersBefore-second, AreNumbersBefore-more, IsScenarioRowFault-number}
 use Rattle.mapf_grid.proofs.scenario.reader.read_row.Goals as goal
 
 pub returns-in_err-width-clause-fault : goal.returns-in_err-width-clause-fault

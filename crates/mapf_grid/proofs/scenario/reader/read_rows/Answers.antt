@@ -5,7 +5,7 @@ use Rattle.mapf_grid.specs.Lines.{lines_of}
 use Rattle.mapf_grid.specs.ScenarioFile.{IsScenFault}
 use Rattle.mapf_grid.specs.RowFields.{IsScenarioRowFault}
 use Rattle.mapf_grid.specs.declared.fault.ScenFault.TheVariants.{FieldCount}
-use Rattle.mapf_grid.proofs.FileFaults.{HaveRead-more, IsScenario-blank, IsScenario-end, IsScenFault-blank, IsScenFault-next}
+use Rattle.mapf_grid.proofs.scenario.FileFaults.{HaveRead-more, IsScenario-blank, IsScenario-end, IsScenFault-blank, IsScenFault-next}
 use Rattle.mapf_grid.proofs.scenario.reader.read_rows.Goals as goal
 
 pub returns-then-are_blank_lines-clause-found : goal.returns-then-are_blank_lines-clause-found

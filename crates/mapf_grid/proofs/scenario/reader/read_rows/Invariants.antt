@@ -1,5 +1,5 @@
 use Rattle.std.proofs.Common.{length}
-use Rattle.mapf_grid.proofs.FileFaults.{HaveRead}
+use Rattle.mapf_grid.proofs.scenario.FileFaults.{HaveRead}
 use Rattle.mapf_grid.proofs.scenario.reader.read_rows.Given as goal
 
 abbrev pub invariant-loop-line : goal.invariant-loop-line

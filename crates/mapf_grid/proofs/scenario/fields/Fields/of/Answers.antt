@@ -2,7 +2,7 @@ use Rattle.std.proofs.Common.{◌≡◌, ◌<◌, ◌∷◌, [], length, arith, 
 use Rattle.std.proofs.lemmas.List.{nil_from_length}
 use Rattle.std.proofs.lemmas.Bool.Decides.{nat_tests}
 use Rattle.mapf_grid.specs.Lines.{words}
-use Rattle.mapf_grid.proofs.RowCuts.{EndsWithWords-one, EndsWithWords-more, HasName-between, words-trimmed, words-some}
+use Rattle.mapf_grid.proofs.scenario.RowCuts.{EndsWithWords-one, EndsWithWords-more, HasName-between, words-trimmed, words-some}
 use Rattle.mapf_grid.proofs.scenario.fields.Fields.of.Goals as goal
 
 pub returns-then-is_empty : goal.returns-then-is_empty

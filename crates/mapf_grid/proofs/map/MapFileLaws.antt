@@ -9,7 +9,7 @@ use Rattle.mapf_grid.specs.Grid.{Grid}
 use Rattle.mapf_grid.specs.MapFile.{IsRow, IsMap, IsRowLine, IsMapFault, HasMapFault, is_cell}
 use Rattle.mapf_grid.specs.declared.fault.MapFault.{MapFault}
 use Rattle.mapf_grid.specs.declared.fault.MapFault.TheVariants.{TypeLine, Height, Width, MapLine, MissingRow, RowLength, BadCell, TextAfterRows, TooLarge, NoMemory}
-use Rattle.mapf_grid.proofs.MapFaultOrder.{HasSize-one}
+use Rattle.mapf_grid.proofs.map.MapFaultOrder.{HasSize-one}
 
 module _ (lines : List (List ℕ)) (g : Grid) (is_map : IsMap lines g) where
   -- a row's line is the line of a row of the grid

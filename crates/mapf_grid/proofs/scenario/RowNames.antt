@@ -6,8 +6,8 @@ use Rattle.std.proofs.lemmas.List.{get_or_append_left, get_or-append_right}
 use Rattle.mapf_grid.specs.Lines.{words, is_blank, is_blank_line, number_of}
 use Rattle.mapf_grid.specs.ScenarioFile.{HasName, IsRowOf, IsScenario, field}
 use Rattle.mapf_grid.specs.declared.scenario.Row.{Row}
-use Rattle.mapf_grid.proofs.Parting.{words-append_back, words-append_front, words-cons_blank}
-use Rattle.mapf_grid.proofs.RowCuts.{blank_at, words-some}
+use Rattle.mapf_grid.proofs.lines.Parting.{words-append_back, words-append_front, words-cons_blank}
+use Rattle.mapf_grid.proofs.scenario.RowCuts.{blank_at, words-some}
 
 -- of two cuts of a line the later front is the earlier one and something more
 cut_between : (a b c d : List ℕ) → a ++ b ≡ c ++ d → length a < length c → (e : List ℕ) × (c ≡ a ++ e) × (b ≡ e ++ d) × (0 < length e)

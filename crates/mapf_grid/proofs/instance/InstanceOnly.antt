@@ -7,8 +7,8 @@ use Rattle.mapf_grid.specs.InstanceLaws.{IsSound}
 use Rattle.mapf_grid.specs.declared.scenario.Row.{Row}
 use Rattle.mapf_grid.specs.declared.fault.InstanceFault.{InstanceFault}
 use Rattle.mapf_grid.specs.declared.fault.InstanceFault.TheVariants.{AgentCount, TooFewRows, WrongSize, StartNotFree, GoalNotFree, SharedStart, SharedGoal, NoMemory}
-use Rattle.mapf_grid.proofs.AgentRows.{AreAgents}
-use Rattle.mapf_grid.proofs.AgentFaults.{row_of, start_of, goal_of, no_wrong_size, no_start_fault, no_goal_fault, no_shared_start, no_shared_goal}
+use Rattle.mapf_grid.proofs.instance.AgentRows.{AreAgents}
+use Rattle.mapf_grid.proofs.instance.AgentFaults.{row_of, start_of, goal_of, no_wrong_size, no_start_fault, no_goal_fault, no_shared_start, no_shared_goal}
 
 -- an instance on another name of its grid
 on_grid : {g : Grid} {rows : List Row} {n : ℕ} {inst : Instance} → IsInstance g rows n inst → (record { grid = g; starts = inst.starts; goals = inst.goals }) ≡ inst

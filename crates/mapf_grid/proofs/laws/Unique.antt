@@ -4,13 +4,13 @@ use Rattle.mapf_grid.specs.MapFile.{HasMapFault, map_fault_rank}
 use Rattle.mapf_grid.specs.ScenarioFile.{HasScenFault, scen_fault_rank}
 use Rattle.mapf_grid.specs.Unique.{OneMap, OneScenario, OneInstance, MapOrFault, ScenarioOrFault, InstanceOrFault, OneMapFault, OneScenFault, OneInstanceFault}
 use Rattle.mapf_grid.proofs.Ranks.{same_rank}
-use Rattle.mapf_grid.proofs.MapFileLaws.{IsMap-one, IsMap-no_fault}
-use Rattle.mapf_grid.proofs.RowNames.{one_list}
-use Rattle.mapf_grid.proofs.FileFaults.{no_fault as no_scenario_fault}
-use Rattle.mapf_grid.proofs.InstanceOnly.{one_instance as same_instance, no_fault as no_instance_fault}
-use Rattle.mapf_grid.proofs.MapFaultRanks.{map_fault_by_rank}
-use Rattle.mapf_grid.proofs.ScenFaultRanks.{scen_fault_by_rank}
-use Rattle.mapf_grid.proofs.InstanceFaultRanks.{instance_fault_by_rank}
+use Rattle.mapf_grid.proofs.map.MapFileLaws.{IsMap-one, IsMap-no_fault}
+use Rattle.mapf_grid.proofs.scenario.RowNames.{one_list}
+use Rattle.mapf_grid.proofs.scenario.FileFaults.{no_fault as no_scenario_fault}
+use Rattle.mapf_grid.proofs.instance.InstanceOnly.{one_instance as same_instance, no_fault as no_instance_fault}
+use Rattle.mapf_grid.proofs.map.MapFaultRanks.{map_fault_by_rank}
+use Rattle.mapf_grid.proofs.scenario.ScenFaultRanks.{scen_fault_by_rank}
+use Rattle.mapf_grid.proofs.instance.InstanceFaultRanks.{instance_fault_by_rank}
 
 -- a map file is of one grid
 pub one_map : OneMap

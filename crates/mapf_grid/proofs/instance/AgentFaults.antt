@@ -10,7 +10,7 @@ use Rattle.mapf_grid.specs.NewAgent.{IsNewPlace, IsFirstAt, HasAgentFault}
 use Rattle.mapf_grid.specs.declared.scenario.Row.{Row}
 use Rattle.mapf_grid.specs.declared.fault.InstanceFault.{InstanceFault}
 use Rattle.mapf_grid.specs.declared.fault.InstanceFault.TheVariants.{AgentCount, TooFewRows, WrongSize, StartNotFree, GoalNotFree, SharedStart, SharedGoal, NoMemory}
-use Rattle.mapf_grid.proofs.AgentRows.{AreAgents}
+use Rattle.mapf_grid.proofs.instance.AgentRows.{AreAgents}
 use Rattle.mapf_grid.proofs.Firsts.{not_before_end, NoneAt, none_before-next, none_before-there}
 
 -- agent i's start and goal, by its row

@@ -6,7 +6,7 @@ use Rattle.std.proofs.lemmas.List.{append_cancel_left, append_cancel_right, get_
 use Rattle.mapf_grid.specs.Lines.{words, is_blank, is_blank_line}
 use Rattle.mapf_grid.specs.Cuts.{IsPartedFront, IsPartedBack, IsTrimmed}
 use Rattle.mapf_grid.specs.ScenarioFile.{HasName}
-use Rattle.mapf_grid.proofs.Parting.{words-append_back, words-append_front, words-blanks_before, words-blanks_behind}
+use Rattle.mapf_grid.proofs.lines.Parting.{words-append_back, words-append_front, words-blanks_before, words-blanks_behind}
 
 -- the line is a front and then these last words
 pub record EndsWithWords (line front : List ℕ) (last : List (List ℕ)) : Type 0 where

@@ -11,9 +11,9 @@ use Rattle.mapf_grid.specs.declared.scenario.Row.{Row}
 use Rattle.mapf_grid.specs.declared.fault.ScenFault.{ScenFault}
 use Rattle.mapf_grid.specs.declared.fault.ScenFault.TheVariants.{Version, FieldCount, Number, NoMemory}
 use Rattle.mapf_grid.proofs.Firsts.{before_place, first_is_least}
-use Rattle.mapf_grid.proofs.Parting.{words-blanks}
-use Rattle.mapf_grid.proofs.RowFaults.{AreNumbersBefore-second, AreNumbersBefore-more, IsScenarioRowFault-few}
-use Rattle.mapf_grid.proofs.BlankEnds.{without_blank_end-reaches, without_blank_end-within, seen_line}
+use Rattle.mapf_grid.proofs.lines.Parting.{words-blanks}
+use Rattle.mapf_grid.proofs.scenario.RowFaults.{AreNumbersBefore-second, AreNumbersBefore-more, IsScenarioRowFault-few}
+use Rattle.mapf_grid.proofs.scenario.BlankEnds.{without_blank_end-reaches, without_blank_end-within, seen_line}
 
 -- the first of the lines behind the version line spell the rows
 pub record AreRows (lines : List (List ℕ)) (rows : List Row) : Type 0 where

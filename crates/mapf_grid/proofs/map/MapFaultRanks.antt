@@ -6,7 +6,7 @@ use Rattle.mapf_grid.specs.Lines.{line_at}
 use Rattle.mapf_grid.specs.MapFile.{HasMapFault, map_fault_rank}
 use Rattle.mapf_grid.specs.declared.fault.MapFault.{MapFault}
 use Rattle.mapf_grid.specs.declared.fault.MapFault.TheVariants.{TypeLine, Height, Width, MapLine, MissingRow, RowLength, BadCell, TextAfterRows, TooLarge}
-use Rattle.mapf_grid.proofs.MapFaultOrder.{HasSize-one}
+use Rattle.mapf_grid.proofs.map.MapFaultOrder.{HasSize-one}
 
 -- the first line that a fault of this kind can stand in
 abbrev pub first_line_of : MapFault → ℕ

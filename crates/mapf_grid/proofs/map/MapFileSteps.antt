@@ -7,7 +7,7 @@ use Rattle.mapf_grid.specs.MapFile.{HasSize, IsRowLine, IsMapFault}
 use Rattle.mapf_grid.specs.MapReading.{HasRead, IsHeader, AreCellBytes, IsMapRowFault}
 use Rattle.mapf_grid.specs.declared.fault.MapFault.{MapFault}
 use Rattle.mapf_grid.specs.declared.fault.MapFault.TheVariants.{MissingRow, TextAfterRows, NoMemory}
-use Rattle.mapf_grid.proofs.MapFaultOrder.{NoFaultBefore, none_before-row, IsMapFault-row, none_before-blank, blank-from_none_before}
+use Rattle.mapf_grid.proofs.map.MapFaultOrder.{NoFaultBefore, none_before-row, IsMapFault-row, none_before-blank, blank-from_none_before}
 
 -- the line behind the first k is there, and is this one, and these stand behind it
 pub record IsNextLine (lines : List (List ℕ)) (k : ℕ) (text : List ℕ) (more : List (List ℕ)) : Type 0 where

@@ -1,0 +1,2 @@
+-- What a file means.
+pub mod Unique

@@ -1,0 +1,3 @@
+-- Lines and words in a file.
+pub mod LineCuts
+pub mod Parting
