@@ -13,8 +13,8 @@ use Rattle.mapf_tree.specs.Search.{IsReached, IsChild, IsWaiting}
 use Rattle.mapf_bounds.specs.Below.{IsBelow, itself, child, CoversUpTo, IsEnough}
 use Rattle.mapf_bounds.specs.Waiting.{IsBoundKey}
 use Rattle.mapf_bounds.specs.Laws.{WaitingCover, StillCovers, ValidPlanIsEnough, LeastIsFirst}
-use Rattle.mapf_tree.proofs.SearchLaws.{dec_reached}
-use Rattle.mapf_tree.proofs.Descent.{cheaper_solution}
+use Rattle.mapf_tree.proofs.high_level.SearchLaws.{dec_reached}
+use Rattle.mapf_tree.proofs.solutions.Descent.{cheaper_solution}
 use Rattle.mapf_plan.specs.declared.answer.Answer.{Answer}
 use Rattle.mapf_plan.specs.declared.answer.Answer.TheVariants as answer
 use Rattle.mapf_tree.specs.LowerBound.{IsBelowAll}

@@ -9,7 +9,7 @@ use Rattle.mapf_tree.specs.Tree.{PlannedNode, agent_on, constraint_on, constrain
 use Rattle.mapf_tree.specs.Laws.{ObeysNode}
 use Rattle.mapf_tree.specs.Nodes.{Node, StandsFor, IsSameSet}
 use Rattle.mapf_tree.specs.Search.{IsChild}
-use Rattle.mapf_tree.proofs.SearchLaws.{obeys_fewer}
+use Rattle.mapf_tree.proofs.high_level.SearchLaws.{obeys_fewer}
 use Rattle.mapf_optimum.specs.declared.pair_bound.PairBound.{PairBound}
 use Rattle.mapf_optimum.specs.FreeTree.{IsCandidate, IsLeastPathOf, IsPairBound, HaveLeastPaths}
 use Rattle.mapf_optimum.specs.declared.two_agents.AgentPair.{AgentPair}

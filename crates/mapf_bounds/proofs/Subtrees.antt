@@ -9,8 +9,8 @@ use Rattle.mapf_tree.specs.Problem.{Problem}
 use Rattle.mapf_tree.specs.LowerBound.{IsBelowAll}
 use Rattle.mapf_tree.specs.Tree.{PlannedNode, IsMember, IsSolution, key, key_rank, rank, constraints_of, agent_on, constraint_on}
 use Rattle.mapf_tree.specs.Nodes.{Node, StandsFor}
-use Rattle.mapf_tree.proofs.OpenNodes.{key-stands}
-use Rattle.mapf_tree.proofs.SearchLaws.{obeys_fewer, parent_before}
+use Rattle.mapf_tree.proofs.high_level.OpenNodes.{key-stands}
+use Rattle.mapf_tree.proofs.high_level.SearchLaws.{obeys_fewer, parent_before}
 use Rattle.mapf_tree.specs.Laws.{ObeysNode}
 use Rattle.mapf_tree.specs.Search.{IsChild}
 use Rattle.mapf_bounds.specs.Below.{IsBelow, itself, child, IsBounded, own_bound}

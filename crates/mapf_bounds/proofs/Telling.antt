@@ -10,7 +10,7 @@ use Rattle.mapf_tree.specs.Problem.{Problem}
 use Rattle.mapf_tree.specs.Search.{CountsTaken}
 use Rattle.mapf_tree.specs.Told.{IsEndOf, one_more}
 use Rattle.mapf_tree.specs.Tree.{IsAnswer}
-use Rattle.mapf_tree.proofs.Telling.{IsTelling, telling_begins, telling_ends, telling_expands, telling_goes}
+use Rattle.mapf_tree.proofs.high_level.Telling.{IsTelling, telling_begins, telling_ends, telling_expands, telling_goes}
 use Rattle.mapf_bounds.specs.Bounds.{Bounding}
 use Rattle.mapf_bounds.specs.Told.{Begins, IsWatched}
 use Rattle.mapf_bounds.specs.Waiting.{Branches, IsCovering, Raises, Waiting}

@@ -21,8 +21,8 @@ use Rattle.mapf_tree.specs.Tree.{TreeNode, PlannedNode, HasPlan, IsMember, IsSol
 use Rattle.mapf_tree.specs.Family.{IsSide, IsBranching}
 use Rattle.mapf_tree.specs.Nodes.{Node, StandsFor}
 use Rattle.mapf_tree.specs.Search.{IsChild}
-use Rattle.mapf_tree.proofs.Descent.{cheaper_solution}
-use Rattle.mapf_tree.proofs.OpenNodes.{conflict_stands, none_stands, IsNodeOf}
+use Rattle.mapf_tree.proofs.solutions.Descent.{cheaper_solution}
+use Rattle.mapf_tree.proofs.high_level.OpenNodes.{conflict_stands, none_stands, IsNodeOf}
 use Rattle.mapf_tree.proofs.Plans.{same_plan}
 use Rattle.std.proofs.lemmas.Bool.{cases_lt}
 use Rattle.mapf_optimum.specs.declared.pair_bound.PairBound.{PairBound}

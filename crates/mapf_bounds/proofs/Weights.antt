@@ -11,7 +11,7 @@ use Rattle.mapf_tree.specs.Tree.{PlannedNode}
 use Rattle.mapf_tree.specs.Family.{IsSide}
 use Rattle.mapf_tree.specs.Nodes.{Node, StandsFor}
 use Rattle.mapf_optimum.specs.declared.pair_bound.PairBound.{PairBound}
-use Rattle.mapf_tree.proofs.Measure.{most, depth_most, grown_all}
+use Rattle.mapf_tree.proofs.finite.Measure.{most, depth_most, grown_all}
 use Rattle.mapf_bounds.specs.declared.bound.Bound.{Bound}
 use Rattle.mapf_bounds.specs.Waiting.{Waiting, is_own, absent, present, key_cmp, key_bound, bound_key, IsAdmitted, IsAdmittedChild, Branches, Raises}
 use Rattle.mapf_bounds.proofs.Entries.{Puts, added, replaced, later, puts}

@@ -16,7 +16,7 @@ use Rattle.mapf_tree.specs.Problem.{Problem}
 use Rattle.mapf_tree.specs.Tree.{root_of}
 use Rattle.mapf_tree.specs.Laws.{ObeysNode}
 use Rattle.mapf_tree.specs.Family.{AreRootPaths, IsRoot}
-use Rattle.mapf_tree.proofs.Descent.{obeyed_is_in_cost}
+use Rattle.mapf_tree.proofs.solutions.Descent.{obeyed_is_in_cost}
 use Rattle.mapf_optimum.specs.FreeTree.{FreeNode, unnamed, IsFreeNode, IsChoice, IsCandidate, IsLeastPathOf, AreLeastCosts, HaveLeastPaths}
 use Rattle.mapf_optimum.specs.FreeSearch.{IsFreshNode, IsRootOf, IsUnderWay}
 use Rattle.mapf_optimum.specs.Told.{IsBegun}

@@ -15,7 +15,7 @@ use Rattle.mapf_tree.specs.declared.tree.side.Side.TheVariants.{Left, Right}
 use Rattle.mapf_tree.specs.Problem.{Problem}
 use Rattle.mapf_tree.specs.Tree.{agent_on, constraint_on, side_of, IsAllowedFor}
 use Rattle.mapf_tree.specs.Laws.{ObeysNode}
-use Rattle.mapf_tree.proofs.Branch.{agent_below, obeys_one_side}
+use Rattle.mapf_tree.proofs.sides.Branch.{agent_below, obeys_one_side}
 use Rattle.mapf_optimum.specs.declared.group_bound.GroupBound.{GroupBound}
 use Rattle.mapf_optimum.specs.FreeTree.{FreeNode, unnamed, IsFreeNode, IsCandidate, IsChoice, IsGroup, IsLeastPathOf, IsLeastCostOf, AreGroupBounds, AreLeastCosts, HaveAllowedPaths, paths_in}
 use Rattle.mapf_optimum.specs.FreeSearch.{AreSideSets, IsSideOf, IsSame, IsLeastWithin, IsLeftFor}

@@ -4,7 +4,7 @@ use Rattle.std.proofs.lemmas.Bool.{cases_lt}
 use Rattle.mapf_plan.specs.declared.answer.Answer.{Answer}
 use Rattle.mapf_tree.specs.Problem.{Problem}
 use Rattle.mapf_tree.specs.Told.{IsEndOf, one_more, tells}
-use Rattle.mapf_tree.proofs.Telling as tree
+use Rattle.mapf_tree.proofs.high_level.Telling as tree
 use Rattle.mapf_optimum.specs.FreeTree.{FreeNode}
 use Rattle.mapf_optimum.specs.FreeSearch.{Bounds, Expands}
 use Rattle.mapf_optimum.specs.Told.{Begins, IsBegun, IsLeastLabel, IsWatched}

@@ -15,8 +15,8 @@ use Rattle.mapf_tree.specs.declared.tree.side.Side.{Side}
 use Rattle.mapf_tree.specs.declared.tree.side.Side.TheVariants.{Left, Right}
 use Rattle.mapf_tree.specs.Problem.{Problem}
 use Rattle.mapf_tree.specs.Tree.{agent_on, constraint_on}
-use Rattle.mapf_tree.proofs.Universe.{universe, Contains-universe, cells_of, edges_of, holds_all}
-use Rattle.mapf_tree.proofs.Measure.{broken_is_new, conflict_fits}
+use Rattle.mapf_tree.proofs.finite.Universe.{universe, Contains-universe, cells_of, edges_of, holds_all}
+use Rattle.mapf_tree.proofs.finite.Measure.{broken_is_new, conflict_fits}
 use Rattle.mapf_optimum.specs.FreeTree.{FreeNode, unnamed, IsFreeNode, IsChoice}
 use Rattle.mapf_optimum.specs.FreeSearch.{AreSideSets, IsSideOf, IsBounded, Expands, Bounds}
 use Rattle.mapf_optimum.specs.Laws.{SearchEnds}

@@ -14,8 +14,8 @@ use Rattle.mapf_tree.specs.Problem.{Problem, IsLimit}
 use Rattle.mapf_tree.specs.Tree.{PlannedNode}
 use Rattle.mapf_tree.specs.Cut.{IsCutAt}
 use Rattle.mapf_tree.specs.Answered.{stated, IsStated, IsAnswerUpTo, IsAnswerOf}
-use Rattle.mapf_tree.proofs.Descent.{answer_is_optimum, none_is_none}
-use Rattle.mapf_tree.proofs.Limits.{as_given_up, cut_is_below, stated_is_unique}
+use Rattle.mapf_tree.proofs.solutions.Descent.{answer_is_optimum, none_is_none}
+use Rattle.mapf_tree.proofs.high_level.Limits.{as_given_up, cut_is_below, stated_is_unique}
 use Rattle.mapf_optimum.specs.AnyAnswer.{IsAnyAnswer}
 use Rattle.mapf_solve.specs.Out.{problem_of, without_limit, IsText, IsBest, KeepsLimit}
 use Rattle.mapf_solve.specs.AnyOut.{IsAnyText, KeepsAnyLimit}

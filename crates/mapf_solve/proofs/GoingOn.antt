@@ -5,7 +5,7 @@ use Rattle.mapf_tree.specs.declared.search.progress.Progress.{Progress}
 use Rattle.mapf_tree.specs.declared.search.progress.Progress.TheVariants.{Working, Finished}
 use Rattle.mapf_tree.specs.Problem.{Problem}
 use Rattle.mapf_tree.specs.Search.{Searched, TakesBetween}
-use Rattle.mapf_tree.proofs.Remaining.{remaining, remaining_falls}
+use Rattle.mapf_tree.proofs.high_level.Remaining.{remaining, remaining_falls}
 use Rattle.mapf_solve.specs.Sessions.{HasTaken}
 
 -- as the search tells it

@@ -10,7 +10,7 @@ use Rattle.mapf_plan.specs.declared.answer.TheConstants.{MOST_BOUND, MOST_NODES}
 use Rattle.mapf_plan.specs.Text.{text}
 use Rattle.mapf_tree.specs.Problem.{IsLimit}
 use Rattle.mapf_tree.specs.Answered.{IsAnswerOf}
-use Rattle.mapf_tree.proofs.Limits.{stated_is_unique}
+use Rattle.mapf_tree.proofs.high_level.Limits.{stated_is_unique}
 use Rattle.mapf_solve.specs.Out.{problem_of, IsBound, IsWorkers, IsNodes, of_files, IsRefusal, IsText, IsOut, IsOnlyOut, OneOut}
 use Rattle.mapf_solve.specs.declared.ask.Ask.{Ask}
 use Rattle.mapf_solve.specs.declared.refusal.Refusal.{Refusal}

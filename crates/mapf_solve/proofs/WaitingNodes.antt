@@ -3,7 +3,7 @@ use Rattle.std.proofs.Common.{◌≡◌, List, ◌∷◌, None, Ok, sym, subst}
 use Rattle.mapf_tree.specs.Problem.{Problem}
 use Rattle.mapf_tree.specs.Nodes.{Node, AllStand}
 use Rattle.mapf_tree.specs.Search.{Searched, IsSearch, IsLawful}
-use Rattle.mapf_tree.proofs.OpenNodes.{tail_stands}
+use Rattle.mapf_tree.proofs.high_level.OpenNodes.{tail_stands}
 
 -- behind the first of them the others wait still
 pub others_wait : (p : Problem) (old new : List Node) (n : Node) → AllStand p old → old ≡ n ∷ new → AllStand p new

@@ -4,13 +4,13 @@ use Rattle.mapf_tree.specs.LowerBound.{IsBelowAll}
 use Rattle.mapf_tree.specs.Problem.{Problem}
 use Rattle.mapf_tree.specs.Search.{CountsTaken}
 use Rattle.mapf_tree.specs.Tree.{IsAnswer}
-use Rattle.mapf_tree.proofs.Descent.{none_is_none}
-use Rattle.mapf_tree.proofs.GoingOn.{best_out}
+use Rattle.mapf_tree.proofs.solutions.Descent.{none_is_none}
+use Rattle.mapf_tree.proofs.high_level.GoingOn.{best_out}
 use Rattle.mapf_bounds.specs.Bounds.{Bounding, IsRange}
 use Rattle.mapf_bounds.specs.Below.{IsEnough}
 use Rattle.mapf_bounds.specs.Waiting.{IsCovering, IsMoving}
 use Rattle.mapf_bounds.proofs.Moving.{moves_first}
-use Rattle.mapf_tree.proofs.LowerBounds.{stated_below}
+use Rattle.mapf_tree.proofs.high_level.LowerBounds.{stated_below}
 use Rattle.mapf_bounds.specs.Told.{IsWatched}
 use Rattle.mapf_bounds.proofs.Telling.{watched_behind, watched_empty}
 use Rattle.mapf_bounds.proofs.Turns.{stated_answer}

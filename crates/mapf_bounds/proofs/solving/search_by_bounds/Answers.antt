@@ -4,7 +4,7 @@ use Rattle.mapf_tree.specs.Told.{IsEndOf}
 use Rattle.mapf_bounds.specs.Bounds.{Bounding}
 use Rattle.mapf_bounds.specs.Below.{IsEnough}
 use Rattle.mapf_bounds.specs.Waiting.{Branches, IsCovering, IsTurn, Raises}
-use Rattle.mapf_tree.proofs.LowerBounds.{stated_below}
+use Rattle.mapf_tree.proofs.high_level.LowerBounds.{stated_below}
 use Rattle.mapf_bounds.proofs.Telling.{IsTellingBy, by_begins, by_ends, by_expands, by_goes, stated_ends}
 use Rattle.mapf_bounds.proofs.Turns.{branches_cover, raises_cover}
 use Rattle.mapf_bounds.proofs.Weights.{branches_fall, raises_fall, total}

@@ -1,7 +1,7 @@
 use Rattle.std.proofs.Common.{rules, refl, subst, sym, ap, ◌∙◌, arith, IsSome, ◌≡◌, None, false}
 use Rattle.mapf_tree.specs.Family.{IsBranching}
 use Rattle.mapf_tree.specs.Problem.{Problem}
-use Rattle.mapf_tree.proofs.Expansions.{some_there, conflict_absent}
+use Rattle.mapf_tree.proofs.high_level.Expansions.{some_there, conflict_absent}
 use Rattle.mapf_bounds.specs.declared.waiting.Stage.TheVariants.{Own}
 use Rattle.mapf_bounds.specs.Bounds.{Bounding, IsBoundOf}
 use Rattle.mapf_bounds.specs.Pairs.{AreKnownAt}

@@ -1,5 +1,5 @@
 use Rattle.std.proofs.Common.{Ok, ap, ◌∙◌, arith}
-use Rattle.mapf_tree.proofs.GoingOn.{right_out}
+use Rattle.mapf_tree.proofs.high_level.GoingOn.{right_out}
 use Rattle.mapf_solve.proofs.GoingOn.{counts_on, falls, still_open}
 use Rattle.mapf_solve.proofs.Telling.{told_any, told_both, told_more, told_nothing}
 use Rattle.mapf_solve.proofs.solving.solve_in_sessions.Goals as goal

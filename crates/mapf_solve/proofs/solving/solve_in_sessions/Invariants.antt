@@ -1,5 +1,5 @@
 use Rattle.std.proofs.Common.{◌≡◌, Ok, None}
-use Rattle.mapf_tree.proofs.Remaining.{remaining}
+use Rattle.mapf_tree.proofs.high_level.Remaining.{remaining}
 use Rattle.mapf_solve.proofs.Telling.{IsToldTo}
 use Rattle.mapf_solve.proofs.solving.solve_in_sessions.Given as goal
 

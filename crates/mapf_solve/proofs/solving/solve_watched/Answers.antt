@@ -1,4 +1,4 @@
-use Rattle.mapf_tree.proofs.GoingOn.{best_out}
+use Rattle.mapf_tree.proofs.high_level.GoingOn.{best_out}
 use Rattle.mapf_solve.proofs.solving.solve_watched.Goals as goal
 
 pub returns-clause-best : goal.returns-clause-best

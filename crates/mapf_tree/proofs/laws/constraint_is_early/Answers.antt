@@ -1,4 +1,4 @@
-use Rattle.mapf_tree.proofs.Measure.{constraint_is_early}
+use Rattle.mapf_tree.proofs.finite.Measure.{constraint_is_early}
 use Rattle.mapf_tree.proofs.laws.constraint_is_early.Goals as goal
 
 pub returns : goal.returns

@@ -1,4 +1,4 @@
-use Rattle.mapf_tree.proofs.SearchLaws.{end_law}
+use Rattle.mapf_tree.proofs.high_level.SearchLaws.{end_law}
 use Rattle.mapf_tree.proofs.laws.ends_at_answer.Goals as goal
 
 pub returns : goal.returns

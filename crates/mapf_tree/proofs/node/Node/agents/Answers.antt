@@ -1,5 +1,5 @@
 use Rattle.std.proofs.Common.{ap, ◌∙◌, length}
-use Rattle.mapf_tree.proofs.Chains.{agents_of_root}
+use Rattle.mapf_tree.proofs.node.Chains.{agents_of_root}
 use Rattle.mapf_tree.specs.Prelude.{Body}
 use Rattle.mapf_tree.proofs.node.Node.agents.Goals as goal
 

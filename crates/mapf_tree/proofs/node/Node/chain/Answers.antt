@@ -1,4 +1,4 @@
-use Rattle.mapf_tree.proofs.Chains.{sets_of_changes}
+use Rattle.mapf_tree.proofs.node.Chains.{sets_of_changes}
 use Rattle.mapf_tree.proofs.node.Node.chain.Goals as goal
 
 pub returns-clause-constraints : goal.returns-clause-constraints

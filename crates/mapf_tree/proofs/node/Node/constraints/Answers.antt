@@ -1,4 +1,4 @@
-use Rattle.mapf_tree.proofs.Chains.{sets_at}
+use Rattle.mapf_tree.proofs.node.Chains.{sets_at}
 use Rattle.mapf_tree.specs.Prelude.{Body}
 use Rattle.mapf_tree.proofs.node.Node.constraints.Goals as goal
 use Rattle.mapf_tree.proofs.Prelude.{ap, IfOk-weaker}

@@ -1,6 +1,6 @@
 use Rattle.std.proofs.Common.{◌≡◌, ◌+◌, length, sym, ap, ◌∙◌, arith}
 use Rattle.mapf_tree.specs.Prelude.{Changed, Body}
-use Rattle.mapf_tree.proofs.Chains.{last_at}
+use Rattle.mapf_tree.proofs.node.Chains.{last_at}
 use Rattle.mapf_tree.proofs.node.Node.last_path.Goals as goal
 
 pub returns-then-change-agent : goal.returns-then-change-agent

@@ -1,5 +1,5 @@
 use Rattle.std.proofs.Common.{ap}
-use Rattle.mapf_tree.proofs.Chains.{at_root}
+use Rattle.mapf_tree.proofs.node.Chains.{at_root}
 use Rattle.mapf_tree.specs.Prelude.{Body}
 use Rattle.mapf_tree.proofs.node.Node.path.Goals as goal
 

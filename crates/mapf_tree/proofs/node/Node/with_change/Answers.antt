@@ -1,6 +1,6 @@
 use Rattle.mapf_tree.proofs.Prelude.{length, replicate, set, [], subst, sym, ap, ap₂, ◌∙◌}
 use Rattle.mapf_tree.specs.Prelude.{plan_cost, changed_plan, changed_sets, AgreesWith, Changed, Body, node_of, with_one}
-use Rattle.mapf_tree.proofs.Chains.{plan_turned, sets_turned, agrees_turned}
+use Rattle.mapf_tree.proofs.node.Chains.{plan_turned, sets_turned, agrees_turned}
 use Rattle.mapf_tree.proofs.node.Node.with_change.Goals as goal
 
 pub invariant_of-result : goal.invariant_of-result

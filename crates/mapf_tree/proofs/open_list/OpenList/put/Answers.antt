@@ -4,7 +4,7 @@ use Rattle.std.specs.BTreeMap.{is_at}
 use Rattle.std.specs.BTreeSet.{insert_key}
 use Rattle.std.specs.List.{list_any}
 use Rattle.mapf_tree.specs.Prelude.{by_key, IsPut}
-use Rattle.mapf_tree.proofs.Rising.{sorted_rises, new_back}
+use Rattle.mapf_tree.proofs.open_list.Rising.{sorted_rises, new_back}
 use Rattle.mapf_tree.proofs.open_list.OpenList.put.Goals as goal
 
 pub returns-in-Ok-true-clause-ok : goal.returns-in-Ok-true-clause-ok

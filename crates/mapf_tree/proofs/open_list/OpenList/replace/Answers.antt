@@ -1,6 +1,6 @@
 use Rattle.std.proofs.Common.{reverse, sym, subst₂, ap}
 use Rattle.mapf_tree.specs.Prelude.{IsPut}
-use Rattle.mapf_tree.proofs.Rising.{sorted_rises, put_back}
+use Rattle.mapf_tree.proofs.open_list.Rising.{sorted_rises, put_back}
 use Rattle.mapf_tree.proofs.open_list.OpenList.replace.Goals.{in-Ok+in-None-1, in-Ok+in-Some-1, in-Err}
 use Rattle.mapf_tree.proofs.open_list.OpenList.replace.Goals as goal
 

@@ -1,6 +1,6 @@
 use Rattle.std.proofs.Common.{subst}
 use Rattle.mapf_tree.specs.Prelude.{IsRising}
-use Rattle.mapf_tree.proofs.Rising.{sorted_rises}
+use Rattle.mapf_tree.proofs.open_list.Rising.{sorted_rises}
 use Rattle.mapf_tree.proofs.open_list.OpenList.take_least.Goals as goal
 
 pub returns-clause-rising : goal.returns-clause-rising

@@ -1,6 +1,6 @@
 use Rattle.mapf_tree.proofs.Prelude.{map, subst, sym, map-set}
 use Rattle.mapf_tree.specs.Prelude.{option_map, arc_value, AreFromStart, AreTables}
-use Rattle.mapf_tree.proofs.StartTables.{right_with_other}
+use Rattle.mapf_tree.proofs.own_paths.StartTables.{right_with_other}
 use Rattle.mapf_tree.proofs.own_paths.OwnPaths.make_table.Goals as goal
 
 pub invariant_of-self : goal.invariant_of-self

@@ -1,6 +1,6 @@
 use Rattle.std.proofs.Common.{Ok, ap, ◌∙◌, arith}
-use Rattle.mapf_tree.proofs.GoingOn.{right_out, best_out}
-use Rattle.mapf_tree.proofs.Remaining.{remaining_falls}
+use Rattle.mapf_tree.proofs.high_level.GoingOn.{right_out, best_out}
+use Rattle.mapf_tree.proofs.high_level.Remaining.{remaining_falls}
 use Rattle.mapf_tree.proofs.search.Search.finish.Goals as goal
 
 pub loop-search-smaller : goal.loop-search-smaller

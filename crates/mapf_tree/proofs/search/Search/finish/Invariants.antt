@@ -1,6 +1,6 @@
 use Rattle.std.proofs.Common.{◌≡◌}
 use Rattle.mapf_tree.specs.Prelude.{IsSearch}
-use Rattle.mapf_tree.proofs.Remaining.{remaining}
+use Rattle.mapf_tree.proofs.high_level.Remaining.{remaining}
 use Rattle.mapf_tree.proofs.search.Search.finish.Given as goal
 
 abbrev pub invariant-loop-search : goal.invariant-loop-search

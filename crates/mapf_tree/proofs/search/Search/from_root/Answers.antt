@@ -1,4 +1,4 @@
-use Rattle.mapf_tree.proofs.Expansions.{root_waits, counted_first}
+use Rattle.mapf_tree.proofs.high_level.Expansions.{root_waits, counted_first}
 use Rattle.mapf_tree.proofs.search.Search.from_root.Goals as goal
 
 pub invariant_of-result : goal.invariant_of-result

@@ -1,6 +1,6 @@
 use Rattle.std.proofs.Common.{◌≡◌, ◌+◌, Ok, subst, arith}
 use Rattle.mapf_tree.specs.Prelude.{Finished, IsSearch, IsStep}
-use Rattle.mapf_tree.proofs.GoingOn.{goes_on, taken_between, taken_at_end, ended}
+use Rattle.mapf_tree.proofs.high_level.GoingOn.{goes_on, taken_between, taken_at_end, ended}
 use Rattle.mapf_tree.proofs.search.Search.go.Goals as goal
 
 pub loop-taken-preserved : goal.loop-taken-preserved

@@ -1,5 +1,5 @@
 use Rattle.std.proofs.Common.{◌≡◌, ◌≤◌}
-use Rattle.mapf_tree.proofs.GoingOn.{GoesOn}
+use Rattle.mapf_tree.proofs.high_level.GoingOn.{GoesOn}
 use Rattle.mapf_tree.proofs.search.Search.go.Given as goal
 
 abbrev pub invariant-loop-taken : goal.invariant-loop-taken

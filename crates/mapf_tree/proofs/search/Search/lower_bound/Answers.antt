@@ -1,7 +1,7 @@
 use Rattle.std.proofs.Common.{◌≡◌, Ok, Some, None, rules, subst}
 use Rattle.std.specs.Option.{option_map}
 use Rattle.mapf_tree.specs.Prelude.{node_key, Searched, IsLawful, IsBelowAll}
-use Rattle.mapf_tree.proofs.LowerBounds.{known_is_below}
+use Rattle.mapf_tree.proofs.high_level.LowerBounds.{known_is_below}
 use Rattle.mapf_tree.proofs.search.Search.lower_bound.Goals as goal
 
 pub returns-in-Ok-None-clause-below : goal.returns-in-Ok-None-clause-below

@@ -2,7 +2,7 @@ use Rattle.std.proofs.Common.{◌≡◌, ℕ, Ok, Some, inr, refl, subst, ap, �
 use Rattle.std.specs.Option.{option_map}
 use Rattle.mapf_plan.specs.declared.answer.Answer.TheVariants as answer
 use Rattle.mapf_tree.specs.Prelude.{plan_cost, node_key, Searched, IsLawful, TakesOne, TakesLeast}
-use Rattle.mapf_tree.proofs.Expansions.{branched_lawful, counted_more, solved_lawful, empty_lawful, given_up_lawful}
+use Rattle.mapf_tree.proofs.high_level.Expansions.{branched_lawful, counted_more, solved_lawful, empty_lawful, given_up_lawful}
 use Rattle.mapf_tree.proofs.search.Search.step.Goals as goal
 use Rattle.mapf_tree.proofs.search.Search.step.Goals.{In-Some, In-Ok-Branched, In-Ok-Solved, In-Ok-Empty}
 

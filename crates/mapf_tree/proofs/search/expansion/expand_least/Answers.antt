@@ -1,6 +1,6 @@
 use Rattle.std.proofs.Common.{◌≡◌, ◌∷◌, Some, subst, sym, ap, ◌∙◌}
 use Rattle.mapf_tree.specs.Prelude.{Conflict, Node, IsBranching}
-use Rattle.mapf_tree.proofs.Expansions.{solved_case, branches, branched_case, conflict_there, some_there, conflict_absent}
+use Rattle.mapf_tree.proofs.high_level.Expansions.{solved_case, branches, branched_case, conflict_there, some_there, conflict_absent}
 use Rattle.mapf_tree.proofs.search.expansion.expand_least.Goals as goal
 
 pub returns-then-is_none-clause-expanded : goal.returns-then-is_none-clause-expanded

@@ -1,4 +1,4 @@
-use Rattle.mapf_tree.proofs.LowerBounds.{first_given, cost-key, first_is_least_cost}
+use Rattle.mapf_tree.proofs.high_level.LowerBounds.{first_given, cost-key, first_is_least_cost}
 use Rattle.mapf_tree.proofs.search.lower_bound.least_cost.Goals as goal
 
 pub returns-in-Some : goal.returns-in-Some

@@ -1,6 +1,6 @@
 use Rattle.std.proofs.Common.{◌+◌, ◌++◌, ◌-◌, ap, ◌∙◌}
 use Rattle.mapf_tree.specs.Prelude.{turns_of}
-use Rattle.mapf_tree.proofs.NameTurns.{left_read, right_read}
+use Rattle.mapf_tree.proofs.tree.NameTurns.{left_read, right_read}
 use Rattle.mapf_tree.proofs.tree.name.first_turns.Goals.{then-left-bit+in_ok-push, else-left-bit+in_ok-push-2}
 use Rattle.mapf_tree.proofs.tree.name.first_turns.Goals as goal
 

@@ -1,6 +1,6 @@
 use Rattle.std.proofs.Common.{◌≡◌, ◌+◌, ◌*◌, ◌-◌, ◌^◌, sym, ap, ◌∙◌, arith}
 use Rattle.mapf_tree.specs.Prelude.{turn}
-use Rattle.mapf_tree.proofs.NameTurns.{number_more, number_fits}
+use Rattle.mapf_tree.proofs.tree.NameTurns.{number_more, number_fits}
 use Rattle.mapf_tree.proofs.tree.name.number_with.Goals as goal
 
 -- the bit of a turn to the right

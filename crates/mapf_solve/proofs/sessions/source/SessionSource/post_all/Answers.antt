@@ -1,5 +1,5 @@
 use Rattle.std.proofs.Common.{rules, subst, IsSome}
-use Rattle.mapf_tree.proofs.Expansions.{branches}
+use Rattle.mapf_tree.proofs.high_level.Expansions.{branches}
 use Rattle.mapf_solve.proofs.WaitingNodes.{others_wait}
 use Rattle.mapf_solve.proofs.sessions.source.SessionSource.post_all.Goals as goal
 

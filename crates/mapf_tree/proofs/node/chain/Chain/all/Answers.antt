@@ -1,7 +1,7 @@
 use Rattle.std.proofs.Common.{◌++◌, map, ap, ap₂, ◌∙◌}
 use Rattle.mapf_tree.specs.Prelude.{arc_value, Chain}
 use Rattle.mapf_tree.specs.declared.node.chain.Older.{Older}
-use Rattle.mapf_tree.proofs.Chains.{map-clones}
+use Rattle.mapf_tree.proofs.node.Chains.{map-clones}
 use Rattle.mapf_tree.proofs.node.chain.Chain.all.Goals as goal
 
 pub returns-clause-changes : goal.returns-clause-changes

@@ -1,7 +1,7 @@
 use Rattle.mapf_tree.proofs.Prelude.{List, ◌<◌, [], take, take_all, replicate, get_or, subst, subst₂, sym, ap, ◌∙◌, arith, length-replicate}
 use Rattle.mapf_tree.specs.Prelude.{Constraint, Changed, IsSameSet, changed_sets}
 use Rattle.mapf_tree.proofs.ConstraintSets.{IsWith}
-use Rattle.mapf_tree.proofs.Chains.{taken_more, sets_more}
+use Rattle.mapf_tree.proofs.node.Chains.{taken_more, sets_more}
 use Rattle.mapf_tree.proofs.node.chain.Chain.constraints.Goals.{then-change-agent+in_ok-constraints, else-change-agent}
 use Rattle.mapf_tree.proofs.node.chain.Chain.constraints.Goals as goal
 

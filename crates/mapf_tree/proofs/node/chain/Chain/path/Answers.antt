@@ -1,6 +1,6 @@
 use Rattle.std.proofs.Common.{◌≡◌, take, subst, sym, ap, ◌∙◌}
 use Rattle.mapf_tree.specs.Prelude.{path_of, Changed, changed_plan}
-use Rattle.mapf_tree.proofs.Chains.{taken_more, path_more}
+use Rattle.mapf_tree.proofs.node.Chains.{taken_more, path_more}
 use Rattle.mapf_tree.proofs.node.chain.Chain.path.Goals.{then-change-agent, else-change-agent}
 use Rattle.mapf_tree.proofs.node.chain.Chain.path.Goals as goal
 

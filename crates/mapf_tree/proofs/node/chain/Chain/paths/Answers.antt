@@ -1,6 +1,6 @@
 use Rattle.std.proofs.Common.{◌<◌, take, set, subst, sym, ap, ◌∙◌, length}
 use Rattle.mapf_tree.specs.Prelude.{changed_plan}
-use Rattle.mapf_tree.proofs.Chains.{all_at, taken_more, changed_plan-push, length-changed_plan}
+use Rattle.mapf_tree.proofs.node.Chains.{all_at, taken_more, changed_plan-push, length-changed_plan}
 use Rattle.mapf_tree.proofs.node.chain.Chain.paths.Goals as goal
 
 pub change-requires : goal.change-requires

@@ -1,5 +1,5 @@
 use Rattle.mapf_tree.proofs.Prelude.{◌≡◌, ◌<◌, [], ◌∷◌, ◌++◌, length, map, subst, sym, ap, ◌∙◌, arith, length-map, get_or-map, slice_get_read}
-use Rattle.mapf_tree.proofs.Chains.{taken_more}
+use Rattle.mapf_tree.proofs.node.Chains.{taken_more}
 use Rattle.mapf_tree.proofs.node.current_paths.CurrentPaths.plan.Goals as goal
 
 pub loop-path-preserved : goal.loop-path-preserved

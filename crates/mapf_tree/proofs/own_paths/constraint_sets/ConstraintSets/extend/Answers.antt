@@ -1,6 +1,6 @@
 use Rattle.std.proofs.Common.{subst, sym}
 use Rattle.mapf_tree.specs.Prelude.{option_map, AreExtensions, IsExtension, GivesOwn}
-use Rattle.mapf_tree.proofs.PathCaches.{extensions_more}
+use Rattle.mapf_tree.proofs.own_paths.PathCaches.{extensions_more}
 use Rattle.mapf_tree.proofs.own_paths.constraint_sets.ConstraintSets.extend.Goals as goal
 
 pub invariant_of-self : goal.invariant_of-self

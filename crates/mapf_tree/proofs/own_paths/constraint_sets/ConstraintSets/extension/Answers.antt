@@ -1,6 +1,6 @@
 use Rattle.mapf_tree.proofs.Prelude.{◌≡◌, Some, refl, subst, subst₂, slice_get_read}
 use Rattle.mapf_tree.specs.Prelude.{slice_get, IsExtension, Extends}
-use Rattle.mapf_tree.proofs.PathCaches.{extension_tells}
+use Rattle.mapf_tree.proofs.own_paths.PathCaches.{extension_tells}
 use Rattle.mapf_tree.proofs.own_paths.constraint_sets.ConstraintSets.extension.Goals as goal
 
 pub returns-then-is_same : goal.returns-then-is_same

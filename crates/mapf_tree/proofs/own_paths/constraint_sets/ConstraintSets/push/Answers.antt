@@ -1,6 +1,6 @@
 use Rattle.std.proofs.Common.{sym, subst}
 use Rattle.mapf_tree.specs.Prelude.{AreExtensions}
-use Rattle.mapf_tree.proofs.PathCaches.{extensions_kept}
+use Rattle.mapf_tree.proofs.own_paths.PathCaches.{extensions_kept}
 use Rattle.mapf_tree.proofs.own_paths.constraint_sets.ConstraintSets.push.Goals as goal
 
 pub invariant_of-self-2 : goal.invariant_of-self-2

@@ -1,7 +1,7 @@
 use Rattle.mapf_tree.proofs.Prelude.{◌≡◌, ℕ, List, Option, Some, ◌∙◌, IfSome_then, IfOk-weaker, known_stays}
 use Rattle.mapf_tree.specs.Prelude.{slice_get, KnownPaths, Problem, ConstraintSet, Path, IsRemembered, IsTold, TellsUpTo}
 use Rattle.mapf_tree.specs.declared.own_paths.path_cache.node_numbers.NodeNumbers.{NodeNumbers}
-use Rattle.mapf_tree.proofs.PathCaches.{known_kept}
+use Rattle.mapf_tree.proofs.own_paths.PathCaches.{known_kept}
 use Rattle.mapf_tree.proofs.own_paths.path_cache.PathCache.add.Goals as goal
 
 -- all that is remembered stays so where each path keeps its number

@@ -1,6 +1,6 @@
 use Rattle.mapf_tree.proofs.Prelude.{◌≡◌, ◌<◌, [], length, subst, subst₂, sym, ap, ap₂, ◌∙◌, arith, length-map, slice_get_within, get_or_from_slice_get}
 use Rattle.mapf_tree.specs.Prelude.{slice_set, path_of, plan_of, Changed, IsConflictOf, PathCache}
-use Rattle.mapf_tree.proofs.PathCaches.{small_at, child_at}
+use Rattle.mapf_tree.proofs.own_paths.PathCaches.{small_at, child_at}
 use Rattle.mapf_tree.proofs.own_paths.path_cache.PathCache.child_with.Goals as goal
 
 pub cost_at-old-requires-clause-agent : goal.cost_at-old-requires-clause-agent

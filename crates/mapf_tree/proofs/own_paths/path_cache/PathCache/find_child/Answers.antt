@@ -1,6 +1,6 @@
 use Rattle.std.proofs.Common.{subst}
 use Rattle.mapf_tree.specs.Prelude.{MatchOption, IfKnown, HasNoTurnAt, IsTurnAt}
-use Rattle.mapf_tree.proofs.PathCaches.{none_at}
+use Rattle.mapf_tree.proofs.own_paths.PathCaches.{none_at}
 use Rattle.mapf_tree.proofs.own_paths.path_cache.PathCache.find_child.Goals as goal
 
 pub returns-in-Known-None-clause-child : goal.returns-in-Known-None-clause-child

@@ -1,6 +1,6 @@
 use Rattle.std.proofs.Common.{◌≤◌, Some, refl, sym, subst, ap, arith}
 use Rattle.mapf_tree.specs.Prelude.{arc_value, cost, PathCache, HasPath, IsOwnIn}
-use Rattle.mapf_tree.proofs.PathCaches.{own_in_path}
+use Rattle.mapf_tree.proofs.own_paths.PathCaches.{own_in_path}
 use Rattle.mapf_tree.proofs.own_paths.path_cache.PathCache.find_own_path.Goals as goal
 
 pub returns-in-Path-clause-own : goal.returns-in-Path-clause-own

@@ -1,6 +1,6 @@
 use Rattle.std.proofs.Common.{Some, subst, subst₂, sym, ap, ◌∙◌}
 use Rattle.mapf_tree.specs.Prelude.{arc_value, IsOwnWithin, IsOwnPathOf, PathCache}
-use Rattle.mapf_tree.proofs.PathCaches.{root_own}
+use Rattle.mapf_tree.proofs.own_paths.PathCaches.{root_own}
 use Rattle.mapf_tree.proofs.own_paths.path_cache.PathCache.first_set.Goals as goal
 
 pub add-requires-clause-path : goal.add-requires-clause-path

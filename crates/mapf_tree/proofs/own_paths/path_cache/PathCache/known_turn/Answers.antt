@@ -1,7 +1,7 @@
 use Rattle.mapf_tree.proofs.Prelude.{◌≡◌, ◌<◌, get_or, length, Some, option_map, subst, subst₂, sym, ◌∙◌, arith, get_or_default_zero}
 use Rattle.mapf_tree.specs.Prelude.{IfSome, Leaves, Changed, PathCache, IsExtended, IsOwnIn, IsNumberOf, IsTurnAt, GivesOwn, AreKnown}
-use Rattle.mapf_tree.proofs.SideNodes.{agent_inside}
-use Rattle.mapf_tree.proofs.PathCaches.{turn_at, no_turn_at}
+use Rattle.mapf_tree.proofs.sides.SideNodes.{agent_inside}
+use Rattle.mapf_tree.proofs.own_paths.PathCaches.{turn_at, no_turn_at}
 use Rattle.mapf_tree.proofs.own_paths.path_cache.PathCache.known_turn.Goals as goal
 
 pub returns-in_default-path : goal.returns-in_default-path

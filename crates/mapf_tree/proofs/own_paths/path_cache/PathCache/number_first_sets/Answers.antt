@@ -1,6 +1,6 @@
 use Rattle.std.proofs.Common.{◌≡◌, ℕ, ◌<◌, [], length, inr, subst, sym, ap, ◌∙◌, arith}
 use Rattle.mapf_tree.specs.Prelude.{slice_index, Problem, PathCache, HasSet}
-use Rattle.mapf_tree.proofs.PathCaches.{each_more, sets_begun, agents_at_node}
+use Rattle.mapf_tree.proofs.own_paths.PathCaches.{each_more, sets_begun, agents_at_node}
 use Rattle.mapf_tree.proofs.own_paths.path_cache.PathCache.number_first_sets.Goals as goal
 
 pub loop-agent-preserved : goal.loop-agent-preserved

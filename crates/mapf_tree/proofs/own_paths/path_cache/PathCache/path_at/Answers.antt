@@ -1,6 +1,6 @@
 use Rattle.std.proofs.Common.{◌≡◌, Some, subst, sym, refl}
 use Rattle.mapf_tree.specs.Prelude.{slice_get, arc_value, path_of, IsBranching, PathCache, AreSetsOf, HasPath}
-use Rattle.mapf_tree.proofs.PathCaches.{path_at_node}
+use Rattle.mapf_tree.proofs.own_paths.PathCaches.{path_at_node}
 use Rattle.mapf_tree.proofs.own_paths.path_cache.PathCache.path_at.Goals as goal
 
 pub returns-in-Path : goal.returns-in-Path

@@ -1,6 +1,6 @@
 use Rattle.std.proofs.Common.{ℕ, List, subst, sym}
 use Rattle.mapf_tree.specs.Prelude.{Constraint, ConstraintSet, PathCache, HasSet, IsCachedPath}
-use Rattle.mapf_tree.proofs.PathCaches.{known_more, firsts_kept, set_kept, set_added}
+use Rattle.mapf_tree.proofs.own_paths.PathCaches.{known_more, firsts_kept, set_kept, set_added}
 use Rattle.mapf_tree.proofs.own_paths.path_cache.PathCache.push.Goals as goal
 
 pub invariant_of-self-2 : goal.invariant_of-self-2

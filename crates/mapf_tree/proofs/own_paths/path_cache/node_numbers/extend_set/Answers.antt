@@ -1,6 +1,6 @@
 use Rattle.mapf_tree.proofs.Prelude.{◌≡◌, ◌<◌, [], ◌∷◌, length, get_or, set, subst, ◌∙◌, arith, get_or_default_zero}
 use Rattle.mapf_tree.specs.Prelude.{Changed, IsExtended, AreSetsOf}
-use Rattle.mapf_tree.proofs.PathCaches.{sets_turned_on}
+use Rattle.mapf_tree.proofs.own_paths.PathCaches.{sets_turned_on}
 use Rattle.mapf_tree.proofs.own_paths.path_cache.node_numbers.extend_set.Goals as goal
 
 pub returns-in-Some : goal.returns-in-Some

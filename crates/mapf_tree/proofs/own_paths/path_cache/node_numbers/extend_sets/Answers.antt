@@ -1,6 +1,6 @@
 use Rattle.std.proofs.Common.{take, subst, sym, ◌∙◌, ap}
 use Rattle.mapf_tree.specs.Prelude.{changed_sets, AreSetsOf}
-use Rattle.mapf_tree.proofs.Chains.{taken_more, changed_sets-push}
+use Rattle.mapf_tree.proofs.node.Chains.{taken_more, changed_sets-push}
 use Rattle.mapf_tree.proofs.own_paths.path_cache.node_numbers.extend_sets.Goals as goal
 
 pub loop-turn-preserved : goal.loop-turn-preserved

@@ -1,5 +1,5 @@
 use Rattle.std.proofs.Common.{length, ap, arith}
-use Rattle.mapf_tree.proofs.NameTurns.{length_kept}
+use Rattle.mapf_tree.proofs.tree.NameTurns.{length_kept}
 use Rattle.mapf_tree.proofs.tree.name.Name.len.Goals as goal
 
 pub returns : goal.returns

@@ -1,6 +1,6 @@
 use Rattle.std.proofs.Common.{◌≡◌, ℕ, List, ◌≤◌, ◌++◌, [], ◌∷◌, length, ap, ◌∙◌, arith}
 use Rattle.mapf_tree.specs.Prelude.{Side, turns_of, IsKept}
-use Rattle.mapf_tree.proofs.NameTurns.{number_kept, name_more, length_kept}
+use Rattle.mapf_tree.proofs.tree.NameTurns.{number_kept, name_more, length_kept}
 use Rattle.mapf_tree.proofs.tree.name.Name.with.Goals as goal
 
 -- a name whose number is full is no shorter than it

@@ -1,6 +1,6 @@
 use Rattle.std.proofs.Common.{◌≡◌, map, Ordering, Less, Equal, Greater, nat_cmp, refl, sym, ap, ap₂, ◌∙◌}
 use Rattle.mapf_tree.specs.Prelude.{ordering_then, slice_cmp, turn}
-use Rattle.mapf_tree.proofs.NameOrder.{name_order, compared_turns}
+use Rattle.mapf_tree.proofs.tree.NameOrder.{name_order, compared_turns}
 use Rattle.mapf_tree.proofs.tree.name.NameOrd.cmp.Goals as goal
 
 decided : (t s : Ordering) → (t ≡ Equal → ⊥) → t ≡ ordering_then t s

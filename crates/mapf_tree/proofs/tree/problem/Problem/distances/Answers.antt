@@ -1,6 +1,6 @@
 use Rattle.std.proofs.Common.{◌<◌, length, slice_index, subst}
 use Rattle.mapf_tree.specs.Prelude.{AreDistances, Problem}
-use Rattle.mapf_tree.proofs.Tables.{table_at}
+use Rattle.mapf_tree.proofs.tree.Tables.{table_at}
 use Rattle.mapf_tree.proofs.tree.problem.Problem.distances.Goals as goal
 
 pub returns : goal.returns

@@ -1,6 +1,6 @@
 use Rattle.std.proofs.Common.{Some, None, subst, sym, ap, ◌∙◌}
 use Rattle.mapf_tree.specs.Prelude.{path_of, IsChildOf, SideQuery, IsFoundBy}
-use Rattle.mapf_tree.proofs.Queries.{found_of_child}
+use Rattle.mapf_tree.proofs.sides.Queries.{found_of_child}
 use Rattle.mapf_tree.proofs.tree.side_query.SideQuery.answer_in.Goals as goal
 
 pub returns-in-Some-last_path : goal.returns-in-Some-last_path

@@ -1,6 +1,6 @@
 use Rattle.std.proofs.Common.{Some, option_map, subst, subst₂, sym, ap}
 use Rattle.mapf_tree.specs.Prelude.{arc_value, IsChildOf, Changed, SideQuery, IsQueryOf, IsFoundBy}
-use Rattle.mapf_tree.proofs.Queries.{is_child, no_child}
+use Rattle.mapf_tree.proofs.sides.Queries.{is_child, no_child}
 use Rattle.mapf_tree.proofs.tree.side_query.SideQuery.child.Goals as goal
 
 pub returns-in_default : goal.returns-in_default

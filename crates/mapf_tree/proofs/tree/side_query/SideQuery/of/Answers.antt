@@ -1,8 +1,8 @@
 use Rattle.std.proofs.Common.{rules, ◌≡◌, ◌<◌, ◌≤◌, [], get_or, length, subst, sym, ap, ◌∙◌}
 use Rattle.mapf_tree.specs.Prelude.{cost, Conflict, agent_on, constraint_on}
 use Rattle.mapf_tree.proofs.ConstraintSets.{with_same}
-use Rattle.mapf_tree.proofs.LeastCosts.{costs_no_less}
-use Rattle.mapf_tree.proofs.SideNodes.{agent_inside}
+use Rattle.mapf_tree.proofs.sides.LeastCosts.{costs_no_less}
+use Rattle.mapf_tree.proofs.sides.SideNodes.{agent_inside}
 use Rattle.mapf_tree.proofs.tree.side_query.SideQuery.of.Goals as goal
 
 pub returns-clause-query : goal.returns-clause-query

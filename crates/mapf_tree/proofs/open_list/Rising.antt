@@ -7,7 +7,7 @@ use Rattle.std.specs.List.{list_any}
 use Rattle.std.specs.Ordering.{is_eq}
 use Rattle.std.specs.List.Sorted.{IsStrictlySortedBy}
 use Rattle.mapf_tree.specs.Prelude.{IsTotalOrder, nat_cmp_total, tied_itself, slice_cmp, lists_total, ordering_reverse, match_ordering, Precedes, Node, node_key, by_key, IsRising, IsPut}
-use Rattle.mapf_tree.proofs.Keyed.{Precedes-slice_cmp}
+use Rattle.mapf_tree.proofs.tree.Keyed.{Precedes-slice_cmp}
 
 -- ranks are in a total order
 total : IsTotalOrder (slice_cmp nat_cmp)

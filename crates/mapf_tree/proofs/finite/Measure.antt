@@ -5,11 +5,11 @@ use Rattle.std.proofs.lemmas.List.Sums.{sum_by-set, sum_by-le}
 use Rattle.std.proofs.lemmas.List.Folds.{sum_by-replicate}
 use Rattle.mapf_plan.specs.declared.conflict.Conflict.TheVariants.{Vertex, Swapping, Following}
 use Rattle.mapf_plan.proofs.Paths.{place_free, moves}
-use Rattle.mapf_tree.proofs.Branch.{agent_below}
-use Rattle.mapf_tree.proofs.Followers.{parts, part_early}
-use Rattle.mapf_tree.proofs.Distinct.{Distinct, distinct_le}
+use Rattle.mapf_tree.proofs.sides.Branch.{agent_below}
+use Rattle.mapf_tree.proofs.sides.Followers.{parts, part_early}
+use Rattle.mapf_tree.proofs.finite.Distinct.{Distinct, distinct_le}
 use Rattle.mapf_tree.proofs.Plans.{plan_costs}
-use Rattle.mapf_tree.proofs.Universe.{universe, Fits, Contains-universe, length-universe, fits_early, cells_of, edges_of, holds_all}
+use Rattle.mapf_tree.proofs.finite.Universe.{universe, Fits, Contains-universe, length-universe, fits_early, cells_of, edges_of, holds_all}
 
 -- what holds along the tree
 pub record Grown (problem : Problem) (node : TreeNode) : Type 0 where

@@ -1,8 +1,8 @@
 -- How many nodes a search can take.
 use Rattle.mapf_tree.proofs.Prelude.{List, [], ◌∷◌, length, All-from_recursion, All-contains}
 use Rattle.mapf_tree.specs.Prelude.{PlannedNode, IsMember, EachOnce, TakenAreBounded}
-use Rattle.mapf_tree.proofs.Distinct.{Distinct, distinct_le}
-use Rattle.mapf_tree.proofs.Finite.{members}
+use Rattle.mapf_tree.proofs.finite.Distinct.{Distinct, distinct_le}
+use Rattle.mapf_tree.proofs.finite.Finite.{members}
 
 -- what stands once is distinct
 pub distinct : (ms : List PlannedNode) → EachOnce ms → Distinct ms

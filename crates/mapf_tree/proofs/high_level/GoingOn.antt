@@ -2,8 +2,8 @@
 use Rattle.mapf_tree.proofs.Prelude.{◌≡◌, ◌⊎◌, ℕ, ◌+◌, ◌<◌, ◌≤◌, List, [], ◌∷◌, Option, Some, None, Result, Ok, Err, IfOk, inl, inr, subst, sym, refl, ◌∙◌, ⊎_elim, arith, Contains, nowhere, here, there, here_or_there}
 use Rattle.mapf_tree.specs.Prelude.{ok_or, NoMemory, Answer, Working, Finished, Problem, PlannedNode, IsMember, IsReached, Searched, IsSearch, IsLawful, IsEnded, TakesBetween, answer_of, IsStated, IsAnswerUpTo, IsAnswerOf, IsBestAnswer, TakesOne, IsStep}
 use Rattle.mapf_tree.specs.declared.search.progress.Progress.{Progress}
-use Rattle.mapf_tree.proofs.Descent.{answer_is_optimum, none_is_none}
-use Rattle.mapf_tree.proofs.Limits.{cut_is_below}
+use Rattle.mapf_tree.proofs.solutions.Descent.{answer_is_optimum, none_is_none}
+use Rattle.mapf_tree.proofs.high_level.Limits.{cut_is_below}
 
 -- a search that has taken n nodes above a key, and has no answer yet
 pub record GoesOn (p : Problem) (from : Option (List ℕ)) (now : Searched) (n : ℕ) : Type 0 where

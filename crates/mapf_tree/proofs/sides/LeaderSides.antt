@@ -1,9 +1,9 @@
 -- The side that forbids a leader its start.
 use Rattle.std.proofs.Common.{◌≡◌, ℕ, ◌-◌, ◌<◌, ◌==◌, if◌then◌else◌, [], ◌∷◌, length, subst, sym, ap, ◌∙◌, get_or-set_same}
 use Rattle.mapf_tree.specs.Prelude.{at, Conflict, Following, path_of, place, Obeys, constraints_of, constraint_on, agent_on, LeaderAtStart}
-use Rattle.mapf_tree.proofs.Branch.{agent_below}
-use Rattle.mapf_tree.proofs.Followers.{leader_time}
-use Rattle.mapf_tree.proofs.Measure.{grown_all}
+use Rattle.mapf_tree.proofs.sides.Branch.{agent_below}
+use Rattle.mapf_tree.proofs.sides.Followers.{leader_time}
+use Rattle.mapf_tree.proofs.finite.Measure.{grown_all}
 
 -- each of its paths would begin on the cell that it is forbidden at time 0
 pub leader_at_start : LeaderAtStart

@@ -5,10 +5,10 @@ use Rattle.mapf_tree.specs.declared.search.expansion.Expansion.TheVariants as va
 use Rattle.mapf_tree.specs.Prelude.{root_of, key, IsAnswer, PlannedNode, IsMember, IsRoot, IsBranching, IsChildOf, IsRising, IsAddedIfSome, Answer}
 use Rattle.mapf_plan.specs.declared.answer.Answer.TheVariants as answer
 use Rattle.mapf_tree.specs.Prelude.{Problem, IsLimit, IsReached, IsWaiting, IsTakenTo, NoneSolves, IsLawful, IsCounted, TakesBetween, most_counted, IsSearchAt, ExpandsLeast, TakesLeast, IsGivenUp, GoesUpTo, TakesOne, Node, node_key, AllStand, HasNodeFor}
-use Rattle.mapf_tree.proofs.SearchLaws.{reached_now, reached_then, next_waits, ends_at_first, ends_at_none, starts}
-use Rattle.mapf_tree.proofs.Limits.{least_is_below, is_cut, solved_before, empty_before, as_stated, as_given_up}
-use Rattle.mapf_tree.proofs.GoingOn.{takes_none, takes_more}
-use Rattle.mapf_tree.proofs.OpenNodes.{key-stands, none_stands, conflict_stands, solved_expansion, branched_expansion, root_node, node_adds, AddsSide}
+use Rattle.mapf_tree.proofs.high_level.SearchLaws.{reached_now, reached_then, next_waits, ends_at_first, ends_at_none, starts}
+use Rattle.mapf_tree.proofs.high_level.Limits.{least_is_below, is_cut, solved_before, empty_before, as_stated, as_given_up}
+use Rattle.mapf_tree.proofs.high_level.GoingOn.{takes_none, takes_more}
+use Rattle.mapf_tree.proofs.high_level.OpenNodes.{key-stands, none_stands, conflict_stands, solved_expansion, branched_expansion, root_node, node_adds, AddsSide}
 
 module _ (p : Problem) (last : Option (List ℕ)) (old : List Node) (taken : IsTakenTo p last old) (none : NoneSolves p last) where
   -- the search over the nodes that wait

@@ -1,7 +1,7 @@
 -- The tree's nodes are a list, so it has a least solution or none.
 use Rattle.mapf_tree.proofs.Prelude.{Some, None, ⊎_elim, least_by, first_conflict}
 use Rattle.mapf_tree.specs.Prelude.{Problem, key, IsSolution, PlannedNode, IsMember, AnswerExists}
-use Rattle.mapf_tree.proofs.Finite.{members}
+use Rattle.mapf_tree.proofs.finite.Finite.{members}
 
 -- whether a node of the tree is a solution
 dec_solution : (problem : Problem) (m : PlannedNode) → IsMember problem m → Dec (IsSolution problem m)

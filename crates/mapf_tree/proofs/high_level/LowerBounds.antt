@@ -3,10 +3,10 @@ use Rattle.mapf_tree.proofs.Prelude.{◌≡◌, ℕ, ◌+◌, ◌≤◌, List, [
 use Rattle.mapf_tree.specs.Prelude.{NoMemory, IsLeast, plan_cost, Answer}
 use Rattle.mapf_plan.specs.declared.answer.Answer.TheVariants as answer
 use Rattle.mapf_tree.specs.Prelude.{Problem, Key, key, key_rank, Node, node_key, AllStand, HasNodeFor, IsStated, IsBestAnswer, IsRising, IsLawful, IsLeastCost, IsLowerBound, IsBelowAll, least_stated}
-use Rattle.mapf_tree.proofs.Descent.{none_is_none}
-use Rattle.mapf_tree.proofs.GoingOn.{best_stated, best_answer}
-use Rattle.mapf_tree.proofs.OpenNodes.{first_is_least}
-use Rattle.mapf_tree.proofs.Expansions.{least_below, none_left}
+use Rattle.mapf_tree.proofs.solutions.Descent.{none_is_none}
+use Rattle.mapf_tree.proofs.high_level.GoingOn.{best_stated, best_answer}
+use Rattle.mapf_tree.proofs.high_level.OpenNodes.{first_is_least}
+use Rattle.mapf_tree.proofs.high_level.Expansions.{least_below, none_left}
 
 -- a list that gave its first node begins with it
 pub first_given : (nodes given rest : List Node) (first : Node) → given ≡ take 1 nodes → given ≡ first ∷ rest → (others : List Node) × (nodes ≡ first ∷ others)

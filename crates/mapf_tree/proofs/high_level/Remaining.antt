@@ -1,8 +1,8 @@
 -- How many nodes of the tree are not taken yet: the measure of a search.
 use Rattle.mapf_tree.proofs.Prelude.{◌≡◌, ◌↔◌, ℕ, ◌+◌, ◌<◌, ◌≤◌, List, [], ◌∷◌, length, Option, Some, None, subst, sym, refl, ⊎_elim, arith, Contains, here, nowhere, here_or_there, transitive, le_before}
 use Rattle.mapf_tree.specs.Prelude.{Problem, key, PlannedNode, IsMember, IsReached, TakesBetween}
-use Rattle.mapf_tree.proofs.Finite.{members}
-use Rattle.mapf_tree.proofs.SearchLaws.{dec_reached}
+use Rattle.mapf_tree.proofs.finite.Finite.{members}
+use Rattle.mapf_tree.proofs.high_level.SearchLaws.{dec_reached}
 
 module _ (problem : Problem) where
   -- one for what isn't reached

@@ -2,7 +2,7 @@
 use Rattle.mapf_tree.proofs.Prelude.{◌≡◌, ℕ, ◌<◌, List, [], ◌∷◌, length, inl, inr, subst, sym, ◌∙◌, arith, by_cases, set_cases, dec_breaks}
 use Rattle.mapf_tree.specs.Prelude.{Conflict, Rule, IsConflict, path_of, Obeys, Breaks, Problem, Side, Left, Right, TreeNode, side_of, constraints_of, constraint_on, agent_on, ObeysNode, ObeysOneSide}
 use Rattle.mapf_plan.specs.declared.conflict.Conflict.TheVariants.{Vertex, Swapping, Following}
-use Rattle.mapf_tree.proofs.Followers.{of_parts}
+use Rattle.mapf_tree.proofs.sides.Followers.{of_parts}
 
 -- a plan that obeys a node, and keeps the constraint of a side, obeys that side
 obeys_side : (problem : Problem) (node : TreeNode) (other : List (List ℕ)) (c : Conflict) (s : Side) → length node.constraints ≡ length problem.inst.starts → ¬ Breaks (path_of other (agent_on c s)) (constraint_on c s) →

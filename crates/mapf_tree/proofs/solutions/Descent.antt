@@ -2,8 +2,8 @@
 use Rattle.mapf_tree.proofs.Prelude.{◌⊎◌, ℕ, zero, suc, ◌<◌, ◌≤◌, ◌+◌, List, [], ◌∷◌, map, length, inl, inr, subst, sym, ◌∙◌, ⊎_elim, arith, length-append, get_or-replicate, get_or-le-sum_by, cases_lt, first_le, first_conflict, own_path_costs}
 use Rattle.mapf_grid.proofs.Lists.{build, sum_by-le}
 use Rattle.mapf_tree.specs.Prelude.{cost, Conflict, IsFirstConflict, HasNoConflict, IsValid, path_of, plan_cost, Obeys, Problem, Side, Left, Right, turn, TreeNode, HasPlan, InTree, root, side, side_of, root_of, IsSolution, PlannedNode, ObeyedIsInCost, ObeysNode, DepthIsBounded, AnswerIsOptimum, NoneIsNone}
-use Rattle.mapf_tree.proofs.Branch.{obeys_one_side}
-use Rattle.mapf_tree.proofs.Measure.{grown_all, most, depth_le, depth_most}
+use Rattle.mapf_tree.proofs.sides.Branch.{obeys_one_side}
+use Rattle.mapf_tree.proofs.finite.Measure.{grown_all, most, depth_le, depth_most}
 use Rattle.mapf_tree.proofs.Plans.{AllowedAt, OwnAt, own_at}
 
 -- a valid plan within the bound that obeys a node puts it in cost, since each of its paths is allowed

@@ -1,8 +1,8 @@
 -- Names are in the order of their turns: by their numbers, then by how many turns these keep, and then by what is behind them.
 use Rattle.mapf_tree.proofs.Prelude.{◌≡◌, ℕ, zero, suc, ◌+◌, ◌*◌, ◌^◌, ◌<◌, ◌≤◌, List, [], ◌∷◌, ◌++◌, length, map, Ordering, Less, Equal, Greater, nat_cmp, refl, sym, ap, ap₂, ◌∙◌, arith, nat_tests}
 use Rattle.mapf_tree.specs.Prelude.{ordering_then, slice_cmp, Side, Left, Right, turn, number_of, turns_of, IsKept}
-use Rattle.mapf_tree.proofs.Keyed.{cmp_less, cmp_greater}
-use Rattle.mapf_tree.proofs.NameTurns.{number_below, length_turns}
+use Rattle.mapf_tree.proofs.tree.Keyed.{cmp_less, cmp_greater}
+use Rattle.mapf_tree.proofs.tree.NameTurns.{number_below, length_turns}
 
 -- turns are compared as numbers
 pub compared_turns : (R : Side → Side → Ordering) → R Left Left ≡ Equal → R Left Right ≡ Less → R Right Left ≡ Greater → R Right Right ≡ Equal → (m n : List Side) → slice_cmp R m n ≡ slice_cmp nat_cmp (map turn m) (map turn n)

@@ -1,7 +1,7 @@
 -- From the own path that a side's query asks for to the child on that side.
 use Rattle.std.proofs.Common.{◌≡◌, [], ◌∷◌, ◌++◌, ℕ, get_or, set, Option, Some, None, option_map, IsSome, refl, subst, subst₂, sym, ◌∙◌, arith}
 use Rattle.mapf_tree.specs.Prelude.{Conflict, Changed, Node, IsConflictOf, path_of, agent_on, constraint_on, IsBranching, IsChildOf, IsOwnWithin, SideQuery, IsQueryOf, IsFoundBy}
-use Rattle.mapf_tree.proofs.SideNodes.{IsSought, no_side, side_stands, own_of_side}
+use Rattle.mapf_tree.proofs.sides.SideNodes.{IsSought, no_side, side_stands, own_of_side}
 
 -- what is searched for a query, by the conflict's side
 sought : (node : Node) (c : Conflict) (q : SideQuery) → IsQueryOf node q → node.conflict ≡ Some c → IsSought q.problem node (agent_on c q.side) q.bound (constraint_on c q.side) q.constraints

@@ -3,8 +3,8 @@ use Rattle.mapf_tree.proofs.Prelude.{◌≡◌, ℕ, ◌+◌, ◌<◌, ◌≤◌
 use Rattle.std.proofs.lemmas.List.{length-set}
 use Rattle.mapf_tree.specs.Prelude.{Grid, Conflict, cost, IsFirstConflict, path_of, plan_cost, Constraint, IsOwnPath, Side, Problem, IsOwnPathOf, TreeNode, HasPlan, side, side_of, agent_on, constraint_on, constraints_of, PlannedNode, AreChanges, turned, Node, StandsFor, IsConflictOf, IsSameSet, IsSide, IsOwn, IsOwnWithin, Leaves, NoneIsDearer}
 use Rattle.mapf_low.proofs.HigherBounds.{own_by_bound}
-use Rattle.mapf_tree.proofs.Branch.{agent_below}
-use Rattle.mapf_tree.proofs.Measure.{grown_all}
+use Rattle.mapf_tree.proofs.sides.Branch.{agent_below}
+use Rattle.mapf_tree.proofs.finite.Measure.{grown_all}
 use Rattle.mapf_tree.proofs.ConstraintSets.{IsWith, with_front, IsWith-cons}
 use Rattle.mapf_tree.proofs.Plans.{OwnAt, same_paths}
 

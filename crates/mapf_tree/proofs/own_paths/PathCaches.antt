@@ -5,8 +5,8 @@ use Rattle.mapf_tree.specs.Prelude.{slice_get, slice_index, option_map, cost, pa
 use Rattle.mapf_tree.specs.declared.own_paths.constraint_sets.Extension.{Extension}
 use Rattle.mapf_tree.specs.declared.own_paths.constraint_sets.CachedPath.{CachedPath}
 use Rattle.mapf_tree.proofs.ConstraintSets.{with_same, IsWith, IsWith-cons}
-use Rattle.mapf_tree.proofs.SideNodes.{own_within_lower, within_bound, agent_inside}
-use Rattle.mapf_tree.proofs.Queries.{is_child, no_child}
+use Rattle.mapf_tree.proofs.sides.SideNodes.{own_within_lower, within_bound, agent_inside}
+use Rattle.mapf_tree.proofs.sides.Queries.{is_child, no_child}
 
 -- two values that are there are one
 one_value : {A : Type 0} (x y : A) → ◌≡◌ {A = Option A} (Some x) (Some y) → x ≡ y

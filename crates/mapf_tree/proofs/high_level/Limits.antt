@@ -5,10 +5,10 @@ use Rattle.mapf_plan.specs.declared.answer.Answer.TheVariants as answer
 use Rattle.mapf_tree.proofs.Prelude.{first_conflict}
 use Rattle.mapf_tree.specs.Prelude.{Problem, turn, PlannedNode, IsMember, IsSolution, key, stated, IsStated, IsAnswerUpTo, IsAnswerOf, IsReached, IsWaiting, TakesBetween, IsSearchAt, StatedIsUnique}
 use Rattle.mapf_tree.specs.Cut.{IsAtPlace, IsInCut, IsCutAt}
-use Rattle.mapf_tree.proofs.Descent.{cheaper_solution}
-use Rattle.mapf_tree.proofs.Distinct.{distinct_le}
-use Rattle.mapf_tree.proofs.SearchLaws.{dec_reached, waits_above, x_waits, none_between, still, ends_at_first}
-use Rattle.mapf_tree.proofs.TakenNodes.{distinct}
+use Rattle.mapf_tree.proofs.solutions.Descent.{cheaper_solution}
+use Rattle.mapf_tree.proofs.finite.Distinct.{distinct_le}
+use Rattle.mapf_tree.proofs.high_level.SearchLaws.{dec_reached, waits_above, x_waits, none_between, still, ends_at_first}
+use Rattle.mapf_tree.proofs.finite.TakenNodes.{distinct}
 use Rattle.mapf_tree.proofs.Unique.{same_member, answer_is_unique}
 
 -- a node that no solution comes before costs no more than any valid plan: within the bound a solution costs no more than the plan

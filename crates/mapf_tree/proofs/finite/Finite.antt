@@ -1,7 +1,7 @@
 -- The tree is finite: it has as many levels as a name can be long, and each level is a list.
 use Rattle.mapf_tree.proofs.Prelude.{◌≡◌, ◌⊎◌, ℕ, zero, suc, ◌≤◌, List, [], ◌∷◌, ◌++◌, map, length, inl, inr, subst, sym, refl, ap, ◌∙◌, ⊎_elim, arith, length-append, All, Contains, cases_eq, All-nil, All-cons, All-tail, All-append, All-contains, Contains-append_left, Contains-append_right, by_cases, Contains-map, nowhere, here, here_or_there, first_conflict, same_first}
 use Rattle.mapf_tree.specs.Prelude.{Conflict, IsFirstConflict, HasNoConflict, Problem, Side, Left, Right, TreeNode, HasPlan, InTree, root, side, side_of, root_of, PlannedNode, IsMember, IsChild, TreeIsFinite}
-use Rattle.mapf_tree.proofs.Measure.{grown_all, most, depth_most}
+use Rattle.mapf_tree.proofs.finite.Measure.{grown_all, most, depth_most}
 use Rattle.mapf_tree.proofs.Plans.{InCost, dec_in_cost, same_plan}
 
 module _ (problem : Problem) where

@@ -1,0 +1,2 @@
+-- Nodes as they are kept.
+pub mod Chains

@@ -1,0 +1,2 @@
+-- The nodes that wait, in order.
+pub mod Rising

@@ -1,0 +1,3 @@
+-- Own paths, and what is remembered of them.
+pub mod PathCaches
+pub mod StartTables
