@@ -2,7 +2,7 @@
 
 ghost use Rattle.std.specs.Prelude.{◌≡◌, ◌≢◌, ℕ, ◌+◌, ◌-◌, ◌<◌, length, IsFalse, IsTrue};
 ghost use Rattle.mapf_grid.specs.Grid.{Next};
-ghost use Rattle.mapf_low.specs.Constraints.{Breaks, Obeys};
+ghost use Rattle.mapf_low.specs.Constraints.{Obeys};
 ghost use Rattle.mapf_plan.specs.Path.{at, cost, IsPath};
 ghost use Rattle.mapf_plan.specs.Plan.{place, IsConflict};
 ghost use Rattle.mapf_tree.specs.Tree.{IsAllowedFor};
@@ -11,8 +11,9 @@ ghost use Rattle.mapf_optimum.specs.Groups.{alone};
 
 use crate::part::Part;
 use mapf_grid::{Cell, Map};
-use mapf_low::{Constraint, Constraints};
+use mapf_low::Constraints;
 use mapf_plan::{Conflict, Path, Plan, Rule};
+use mapf_tree::breaks;
 
 /// Whether one of the part's agents may take this path under these constraints.
 pub(crate) fn is_allowed(
@@ -84,18 +85,6 @@ fn obeys(constraints: &Constraints, path: &Path) -> bool
         }
     }
     true
-}
-
-/// Whether the path breaks the constraint.
-fn breaks(path: &Path, constraint: &Constraint) -> bool
-    ensures { IsFalse result → ¬ Breaks path.now constraint.now }
-{
-    match *constraint {
-        Constraint::Vertex { cell, time } => path.at(time) == cell,
-        Constraint::Edge { from, to, time } => {
-            time > 0 && path.at(time - 1) == from && path.at(time) == to
-        }
-    }
 }
 
 /// Whether the plan has this conflict by the problem's rule, and up to its bound.

@@ -10,6 +10,7 @@ pub mod Family
 pub mod SideQuery
 pub mod PathCache
 pub mod Laws
+pub mod FreePlans
 pub mod OpenList
 pub mod Search
 pub mod LowerBound

@@ -19,12 +19,13 @@ pub use Rattle.mapf_plan.specs.declared.conflict.Conflict.TheVariants.{Following
 pub use Rattle.mapf_plan.specs.declared.rule.Rule.{Rule}
 pub use Rattle.mapf_tree.specs.Answered.{IsAnswerOf, IsAnswerUpTo, IsBestAnswer, IsStated, stated}
 pub use Rattle.mapf_tree.specs.Family.{AreRootPaths, IsBranching, IsChildOf, IsOwn, IsOwnWithin, IsRoot, IsSide, Leaves}
+pub use Rattle.mapf_tree.specs.FreePlans.{Branches, Grows, HasSide, IsFreeUnder, IsFreePlan, IsFreeSide, AreObeyed, IsSidePlan, IsObeyed, NoneObeys, ObeysOneOf, one_or_none, paths_of}
 pub use Rattle.mapf_tree.specs.Laws.{AnswerExists, AnswerIsOptimum, AnswerIsUnique, ConstraintIsEarly, ConstraintIsNew, DepthIsBounded, HoldsGrid, LeaderAtStart, NoneIsDearer, NoneIsNone, ObeyedIsInCost, ObeysNode, ObeysOneSide, OneAgentsAnswer, StatedIsUnique, TreeIsFinite}
 pub use Rattle.mapf_tree.specs.LowerBound.{IsBelowAll, IsLeastCost, IsLeastWaiting, IsLowerBound, least_stated}
 pub use Rattle.mapf_tree.specs.Names.{IsKept, number_of, turn, turns_of}
 pub use Rattle.mapf_tree.specs.Nodes.{AgreesWith, AllStand, AreChanges, Chain, Changed, HasNodeFor, IsConflictOf, IsSameSet, Node, StandsFor, by_key, by_key_total, changed_plan, changed_sets, node_key, node_of, turned, unchanged, with_one}
 pub use Rattle.mapf_tree.specs.OpenList.{GivesFirst, IsAddedIfSome, IsPut, IsRising, IsTaken}
-pub use Rattle.mapf_tree.specs.PathCache.{AreExtensions, AreFirst, AreFirstPaths, AreKnown, AreSetsOf, Extends, GivesOwn, HasNoTurnAt, HasPath, HasSet, IsAskedAt, IsAt, IsCachedPath, IsExtended, IsExtension, IsNumberOf, IsOwnIn, IsPlanOf, IsPlanUpTo, IsQueryIn, IsRemembered, IsTold, IsTurnAt, KnowsAnswerTo, PathCache, TellsUpTo}
+pub use Rattle.mapf_tree.specs.PathCache.{AreExtensions, AreFirst, AreFirstPaths, AreKnown, AreSetsOf, Extends, GivesOwn, HasNoTurnAt, HasOneMore, HasPath, HasSet, IsAskedAt, IsAt, IsCachedPath, IsExtended, IsExtension, IsNumberOf, IsOwnIn, IsPlanOf, IsPlanUpTo, IsQueryIn, IsRemembered, IsTold, IsTurnAt, KnowsAnswerTo, PathCache, TellsUpTo}
 pub use Rattle.mapf_tree.specs.Problem.{HasDistances, IsLimit, IsReady, Problem}
 pub use Rattle.mapf_tree.specs.Search.{CountsTaken, IsChild, IsCounted, IsEnded, IsLawful, IsReached, IsSearch, IsTakenTo, IsWaiting, NoneSolves, Searched, TakesBetween, answer_of, most_counted}
 pub use Rattle.mapf_tree.specs.SideQuery.{AreFromStart, AreTables, IsAsked, IsFoundBy, IsQueryOf, SideQuery}

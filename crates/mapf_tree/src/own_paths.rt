@@ -1,19 +1,22 @@
 //! Own paths that were searched before.
 
-ghost use Rattle.std.specs.Prelude.{◌≡◌, ℕ, ◌<◌, length, IfOk, IfSome, option_map};
-ghost use Rattle.mapf_tree.specs.Prelude.{arc_value, Problem, IsBranching, IsChildOf, IfKnown, AreFromStart, IsFoundBy, IsQueryOf};
+ghost use Rattle.std.specs.Prelude.{◌≡◌, ◌≤◌, IfOk, IfSome};
+ghost use Rattle.mapf_tree.specs.Prelude.{IsBranching, IsChildOf, IfKnown, IsQueryOf, IsObeyed};
 
 mod constraint_sets;
+mod obeyed;
 mod path_cache;
+mod start_tables;
 
 use crate::own_paths::path_cache::PathCache;
+use crate::own_paths::start_tables::StartTables;
 use crate::{Children, Node, OpenList, Problem, Side, SideQuery};
 use mapf_grid::NoMemory;
-use mapf_low::{Distances, Lookup};
-use mapf_plan::{PairConflict, Path};
+use mapf_low::Lookup;
+use mapf_plan::PairConflict;
+pub use obeyed::Obeyed;
 use std::alloc::Global;
 use std::marker::Model;
-use std::sync::Arc;
 
 /// Own paths that were searched before for nodes of a problem's tree, and shared with the nodes that have them.
 ///
@@ -22,8 +25,7 @@ use std::sync::Arc;
 pub struct OwnPaths<'p> {
     alloc: Global,
     problem: &'p Problem,
-    /// The distances from each agent's start, once they were made.
-    from_start: Vec<Option<Arc<Distances>>>,
+    tables: StartTables<'p>,
     cache: PathCache<'p>,
 }
 
@@ -33,22 +35,21 @@ impl<'p> Drop for OwnPaths<'p> {
         let OwnPaths {
             alloc: _,
             problem: _,
-            from_start: _,
+            tables: _,
             cache: _,
         } = self;
     }
 }
 
 impl<'p> Model for OwnPaths<'p> {
-    ghost use Rattle.std.specs.Prelude.{◌≡◌, map, option_map};
-    ghost use Rattle.mapf_tree.specs.Prelude.{arc_value, Problem, AreTables};
+    ghost use Rattle.std.specs.Prelude.{◌≡◌};
+    ghost use Rattle.mapf_tree.specs.Prelude.{Problem};
 
     ghost Value = { Problem };
 
     ghost view = { λ o. o.problem.now };
 
-    ghost invariant = { λ o. AreTables o.problem.now (map (option_map arc_value) o.from_start.items)
-        × (o.cache.problem ≡ o.problem.now) };
+    ghost invariant = { λ o. (o.tables ≡ o.problem.now) × (o.cache.problem ≡ o.problem.now) };
 }
 
 impl<'p> OwnPaths<'p> {
@@ -56,15 +57,10 @@ impl<'p> OwnPaths<'p> {
     pub fn new(alloc: Global, problem: &'p Problem) -> Result<OwnPaths<'p>, NoMemory>
         ensures { IfOk result (λ o. o ≡ problem.now) }
     {
-        let agents = problem.instance().agents();
-        let mut from_start = Vec::with_capacity(alloc, agents)?;
-        for _agent in 0..agents {
-            from_start.push_reserved(None);
-        }
         Ok(OwnPaths {
             alloc,
             problem,
-            from_start,
+            tables: StartTables::new(alloc, problem)?,
             cache: PathCache::new(alloc, problem),
         })
     }
@@ -152,33 +148,26 @@ impl<'p> OwnPaths<'p> {
         ensures query { IfOk result (IsQueryOf node.now) }
     {
         let query = SideQuery::of(self.alloc, self.problem, node, side)?;
-        match self.table(query.agent()) {
+        match self.tables.of(query.agent()) {
             Some(distances) => Ok(query.with_from_start(distances)),
             None => Ok(query),
         }
     }
 
-    /// The distances from an agent's start, which are made where they are asked for first. None where memory runs out.
-    fn table(&mut self, agent: usize) -> Option<Arc<Distances>>
-        requires { agent < length self.old.inst.starts }
+    /// Whether any plan without conflict that costs at most so much obeys a node of the tree, as far as that is found by so much work,
+    /// which is counted down: a step of the search is 7, a path that it looks for 60. An error is that memory ran out.
+    pub fn obeyed_within(
+        &mut self,
+        node: &Node,
+        most: u32,
+        work: &mut u64,
+    ) -> Result<Obeyed, NoMemory>
+        requires node { IsBranching self.old node.now }
+        requires most { most ≤ self.old.bound }
         ensures same { self.new ≡ self.old }
-        ensures table { AreFromStart self.old agent (option_map arc_value result) }
+        ensures obeyed { IfOk result (IsObeyed self.old node.now most) }
     {
-        if self.from_start.get(agent)?.is_none() {
-            self.make_table(agent);
-        }
-        share(self.from_start.get(agent)?)
-    }
-
-    /// Makes the distances from an agent's start, unless memory runs out.
-    fn make_table(&mut self, agent: usize)
-        requires { agent < length self.old.inst.starts }
-        ensures { self.new ≡ self.old }
-    {
-        if agent >= self.from_start.len() {
-            return;
-        }
-        self.from_start[agent] = table_of(self.alloc, self.problem, agent);
+        self.cache.obeyed_within(&mut self.tables, node, most, work)
     }
 
     /// Remembers the path of a node's child, or that there is no such child, where that was worked out elsewhere, unless memory runs
@@ -210,22 +199,4 @@ impl<'p> Children for OwnPaths<'p> {
     }
 
     fn ahead(&mut self, _problem: &Problem, _waiting: &OpenList) {}
-}
-
-/// A table of the distances from the start of an agent of a problem. None where memory runs out.
-fn table_of(alloc: Global, problem: &Problem, agent: usize) -> Option<Arc<Distances>>
-    requires { agent < length problem.now.inst.starts }
-    ensures { AreFromStart problem.now agent (option_map arc_value result) }
-{
-    let instance = problem.instance();
-    let distances = Distances::to(alloc, instance.map(), instance.start(agent)).ok()?;
-    Arc::new(alloc, distances).ok()
-}
-
-/// The same table, if there is one, shared once more. None where it can't be shared more often.
-fn share(table: &Option<Arc<Distances>>) -> Option<Arc<Distances>>
-    ensures { (p : Problem) (agent : ℕ) → AreFromStart p agent (option_map arc_value table.now)
-        → AreFromStart p agent (option_map arc_value result) }
-{
-    Arc::try_clone(table.as_ref()?).ok()
 }

@@ -14,4 +14,4 @@ pub use name::Name;
 pub use problem::Problem;
 pub use side::Side;
 pub use side_query::{SideQuery, left_of_bound};
-pub use sides::{agent_of, constraint_of};
+pub use sides::{agent_of, breaks, constraint_of};

@@ -1,6 +1,6 @@
 //! The sets of constraints that agents have met, by number.
 
-ghost use Rattle.std.specs.Prelude.{◌≡◌, [], ◌∷◌, ◌++◌, length, slice_get, Some, option_map, IfSome, IfOk, IfErr};
+ghost use Rattle.std.specs.Prelude.{◌≡◌, ◌≤◌, [], ◌∷◌, ◌++◌, length, slice_get, Some, option_map, IfSome, IfOk, IfErr, MatchOption};
 ghost use Rattle.mapf_tree.specs.Prelude.{HasTwoEnds, HasSet, IsExtension, Extends, GivesOwn};
 
 use crate::node::change::Change;
@@ -80,9 +80,14 @@ impl ConstraintSets {
 
     /// The set of a number. None where there is none.
     pub(crate) fn get(&self, set: usize) -> Option<&ConstraintSet>
-        ensures { IfSome result (λ s. slice_get self.now set ≡ Some s.now) }
+        ensures { MatchOption result (length self.now ≤ set) (λ s. slice_get self.now set ≡ Some s.now) }
     {
         self.sets.get(set)
+    }
+
+    /// How many there are.
+    pub(crate) fn count(&self) -> usize {
+        self.sets.len()
     }
 
     /// The number of an agent's set of these constraints, where one is found.

@@ -3,7 +3,12 @@
 ghost use Rattle.std.specs.Prelude.{◌≡◌, []};
 
 mod children;
+mod choice;
 mod finding;
+mod free_conflicts;
+mod free_plans;
+mod free_search;
+mod free_sides;
 mod learning;
 mod node_numbers;
 

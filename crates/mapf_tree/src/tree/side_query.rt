@@ -1,7 +1,7 @@
 //! What the child on a side of a node's conflict asks of the low level.
 
-ghost use Rattle.std.specs.Prelude.{◌≡◌, ◌+◌, ◌<◌, ◌≤◌, length, option_map, Some, IfOk};
-ghost use Rattle.mapf_tree.specs.Prelude.{arc_value, cost, path_of, plan_cost, MOST_BOUND, IsBranching, IsChildOf, Leaves, HasTwoEnds, IfKnown};
+ghost use Rattle.std.specs.Prelude.{◌≡◌, ◌+◌, ◌<◌, ◌≤◌, length, option_map, Some, None, IfOk};
+ghost use Rattle.mapf_tree.specs.Prelude.{arc_value, cost, path_of, plan_cost, MOST_BOUND, IsAsked, IsBranching, IsChildOf, Leaves, HasTwoEnds, IfKnown};
 
 mod low_level;
 
@@ -85,6 +85,46 @@ impl<'p> SideQuery<'p> {
             least,
             from_start: None,
         })
+    }
+
+    /// The query of an agent under these constraints, the newest of which is given with them, where each such path costs at least so
+    /// much.
+    pub(crate) fn under(
+        problem: &'p Problem,
+        side: Side,
+        agent: usize,
+        constraint: Constraint,
+        constraints: Constraints,
+        bound: u32,
+        least: u32,
+    ) -> SideQuery<'p>
+        requires { IsAsked (record {
+          problem = problem.now;
+          side = side;
+          agent = agent;
+          constraint = constraint;
+          constraints = constraints;
+          bound = bound;
+        }) least None }
+        ensures { result ≡ record {
+          problem = problem.now;
+          side = side;
+          agent = agent;
+          constraint = constraint;
+          constraints = constraints;
+          bound = bound;
+        } }
+    {
+        SideQuery {
+            problem,
+            side,
+            agent,
+            constraint,
+            constraints,
+            bound,
+            least,
+            from_start: None,
+        }
     }
 
     /// The same, with these distances from its agent's start.

@@ -1,11 +1,11 @@
 //! The two sides of a conflict: each forbids one of the two agents its part in it.
 
-ghost use Rattle.std.specs.Prelude.{◌≡◌};
-ghost use Rattle.mapf_tree.specs.Prelude.{agent_on, constraint_on};
+ghost use Rattle.std.specs.Prelude.{◌≡◌, IsFalse};
+ghost use Rattle.mapf_tree.specs.Prelude.{Breaks, agent_on, constraint_on};
 
 use crate::Side;
 use mapf_low::Constraint;
-use mapf_plan::Conflict;
+use mapf_plan::{Conflict, Path};
 
 /// The agent of this side.
 pub fn agent_of(conflict: &Conflict, side: Side) -> usize
@@ -55,6 +55,18 @@ pub fn constraint_of(conflict: &Conflict, side: Side) -> Constraint
                 time.saturating_sub(1)
             };
             Constraint::Vertex { cell, time }
+        }
+    }
+}
+
+/// Whether the path breaks the constraint.
+pub fn breaks(path: &Path, constraint: &Constraint) -> bool
+    ensures { IsFalse result → ¬ Breaks path.now constraint.now }
+{
+    match *constraint {
+        Constraint::Vertex { cell, time } => path.at(time) == cell,
+        Constraint::Edge { from, to, time } => {
+            time > 0 && path.at(time - 1) == from && path.at(time) == to
         }
     }
 }

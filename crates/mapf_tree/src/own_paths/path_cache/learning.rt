@@ -1,6 +1,6 @@
 //! What is remembered of own paths: sets of constraints that agents met, and what was found under them.
 
-ghost use Rattle.std.specs.Prelude.{◌≡◌, ◌<◌, ◌≤◌, ℕ, List, [], length, replicate, option_map, IfOk, OnOk};
+ghost use Rattle.std.specs.Prelude.{◌≡◌, ◌<◌, ◌≤◌, ℕ, List, [], length, replicate, slice_get, Some, option_map, IfOk, OnOk};
 ghost use Rattle.mapf_tree.specs.Prelude.{arc_value, Constraint, IsBranching, IsOwnWithin, IsFoundBy, HasSet, IsCachedPath, IsQueryIn, KnowsAnswerTo, IsTold, TellsUpTo};
 
 use crate::own_paths::constraint_sets::{CachedPath, ConstraintSet};
@@ -90,7 +90,7 @@ impl<'p> PathCache<'p> {
     }
 
     /// Remembers an agent's set, and its own path at a cost of at most the bound. Answers the set's number.
-    fn add(
+    pub(crate) fn add(
         &mut self,
         agent: usize,
         constraints: Constraints,
@@ -101,6 +101,7 @@ impl<'p> PathCache<'p> {
         requires path { IsOwnWithin self.old.problem bound agent constraints (option_map (λ p. arc_value p.now) path) }
         ensures problem { self.new.problem ≡ self.old.problem }
         ensures kept { (n a : ℕ) (cs : List Constraint) → HasSet self.old.sets n a cs → HasSet self.new.sets n a cs }
+        ensures paths { (n : ℕ) (p : List ℕ) → slice_get self.old.paths n ≡ Some p → slice_get self.new.paths n ≡ Some p }
         ensures set { IfOk result (λ set. HasSet self.new.sets set agent constraints) }
         ensures told { IfOk result (λ set. TellsUpTo self.new.sets set bound) }
     {
@@ -124,6 +125,7 @@ impl<'p> PathCache<'p> {
         requires { IsCachedPath self.old.problem self.old.paths agent constraints own }
         ensures problem { self.new.problem ≡ self.old.problem }
         ensures kept { (n a : ℕ) (cs : List Constraint) → HasSet self.old.sets n a cs → HasSet self.new.sets n a cs }
+        ensures paths { (n : ℕ) (p : List ℕ) → slice_get self.old.paths n ≡ Some p → slice_get self.new.paths n ≡ Some p }
         ensures set { IfOk result (λ set. HasSet self.new.sets set agent constraints) }
         ensures told { IfOk result (λ set. (bound : ℕ) → IsTold bound own → TellsUpTo self.new.sets set bound) }
     {
