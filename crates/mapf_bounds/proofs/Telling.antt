@@ -1,5 +1,5 @@
 -- What a search by bounds has told goes on with its turns.
-use Rattle.std.proofs.Common.{◌≡◌, ℕ, ◌<◌, List, [], Option, Some, None, Result, Ok, Err, IfOk, subst, sym, refl}
+use Rattle.std.proofs.Common.{◌≡◌, ℕ, List, [], Option, Some, None, Result, Ok, Err, IfOk, subst, sym, refl}
 use Rattle.mapf_grid.specs.declared.fault.NoMemory.{NoMemory}
 use Rattle.mapf_grid.proofs.Members.{nowhere}
 use Rattle.mapf_plan.specs.declared.answer.Answer.{Answer}
@@ -13,7 +13,7 @@ use Rattle.mapf_tree.specs.Tree.{IsAnswer}
 use Rattle.mapf_tree.proofs.high_level.Telling.{IsTelling, telling_begins, telling_ends, telling_expands, telling_goes}
 use Rattle.mapf_bounds.specs.Bounds.{Bounding}
 use Rattle.mapf_bounds.specs.Told.{Begins, IsWatched}
-use Rattle.mapf_bounds.specs.Waiting.{Branches, IsCovering, Raises, Waiting}
+use Rattle.mapf_bounds.specs.Waiting.{Branches, GoesOn, IsCovering, Waiting}
 
 -- an answer's lower bound is what was told last
 pub stated_ends : (problem : Problem) (given : Answer) (n : ℕ) → IsStated problem given → IsEndOf (record { nodes = n; least = least_stated given }) given
@@ -30,15 +30,15 @@ covering_nothing problem none = record {
 module _ {W : Type 0} (told : W → ℕ → ℕ → W → Type 0) where
   -- so many nodes were expanded so far, of which so many by keys, and the watch was told of the others
   abbrev pub IsTellingBy : Bounding → (taken n : ℕ) → (old new : W) → List (Key × Waiting) → Type 0
-  IsTellingBy b taken = IsTelling told (Begins b.problem b.most taken) (Raises b.problem b.most) (Branches b.problem b.most) (λ waiting. IsBelowAll b.problem)
+  IsTellingBy b taken = IsTelling told (Begins b.problem b.most taken) (GoesOn b.problem b.most) (Branches b.problem b.most) (λ waiting. IsBelowAll b.problem)
 
   -- the end of a search by keys without a solution
   pub watched_empty : (problem : Problem) (taken least : ℕ) (old new : W) (given : Answer) → IsAnswer problem None → IsBelowAll problem least → told old taken least new → IsEndOf (record { nodes = taken; least = least }) given →
       IsWatched told problem taken old new given
   watched_empty problem taken least old new given none below tell end = (
     0,
-    telling_ends told (Begins problem 0 taken) (Raises problem 0) (Branches problem 0) (λ waiting. IsBelowAll problem) taken least old old new []
-        (telling_begins told (Begins problem 0 taken) (Raises problem 0) (Branches problem 0) (λ waiting. IsBelowAll problem) taken old [] (refl, covering_nothing problem none)) below tell given end,
+    telling_ends told (Begins problem 0 taken) (GoesOn problem 0) (Branches problem 0) (λ waiting. IsBelowAll problem) taken least old old new []
+        (telling_begins told (Begins problem 0 taken) (GoesOn problem 0) (Branches problem 0) (λ waiting. IsBelowAll problem) taken old [] (refl, covering_nothing problem none)) below tell given end,
   )
 
   -- what a search by bounds tells, behind one that took so many nodes
@@ -50,16 +50,16 @@ module _ {W : Type 0} (told : W → ℕ → ℕ → W → Type 0) where
 
   module _ (b : Bounding) (taken : ℕ) where
     pub by_begins : (w : W) (waiting : List (Key × Waiting)) → IsCovering b.problem b.most waiting → IsTellingBy b taken taken w w waiting
-    by_begins w waiting covering = telling_begins told (Begins b.problem b.most taken) (Raises b.problem b.most) (Branches b.problem b.most) (λ waiting. IsBelowAll b.problem) taken w waiting (refl, covering)
+    by_begins w waiting covering = telling_begins told (Begins b.problem b.most taken) (GoesOn b.problem b.most) (Branches b.problem b.most) (λ waiting. IsBelowAll b.problem) taken w waiting (refl, covering)
 
-    pub by_goes : (n : ℕ) (old new : W) (waiting next : List (Key × Waiting)) → IsTellingBy b taken n old new waiting → Raises b.problem b.most waiting next → IsTellingBy b taken n old new next
-    by_goes = telling_goes told (Begins b.problem b.most taken) (Raises b.problem b.most) (Branches b.problem b.most) (λ waiting. IsBelowAll b.problem)
+    pub by_goes : (n : ℕ) (old new : W) (waiting next : List (Key × Waiting)) → IsTellingBy b taken n old new waiting → GoesOn b.problem b.most waiting next → IsTellingBy b taken n old new next
+    by_goes = telling_goes told (Begins b.problem b.most taken) (GoesOn b.problem b.most) (Branches b.problem b.most) (λ waiting. IsBelowAll b.problem)
 
     pub by_expands : (n least : ℕ) (old between new : W) (waiting : List (Key × Waiting)) → IsTellingBy b taken n old between waiting → IsBelowAll b.problem least → told between n least new →
         (next : List (Key × Waiting)) → Branches b.problem b.most waiting next → IsTellingBy b taken (one_more n) old new next
-    by_expands = telling_expands told (Begins b.problem b.most taken) (Raises b.problem b.most) (Branches b.problem b.most) (λ waiting. IsBelowAll b.problem)
+    by_expands = telling_expands told (Begins b.problem b.most taken) (GoesOn b.problem b.most) (Branches b.problem b.most) (λ waiting. IsBelowAll b.problem)
 
     pub by_ends : (n least : ℕ) (old between new : W) (waiting : List (Key × Waiting)) → IsTellingBy b taken n old between waiting → IsBelowAll b.problem least → told between n least new →
         (given : Answer) → IsEndOf (record { nodes = n; least = least }) given → IsWatched told b.problem taken old new given
     by_ends n least old between new waiting t below tell given end =
-        (b.most, telling_ends told (Begins b.problem b.most taken) (Raises b.problem b.most) (Branches b.problem b.most) (λ waiting. IsBelowAll b.problem) n least old between new waiting t below tell given end)
+        (b.most, telling_ends told (Begins b.problem b.most taken) (GoesOn b.problem b.most) (Branches b.problem b.most) (λ waiting. IsBelowAll b.problem) n least old between new waiting t below tell given end)

@@ -27,11 +27,13 @@ use Rattle.mapf_tree.proofs.Plans.{same_plan}
 use Rattle.std.proofs.lemmas.Bool.{cases_lt}
 use Rattle.mapf_optimum.specs.declared.pair_bound.PairBound.{PairBound}
 use Rattle.mapf_bounds.specs.declared.bound.Bound.{Bound}
+use Rattle.mapf_bounds.specs.declared.turn.Outcome.{Outcome}
+use Rattle.mapf_bounds.specs.declared.turn.Outcome.TheVariants.{Raised, Expanded, Ended}
 use Rattle.mapf_bounds.specs.Below.{IsBelow, IsBounded, CoversUpTo, IsEnough}
 use Rattle.mapf_bounds.specs.Bounds.{IsOfTree, IsBoundOf, IsRaised}
 use Rattle.mapf_bounds.specs.Pairs.{AreKnownAt}
-use Rattle.mapf_bounds.specs.Waiting.{Waiting, IsKeyOf, HasEntryFor, AreKeyed, IsCovering, key_cmp, key_bound, bound_key, IsAdmitted, IsAdmittedChild, absent, present, Branches, Raises}
-use Rattle.mapf_bounds.proofs.Subtrees.{child_key_of, found_key_of}
+use Rattle.mapf_bounds.specs.Waiting.{Waiting, IsKeyOf, HasEntryFor, AreKeyed, IsCovering, key_cmp, key_bound, bound_key, IsAdmitted, IsAdmittedChild, absent, present, Branches, Drops, GoesOn, HoldsNone, IsLeftOrExpanded, IsTurn, Raises}
+use Rattle.mapf_bounds.proofs.Subtrees.{child_key_of, found_key_of, solution_valid, solutions_obey}
 use Rattle.mapf_bounds.proofs.Pairs.{known_below}
 use Rattle.mapf_bounds.proofs.Covers.{AreBehind, first_taken, none_cheaper, expanded_covers}
 use Rattle.mapf_bounds.proofs.Entries.{lesser_first, one_node, rest_keyed, admitted_keyed, admitted_keeps, admitted_puts}
@@ -176,6 +178,31 @@ module _ (problem : Problem) (most : ℕ) where
               (λ h. admitted_puts problem most r.rest new r.to r.again are of key_of known r.puts m s (subst (λ n. StandsFor problem n m) (sym r.same) (subst (λ (y : Key × Waiting). StandsFor problem y.1.node m) (sym h) has.2)) solution within below)
               (λ i. admitted_keeps problem most r.rest new r.to r.again are of key_of known r.puts m (has.0, i, has.2)) (here_or_there r.rest (subst (λ es. Contains es has.0) r.was has.1))
 
+  -- no solution at or below a node that no valid plan of so little cost obeys costs so little
+  none_below : (n : Node) (m s : PlannedNode) → StandsFor problem n m → HoldsNone problem n most → IsSolution problem s → IsBelow problem m s → ¬ (plan_cost s.1 ≤ most)
+  none_below n m s stands none solution below within = none m stands s.1 (solution_valid problem s solution) (solutions_obey problem m s stands.member solution below) within
+
+  -- and where the first is gone
+  pub drops_cover : (old new : List (Key × Waiting)) → Drops problem most old new → IsCovering problem most old → IsCovering problem most new
+  drops_cover old new d covering = record { keyed = subst (AreKeyed problem) (sym d.left) (rest_keyed problem d.first d.rest whole); covers = covers }
+    where
+      whole : AreKeyed problem (d.first ∷ d.rest)
+      whole = subst (AreKeyed problem) d.was covering.keyed
+
+      covers : CoversUpTo problem most (HasEntryFor problem new)
+      covers s solution within = let w = covering.covers s solution within in (w.0, has_still w.0 w.2 w.1, w.2)
+        where
+          has_still : (m : PlannedNode) → IsBelow problem m s → HasEntryFor problem old m → HasEntryFor problem new m
+          has_still m below has =
+              ⊎_elim
+              (λ h. absurd (none_below d.first.1.node m s (subst (λ (y : Key × Waiting). StandsFor problem y.1.node m) (sym h) has.2) d.none solution below within))
+              (λ i. subst (λ es. HasEntryFor problem es m) (sym d.left) (has.0, i, has.2)) (here_or_there d.rest (subst (λ es. Contains es has.0) d.was has.1))
+
+  -- whichever it is
+  pub goes_on_covers : (old new : List (Key × Waiting)) → GoesOn problem most old new → IsCovering problem most old → IsCovering problem most new
+  goes_on_covers old new (inl r) = raises_cover old new r
+  goes_on_covers old new (inr d) = drops_cover old new d
+
   -- what a map has behind its first entry comes behind it
   later_keys : (e : Key × Waiting) (rest : List (Key × Waiting)) → All (λ k. key_cmp e.0 k ≡ Less) (map (λ (y : Key × Waiting). y.0) rest) → (y : Key × Waiting) → Contains rest y → key_cmp e.0 y.0 ≡ Less
   later_keys e rest all y c = All-contains (λ k. key_cmp e.0 k ≡ Less) (map (λ (z : Key × Waiting). z.0) rest) y.0 all (Contains-map (λ (z : Key × Waiting). z.0) rest y c)
@@ -246,6 +273,18 @@ module _ (problem : Problem) (most : ℕ) where
   pub raised_bound : (n : Node) (known found b : Bound) → IsBoundOf problem n known → IsBoundOf problem n found → IsRaised known found b → IsBoundOf problem n b
   raised_bound n known found b is other (inl e) = subst (IsBoundOf problem n) (sym e.0) is
   raised_bound n known found b is other (inr e) = subst (IsBoundOf problem n) (sym e.0) other
+
+  -- what came of the first of those that wait where it was left out or expanded
+  pub left_or_expanded_turn : (old rest new : List (Key × Waiting)) (k : Key) (w entry : Waiting) (outcome : Outcome) → old ≡ (k, w) ∷ rest → IsCovering problem most old → IsEnough problem most →
+      All (λ l. key_cmp k l ≡ Less) (map (λ (y : Key × Waiting). y.0) rest) → IsSome w.node.conflict → entry.node ≡ w.node → AreKnownAt problem w.node entry.pairs → IsLeftOrExpanded problem most (key_bound k) entry rest new outcome →
+      IsTurn problem most old new outcome
+  left_or_expanded_turn old rest new k w entry (Expanded least) is covering enough all some same known expanded = (
+    record { first = (k, w); rest = rest; was = is; conflict = first_branches old rest k w is covering some; entry = entry; same = same; known = known; expands = expanded.0 },
+    first_is_below old rest k w is covering enough all least (omega (arith, expanded.1)) (omega (arith, expanded.1)),
+  )
+  left_or_expanded_turn old rest new k w entry Raised is covering enough all some same known out =
+      inr (record { first = (k, w); rest = rest; was = is; none = subst (λ n. HoldsNone problem n most) same out.0; left = out.1 })
+  left_or_expanded_turn old rest new k w entry (Ended given) is covering enough all some same known none = absurd none
 
 -- an answer as it is stated is the answer where there is no limit on nodes
 pub stated_answer : (p q : Problem) (r : Result Answer NoMemory) → p ≡ q → q.nodes ≡ None → IfOk r (IsStated p) → IfOk r (IsAnswerOf q)

@@ -13,7 +13,7 @@ use Rattle.mapf_tree.specs.Nodes.{Node, StandsFor}
 use Rattle.mapf_optimum.specs.declared.pair_bound.PairBound.{PairBound}
 use Rattle.mapf_tree.proofs.finite.Measure.{most, depth_most, grown_all}
 use Rattle.mapf_bounds.specs.declared.bound.Bound.{Bound}
-use Rattle.mapf_bounds.specs.Waiting.{Waiting, is_own, absent, present, key_cmp, key_bound, bound_key, IsAdmitted, IsAdmittedChild, Branches, Raises}
+use Rattle.mapf_bounds.specs.Waiting.{Waiting, is_own, absent, present, key_cmp, key_bound, bound_key, IsAdmitted, IsAdmittedChild, Branches, Drops, GoesOn, Raises}
 use Rattle.mapf_bounds.proofs.Entries.{Puts, added, replaced, later, puts}
 
 -- a bound that is yet to be found weighs one
@@ -115,3 +115,14 @@ module _ (problem : Problem) where
         admitted_weight most_cost r.rest new r.to r.again r.puts,
         ap (weight_of (most problem)) r.was,
       )
+
+  -- and one that lets a node go
+  pub drops_fall : (most_cost : ℕ) (old new : List (Key × Waiting)) → Drops problem most_cost old new → total new < total old
+  unfolding total
+  drops_fall most_cost old new d =
+      omega (arith, some_weight (most problem - length d.first.1.node.name), ap (weight_of (most problem)) d.was, ap (weight_of (most problem)) d.left)
+
+  -- whichever it is
+  pub goes_on_falls : (most_cost : ℕ) (old new : List (Key × Waiting)) → GoesOn problem most_cost old new → total new < total old
+  goes_on_falls most_cost old new (inl r) = raises_fall most_cost old new r
+  goes_on_falls most_cost old new (inr d) = drops_fall most_cost old new d

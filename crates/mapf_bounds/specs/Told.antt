@@ -5,7 +5,7 @@ use Rattle.mapf_tree.specs.declared.tree.key.Key.{Key}
 use Rattle.mapf_tree.specs.LowerBound.{IsBelowAll}
 use Rattle.mapf_tree.specs.Problem.{Problem}
 use Rattle.mapf_tree.specs.Told as tree
-use Rattle.mapf_bounds.specs.Waiting.{Waiting, Branches, IsCovering, Raises}
+use Rattle.mapf_bounds.specs.Waiting.{Waiting, Branches, GoesOn, IsCovering}
 
 -- so many nodes were expanded when all solutions up to this cost were at or below those that wait
 abbrev pub Begins : Problem → ℕ → ℕ → ℕ → List (Key × Waiting) → Type 0
@@ -14,4 +14,4 @@ Begins problem most taken nodes waiting = (nodes ≡ taken) × IsCovering proble
 -- what the watch was told of the search that began after so many nodes and gave this answer
 abbrev pub IsWatched : {W : Type 0} → (W → ℕ → ℕ → W → Type 0) → Problem → ℕ → W → W → Answer → Type 0
 IsWatched told problem taken old new given =
-    (most : ℕ) × tree.IsWatched told (Begins problem most taken) (Raises problem most) (Branches problem most) (λ waiting. IsBelowAll problem) old new given
+    (most : ℕ) × tree.IsWatched told (Begins problem most taken) (GoesOn problem most) (Branches problem most) (λ waiting. IsBelowAll problem) old new given

@@ -3,7 +3,7 @@ use Rattle.std.specs.BTreeMap.{insert_entry}
 use Rattle.std.specs.Cmp.Lexicographic.{slice_cmp}
 use Rattle.std.specs.Ordering.{nat_cmp}
 use Rattle.std.specs.declared.cmp.Ordering.{Ordering}
-use Rattle.std.specs.Prelude.{◌≡◌, ◌⊎◌, ◌<◌, ℕ, max, length, Bool, true, false, List, [], ◌∷◌, Option, Some, None, Contains}
+use Rattle.std.specs.Prelude.{◌≡◌, ◌⊎◌, ◌<◌, ℕ, ◌+◌, min, max, length, Bool, true, false, List, [], ◌∷◌, Option, Some, None, Contains}
 use Rattle.mapf_plan.specs.Plan.{HasNoConflict, plan_cost}
 use Rattle.mapf_optimum.specs.declared.pair_bound.PairBound.{PairBound}
 use Rattle.mapf_tree.specs.declared.tree.key.Key.{Key}
@@ -11,6 +11,7 @@ use Rattle.mapf_tree.specs.declared.tree.side.Side.{Side}
 use Rattle.mapf_tree.specs.declared.tree.side.Side.TheVariants.{Left, Right}
 use Rattle.mapf_tree.specs.Answered.{IsStated}
 use Rattle.mapf_tree.specs.Family.{IsBranching, IsChildOf}
+use Rattle.mapf_tree.specs.FreePlans.{NoneObeys}
 use Rattle.mapf_tree.specs.LowerBound.{IsBelowAll}
 use Rattle.mapf_tree.specs.Problem.{Problem}
 use Rattle.mapf_tree.specs.Tree.{PlannedNode, key, key_rank}
@@ -132,9 +133,31 @@ pub record Raises (problem : Problem) (most : ℕ) (old new : List (Key × Waiti
   pub bound : IsBoundOf problem first.1.node to
   pub puts : IsAdmitted most rest to again new
 
+-- no valid plan that costs at most so much obeys the node of the tree that a node stands for
+abbrev pub HoldsNone : Problem → Node → ℕ → Type 0
+HoldsNone problem node most = (m : PlannedNode) → StandsFor problem node m → NoneObeys problem m.0 most
+
+-- the first of those that wait is left out, since no valid plan that obeys it costs so little
+pub record Drops (problem : Problem) (most : ℕ) (old new : List (Key × Waiting)) : Type 0 where
+  pub first : Key × Waiting
+  pub rest : List (Key × Waiting)
+  pub was : old ≡ first ∷ rest
+  pub none : HoldsNone problem first.1.node most
+  pub left : new ≡ rest
+
+-- the first of those that wait waits by a bound of its own now, or is left out
+abbrev pub GoesOn : Problem → ℕ → List (Key × Waiting) → List (Key × Waiting) → Type 0
+GoesOn problem most old new = Raises problem most old new ⊎ Drops problem most old new
+
+-- a node that waited, and is taken, is left out, or its children wait
+abbrev pub IsLeftOrExpanded : Problem → ℕ → Bound → Waiting → List (Key × Waiting) → List (Key × Waiting) → Outcome → Type 0
+IsLeftOrExpanded problem most known entry old new (Expanded least) = Expands problem most known entry old new × (least ≡ min known.cost (problem.bound + 1))
+IsLeftOrExpanded problem most known entry old new Raised = HoldsNone problem entry.node most × (new ≡ old)
+IsLeftOrExpanded problem most known entry old new (Ended given) = ⊥
+
 -- what came of a turn: the search goes on with the children of the first of those that wait, where no valid plan costs less than it says,
--- or with a bound of it, or it has the answer
+-- or with a bound of it, or without it, or it has the answer
 abbrev pub IsTurn : Problem → ℕ → List (Key × Waiting) → List (Key × Waiting) → Outcome → Type 0
 IsTurn problem most old new (Expanded least) = Branches problem most old new × IsBelowAll problem least
-IsTurn problem most old new Raised = Raises problem most old new
+IsTurn problem most old new Raised = GoesOn problem most old new
 IsTurn problem most old new (Ended given) = IsStated problem given

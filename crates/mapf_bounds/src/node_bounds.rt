@@ -1,13 +1,15 @@
 //! The bound of a node, from pairs of its agents.
 
-ghost use Rattle.std.specs.Prelude.{◌≡◌, ◌<◌, ◌≤◌, length, IfOk, MatchOption, ⊤, ◌∷◌, [], Contains};
+ghost use Rattle.std.specs.Prelude.{◌≡◌, ◌<◌, ◌≤◌, length, IfOk, IsTrue, MatchOption, ⊤, ◌∷◌, [], Contains};
 ghost use Rattle.std.specs.List.{AllByRecursion};
 ghost use Rattle.mapf_tree.specs.Family.{IsBranching};
 ghost use Rattle.mapf_bounds.specs.Bounds.{IsBoundOf};
 ghost use Rattle.mapf_bounds.specs.Pairs.{AreKnownAt};
+ghost use Rattle.mapf_bounds.specs.Waiting.{HoldsNone};
 
 use crate::Bound;
 use crate::collisions::disjoint_collisions;
+use crate::node_tests::NodeTests;
 use crate::waiting::Stage;
 use mapf_grid::NoMemory;
 use mapf_optimum::{
@@ -26,6 +28,7 @@ pub(crate) struct NodeBounds<'p> {
     low: LowLevel<'p>,
     known: GroupCosts,
     guide: Guide,
+    tests: NodeTests,
     /// Solutions that cost more aren't looked for.
     most: u64,
 }
@@ -39,6 +42,7 @@ impl<'p> Drop for NodeBounds<'p> {
             low: _,
             known: _,
             guide: _,
+            tests: _,
             most: _,
         } = self;
     }
@@ -78,6 +82,7 @@ impl<'p> NodeBounds<'p> {
             low: LowLevel::new(alloc, problem)?,
             known: GroupCosts::new(alloc),
             guide: Guide::new(alloc, problem)?,
+            tests: NodeTests::new(alloc),
             most,
         })
     }
@@ -99,6 +104,25 @@ impl<'p> NodeBounds<'p> {
         ensures { result ≡ self.now.most }
     {
         self.most
+    }
+
+    /// Whether it was found that no solution at or below a node that costs at least so much is one that is looked for.
+    pub(crate) fn hold_none(
+        &mut self,
+        paths: &mut OwnPaths<'_>,
+        node: &Node,
+        cost: u64,
+    ) -> Result<bool, NoMemory>
+        requires paths { paths.old ≡ self.old.problem }
+        requires node { IsBranching self.old.problem node.now }
+        ensures same { self.new ≡ self.old }
+        ensures paths { paths.new ≡ paths.old }
+        ensures none { IfOk result (λ found. IsTrue found → HoldsNone self.old.problem node.now self.old.most) }
+    {
+        if cost < self.most || self.most > u64::from(self.problem.bound()) {
+            return Ok(false);
+        }
+        self.tests.hold_none(paths, node, self.most as u32)
     }
 
     /// A bound of a node of the tree, from one that is known and what is known of pairs of its agents.

@@ -4,7 +4,7 @@ ghost use Rattle.std.specs.Prelude.{◌≡◌, IfOk, OnOk};
 ghost use Rattle.mapf_tree.specs.Family.{IsBranching};
 ghost use Rattle.mapf_bounds.specs.Below.{IsEnough};
 ghost use Rattle.mapf_bounds.specs.Pairs.{AreKnownAt};
-ghost use Rattle.mapf_bounds.specs.Waiting.{Expands, IsCovering, IsTurn};
+ghost use Rattle.mapf_bounds.specs.Waiting.{Expands, IsCovering, IsLeftOrExpanded, IsTurn};
 
 use crate::Bound;
 use crate::node_bounds::NodeBounds;
@@ -18,7 +18,7 @@ use std::sync::Arc;
 /// What came of a turn.
 #[derive(Drop)]
 pub(crate) enum Outcome {
-    /// The first node that waited waits by a bound of its own.
+    /// The first node that waited waits by a bound of its own, or was left out.
     Raised,
     /// Its children wait in its place. Each plan without conflict costs at least so much.
     Expanded(u64),
@@ -27,7 +27,7 @@ pub(crate) enum Outcome {
 }
 
 /// Takes the first node that waits. Its plan is the answer if that has no conflict; else it waits by a bound of its own, where
-/// that is above what was known, or its children wait in its place. Where none waits there is no plan.
+/// that is above what was known, or is left out, or its children wait in its place. Where none waits there is no plan.
 pub(crate) fn turn(
     waiting: &mut BTreeMap<Key, Waiting>,
     paths: &mut OwnPaths<'_>,
@@ -54,11 +54,9 @@ pub(crate) fn turn(
         cost: key.cost,
         depth: key.depth,
     };
-    let least = known.cost.min(u64::from(bounds.problem().bound()) + 1);
     if stage.is_own() {
         let entry = Waiting { node, stage, pairs };
-        expand(waiting, paths, bounds, known, entry)?;
-        return Ok(Outcome::Expanded(least));
+        return leave_or_expand(waiting, paths, bounds, known, entry);
     }
     let found = bounds.of(paths, &node, stage, known, &pairs)?;
     let raised = known.raised(found.bound);
@@ -68,11 +66,32 @@ pub(crate) fn turn(
         pairs: Arc::new(bounds.alloc(), found.pairs)?,
     };
     if raised == known {
-        expand(waiting, paths, bounds, known, entry)?;
-        return Ok(Outcome::Expanded(least));
+        return leave_or_expand(waiting, paths, bounds, known, entry);
     }
     admit(bounds.alloc(), bounds.most(), waiting, raised, entry)?;
     Ok(Outcome::Raised)
+}
+
+/// Leaves a node out, where it is found that no solution that is looked for is below it, or puts its children in.
+fn leave_or_expand(
+    waiting: &mut BTreeMap<Key, Waiting>,
+    paths: &mut OwnPaths<'_>,
+    bounds: &mut NodeBounds<'_>,
+    known: Bound,
+    entry: Waiting,
+) -> Result<Outcome, NoMemory>
+    requires paths { paths.old ≡ bounds.old.problem }
+    requires node { IsBranching bounds.old.problem entry.node }
+    ensures paths { paths.new ≡ paths.old }
+    ensures bounds { bounds.new ≡ bounds.old }
+    ensures outcome { IfOk result (IsLeftOrExpanded bounds.old.problem bounds.old.most known entry waiting.old.entries waiting.new.entries) }
+{
+    if bounds.hold_none(paths, &entry.node, known.cost)? {
+        return Ok(Outcome::Raised);
+    }
+    let least = known.cost.min(u64::from(bounds.problem().bound()) + 1);
+    expand(waiting, paths, bounds, known, entry)?;
+    Ok(Outcome::Expanded(least))
 }
 
 /// Puts the children of a node in, of which this bound and what is known of its pairs hold.

@@ -3,11 +3,11 @@ use Rattle.mapf_tree.specs.LowerBound.{IsBelowAll}
 use Rattle.mapf_tree.specs.Told.{IsEndOf}
 use Rattle.mapf_bounds.specs.Bounds.{Bounding}
 use Rattle.mapf_bounds.specs.Below.{IsEnough}
-use Rattle.mapf_bounds.specs.Waiting.{Branches, IsCovering, IsTurn, Raises}
+use Rattle.mapf_bounds.specs.Waiting.{Branches, GoesOn, IsCovering, IsTurn}
 use Rattle.mapf_tree.proofs.high_level.LowerBounds.{stated_below}
 use Rattle.mapf_bounds.proofs.Telling.{IsTellingBy, by_begins, by_ends, by_expands, by_goes, stated_ends}
-use Rattle.mapf_bounds.proofs.Turns.{branches_cover, raises_cover}
-use Rattle.mapf_bounds.proofs.Weights.{branches_fall, raises_fall, total}
+use Rattle.mapf_bounds.proofs.Turns.{branches_cover, goes_on_covers}
+use Rattle.mapf_bounds.proofs.Weights.{branches_fall, goes_on_falls, total}
 use Rattle.mapf_bounds.proofs.solving.search_by_bounds.Goals as goal
 
 pub turn-requires-clause-enough : goal.turn-requires-clause-enough
@@ -16,16 +16,16 @@ turn-requires-clause-enough g c = subst (λ (b : Bounding). IsEnough b.problem b
 pub turns-smaller-in-Raised : goal.turns-smaller-in-Raised
 turns-smaller-in-Raised g c =
     subst (λ (b : Bounding). total b.problem c.turn.new.waiting.entries < total c.turns.bounds.problem c.turns.waiting.entries) (sym c.in_ok-outcome.ensures.bounds)
-    (raises_fall c.turns.bounds.problem c.turns.bounds.most c.turns.waiting.entries c.turn.new.waiting.entries (subst (IsTurn c.turns.bounds.problem c.turns.bounds.most c.turns.waiting.entries c.turn.new.waiting.entries) c.in-Raised.is c.in_ok-outcome.ensures.turn))
+    (goes_on_falls c.turns.bounds.problem c.turns.bounds.most c.turns.waiting.entries c.turn.new.waiting.entries (subst (IsTurn c.turns.bounds.problem c.turns.bounds.most c.turns.waiting.entries c.turn.new.waiting.entries) c.in-Raised.is c.in_ok-outcome.ensures.turn))
 
 pub turns-preserved-in-Raised : goal.turns-preserved-in-Raised
 turns-preserved-in-Raised g c = (
   subst (λ (b : Bounding). IsCovering b.problem b.most c.turn.new.waiting.entries) (sym c.in_ok-outcome.ensures.bounds)
-      (raises_cover c.turns.bounds.problem c.turns.bounds.most c.turns.waiting.entries c.turn.new.waiting.entries (subst (IsTurn c.turns.bounds.problem c.turns.bounds.most c.turns.waiting.entries c.turn.new.waiting.entries) c.in-Raised.is c.in_ok-outcome.ensures.turn) c.turns.invariant.0),
+      (goes_on_covers c.turns.bounds.problem c.turns.bounds.most c.turns.waiting.entries c.turn.new.waiting.entries (subst (IsTurn c.turns.bounds.problem c.turns.bounds.most c.turns.waiting.entries c.turn.new.waiting.entries) c.in-Raised.is c.in_ok-outcome.ensures.turn) c.turns.invariant.0),
   c.in_ok-outcome.ensures.paths ∙ c.turns.invariant.1 ∙ ap (λ (b : Bounding). b.problem) (sym c.in_ok-outcome.ensures.bounds),
   c.in_ok-outcome.ensures.bounds ∙ c.turns.invariant.2,
   by_goes g.W.Watch.told c.args.bounds c.args.nodes c.turns.nodes c.args.watch.now c.turns.watch c.turns.waiting.entries c.turn.new.waiting.entries c.turns.invariant.3
-      (subst (λ (b : Bounding). Raises b.problem b.most c.turns.waiting.entries c.turn.new.waiting.entries) c.turns.invariant.2
+      (subst (λ (b : Bounding). GoesOn b.problem b.most c.turns.waiting.entries c.turn.new.waiting.entries) c.turns.invariant.2
       (subst (IsTurn c.turns.bounds.problem c.turns.bounds.most c.turns.waiting.entries c.turn.new.waiting.entries) c.in-Raised.is c.in_ok-outcome.ensures.turn)),
 )
 

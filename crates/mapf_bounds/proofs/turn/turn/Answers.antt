@@ -1,12 +1,13 @@
-use Rattle.std.proofs.Common.{rules, refl, subst, sym, ap, ◌∙◌, arith, IsSome, ◌≡◌, None, false}
+use Rattle.std.proofs.Common.{rules, refl, inl, subst, sym, ap, ◌∙◌, IsSome, ◌≡◌, None, false}
+use Rattle.std.proofs.lemmas.Result.{IfOk-weaker}
+use Rattle.std.specs.Result.{IfOk}
 use Rattle.mapf_tree.specs.Family.{IsBranching}
-use Rattle.mapf_tree.specs.Problem.{Problem}
 use Rattle.mapf_tree.proofs.high_level.Expansions.{some_there, conflict_absent}
 use Rattle.mapf_bounds.specs.declared.waiting.Stage.TheVariants.{Own}
 use Rattle.mapf_bounds.specs.Bounds.{Bounding, IsBoundOf}
 use Rattle.mapf_bounds.specs.Pairs.{AreKnownAt}
-use Rattle.mapf_bounds.specs.Waiting.{Waiting, Expands, IsAdmitted, is_own, key_bound}
-use Rattle.mapf_bounds.proofs.Turns.{solved_turn, first_branches, first_known, first_pairs, first_is_below, raised_bound}
+use Rattle.mapf_bounds.specs.Waiting.{Waiting, IsAdmitted, IsLeftOrExpanded, IsTurn, is_own, key_bound}
+use Rattle.mapf_bounds.proofs.Turns.{solved_turn, first_branches, first_known, first_pairs, left_or_expanded_turn, raised_bound}
 use Rattle.mapf_bounds.proofs.turn.turn.Goals as goal
 
 pub returns-then-is_none-clause-turn : goal.returns-then-is_none-clause-turn
@@ -14,8 +15,8 @@ returns-then-is_none-clause-turn c =
     solved_turn c.args.bounds.now.problem c.args.bounds.now.most c.args.waiting.now.entries c.pop_first.new.self.entries c.in-Some.key c.in-Some.first c.in_ok-plan.plan c.in-Some.ensures.removal c.requires.covering c.requires.enough c.in-Some.ensures.all_above
     (subst (λ (e : Waiting). e.node.conflict ≡ None) c.first.view_is (conflict_absent _ _ _ c.is_none.ensures c.conflict.ensures.conflict c.if-is_none.true)) (c.in_ok-plan.ensures ∙ ap (λ (e : Waiting). e.node.plan) c.first.view_is)
 
-pub expand-requires-clause-node : goal.expand-requires-clause-node
-expand-requires-clause-node c =
+pub leave_or_expand-requires-clause-node : goal.leave_or_expand-requires-clause-node
+leave_or_expand-requires-clause-node c =
     subst (λ (e : Waiting). IsBranching c.args.bounds.now.problem e.node) (sym c.first.view_is) (first_branches c.args.bounds.now.problem c.args.bounds.now.most c.args.waiting.now.entries c.pop_first.new.self.entries c.in-Some.key c.in-Some.first c.in-Some.ensures.removal c.requires.covering (subst (λ (e : Waiting). IsSome e.node.conflict) c.first.view_is (some_there _ _ _ c.is_none.ensures c.conflict.ensures.conflict c.if-is_none.false)))
 
 pub of-requires-clause-node : goal.of-requires-clause-node
@@ -31,41 +32,28 @@ of-requires-clause-pairs c =
     subst (AreKnownAt c.args.bounds.now.problem c.first.inside.node) (sym (c.deref-2.ensures.value ∙ ap (λ v. v.items) c.deref.ensures)) (subst (λ (e : Waiting). AreKnownAt c.args.bounds.now.problem e.node e.pairs) (sym c.first.view_is) (first_pairs c.args.bounds.now.problem c.args.bounds.now.most c.args.waiting.now.entries c.pop_first.new.self.entries c.in-Some.key c.in-Some.first c.in-Some.ensures.removal c.requires.covering))
 
 pub returns-then-is_own-clause-turn : goal.returns-then-is_own-clause-turn
-returns-then-is_own-clause-turn c = (
-  record {
-    first = (c.in-Some.key, c.in-Some.first);
-    rest = c.pop_first.new.self.entries;
-    was = c.in-Some.ensures.removal;
-    conflict = (first_branches c.args.bounds.now.problem c.args.bounds.now.most c.args.waiting.now.entries c.pop_first.new.self.entries c.in-Some.key c.in-Some.first c.in-Some.ensures.removal c.requires.covering (subst (λ (e : Waiting). IsSome e.node.conflict) c.first.view_is (some_there _ _ _ c.is_none.ensures c.conflict.ensures.conflict c.if-is_none.false)));
-    entry = record { node = c.first.inside.node; stage = c.first.inside.stage; pairs = c.first.inside.pairs.value.items };
-    same = ap (λ (e : Waiting). e.node) c.first.view_is;
-    known = subst (AreKnownAt c.args.bounds.now.problem c.in-Some.first.node) (sym (ap (λ (e : Waiting). e.pairs) c.first.view_is)) (first_pairs c.args.bounds.now.problem c.args.bounds.now.most c.args.waiting.now.entries c.pop_first.new.self.entries c.in-Some.key c.in-Some.first c.in-Some.ensures.removal c.requires.covering);
-    expands = c.in_ok-expand.ensures.expands;
-  },
-  first_is_below c.args.bounds.now.problem c.args.bounds.now.most c.args.waiting.now.entries c.pop_first.new.self.entries c.in-Some.key c.in-Some.first c.in-Some.ensures.removal c.requires.covering c.requires.enough c.in-Some.ensures.all_above c.min-least.result (omega (arith, c.min-least.ensures)) (omega (arith, c.min-least.ensures, c.from.ensures, c.bound.ensures.bound, ap (λ (p : Problem). p.bound) c.problem-2.ensures)),
-)
+returns-then-is_own-clause-turn c =
+    let entry : Waiting = record { node = c.first.inside.node; stage = c.first.inside.stage; pairs = c.first.inside.pairs.value.items } in
+    IfOk-weaker c.leave_or_expand.result (IsLeftOrExpanded c.args.bounds.now.problem c.args.bounds.now.most (key_bound c.in-Some.key) entry c.pop_first.new.self.entries c.leave_or_expand.new.waiting.entries) (IsTurn c.args.bounds.now.problem c.args.bounds.now.most c.args.waiting.now.entries c.leave_or_expand.new.waiting.entries)
+    (λ outcome is. left_or_expanded_turn c.args.bounds.now.problem c.args.bounds.now.most c.args.waiting.now.entries c.pop_first.new.self.entries c.leave_or_expand.new.waiting.entries c.in-Some.key c.in-Some.first entry outcome c.in-Some.ensures.removal c.requires.covering c.requires.enough c.in-Some.ensures.all_above
+    (subst (λ (e : Waiting). IsSome e.node.conflict) c.first.view_is (some_there _ _ _ c.is_none.ensures c.conflict.ensures.conflict c.if-is_none.false)) (ap (λ (e : Waiting). e.node) c.first.view_is)
+    (subst (AreKnownAt c.args.bounds.now.problem c.in-Some.first.node) (sym (ap (λ (e : Waiting). e.pairs) c.first.view_is)) (first_pairs c.args.bounds.now.problem c.args.bounds.now.most c.args.waiting.now.entries c.pop_first.new.self.entries c.in-Some.key c.in-Some.first c.in-Some.ensures.removal c.requires.covering)) is) c.leave_or_expand.ensures.outcome
 
-pub expand-requires-then-eq-clause-node : goal.expand-requires-then-eq-clause-node
-expand-requires-then-eq-clause-node c =
+pub leave_or_expand-requires-then-eq-clause-node : goal.leave_or_expand-requires-then-eq-clause-node
+leave_or_expand-requires-then-eq-clause-node c =
     subst (λ (b : Bounding). IsBranching b.problem c.first.inside.node) (sym c.in_ok-found.ensures.same) (subst (λ (e : Waiting). IsBranching c.args.bounds.now.problem e.node) (sym c.first.view_is) (first_branches c.args.bounds.now.problem c.args.bounds.now.most c.args.waiting.now.entries c.pop_first.new.self.entries c.in-Some.key c.in-Some.first c.in-Some.ensures.removal c.requires.covering (subst (λ (e : Waiting). IsSome e.node.conflict) c.first.view_is (some_there _ _ _ c.is_none.ensures c.conflict.ensures.conflict c.if-is_none.false))))
 
 pub returns-then-eq-clause-turn : goal.returns-then-eq-clause-turn
-returns-then-eq-clause-turn c = (
-  record {
-    first = (c.in-Some.key, c.in-Some.first);
-    rest = c.pop_first.new.self.entries;
-    was = c.in-Some.ensures.removal;
-    conflict = (first_branches c.args.bounds.now.problem c.args.bounds.now.most c.args.waiting.now.entries c.pop_first.new.self.entries c.in-Some.key c.in-Some.first c.in-Some.ensures.removal c.requires.covering (subst (λ (e : Waiting). IsSome e.node.conflict) c.first.view_is (some_there _ _ _ c.is_none.ensures c.conflict.ensures.conflict c.if-is_none.false)));
-    entry = record { node = c.first.inside.node; stage = Own; pairs = c.in_ok-new.field-0.value.items };
-    same = ap (λ (e : Waiting). e.node) c.first.view_is;
-    known = subst (λ (e : Waiting). AreKnownAt c.args.bounds.now.problem e.node c.in_ok-new.field-0.value.items) c.first.view_is (subst (AreKnownAt c.args.bounds.now.problem c.first.inside.node) (search rules) c.in_ok-found.ensures.pairs);
-    expands = subst (λ (b : Bounding). Expands b.problem b.most (record { cost = c.in-Some.key.cost; depth = c.in-Some.key.depth }) (record { node = c.first.inside.node; stage = Own; pairs = c.in_ok-new.field-0.value.items }) c.pop_first.new.self.entries c.expand-then-eq.new.waiting.entries) c.in_ok-found.ensures.same c.in_ok-expand-2.ensures.expands;
-  },
-  first_is_below c.args.bounds.now.problem c.args.bounds.now.most c.args.waiting.now.entries c.pop_first.new.self.entries c.in-Some.key c.in-Some.first c.in-Some.ensures.removal c.requires.covering c.requires.enough c.in-Some.ensures.all_above c.min-least.result (omega (arith, c.min-least.ensures)) (omega (arith, c.min-least.ensures, c.from.ensures, c.bound.ensures.bound, ap (λ (p : Problem). p.bound) c.problem-2.ensures)),
-)
+returns-then-eq-clause-turn c =
+    let entry : Waiting = record { node = c.first.inside.node; stage = Own; pairs = c.in_ok-new.field-0.value.items } in
+    IfOk-weaker c.leave_or_expand-then-eq.result (IsLeftOrExpanded c.args.bounds.now.problem c.args.bounds.now.most (key_bound c.in-Some.key) entry c.pop_first.new.self.entries c.leave_or_expand-then-eq.new.waiting.entries) (IsTurn c.args.bounds.now.problem c.args.bounds.now.most c.args.waiting.now.entries c.leave_or_expand-then-eq.new.waiting.entries)
+    (λ outcome is. left_or_expanded_turn c.args.bounds.now.problem c.args.bounds.now.most c.args.waiting.now.entries c.pop_first.new.self.entries c.leave_or_expand-then-eq.new.waiting.entries c.in-Some.key c.in-Some.first entry outcome c.in-Some.ensures.removal c.requires.covering c.requires.enough c.in-Some.ensures.all_above
+    (subst (λ (e : Waiting). IsSome e.node.conflict) c.first.view_is (some_there _ _ _ c.is_none.ensures c.conflict.ensures.conflict c.if-is_none.false)) (ap (λ (e : Waiting). e.node) c.first.view_is)
+    (subst (λ (e : Waiting). AreKnownAt c.args.bounds.now.problem e.node c.in_ok-new.field-0.value.items) c.first.view_is (subst (AreKnownAt c.args.bounds.now.problem c.first.inside.node) (search rules) c.in_ok-found.ensures.pairs)) is)
+    (subst (λ (b : Bounding). IfOk c.leave_or_expand-then-eq.result (IsLeftOrExpanded b.problem b.most (key_bound c.in-Some.key) entry c.pop_first.new.self.entries c.leave_or_expand-then-eq.new.waiting.entries)) c.in_ok-found.ensures.same c.leave_or_expand-then-eq.ensures.outcome)
 
 pub returns-clause-turn : goal.returns-clause-turn
-returns-clause-turn c = record {
+returns-clause-turn c = inl record {
   first = (c.in-Some.key, c.in-Some.first);
   rest = c.pop_first.new.self.entries;
   was = c.in-Some.ensures.removal;
