@@ -22,8 +22,8 @@ const MOST_WORK: u64 = 100_000;
 /// How much more may be done for each node that is looked at.
 const WORK_BY_NODE: u64 = 1;
 
-/// How much more for each that is left out: about what some fifteen nodes take that are expanded.
-const WORK_BY_FIND: u64 = 1_200;
+/// How much more for each that is left out: about what five nodes take that are expanded.
+const WORK_BY_FIND: u64 = 400;
 
 /// With less than that nothing is searched.
 const LEAST_WORK: u64 = 300;
