@@ -7,7 +7,7 @@ use Rattle.mapf_plan.specs.declared.conflict.Conflict.TheVariants.{Vertex, Swapp
 use Rattle.mapf_plan.specs.declared.rule.Rule.{Rule}
 use Rattle.mapf_plan.specs.declared.rule.Rule.TheVariants.{Classical, NoFollowing}
 use Rattle.mapf_plan.specs.Plan.{HasNoConflict, path_of, place}
-use Rattle.mapf_optimum.specs.Dependence.{NeverCollide}
+use Rattle.mapf_optimum.specs.Together.{NeverCollide}
 
 module _ (plan : List (List ℕ)) (i j t : ℕ) (l : i < j) (m : j < length plan) where
   -- at one time or at the time before

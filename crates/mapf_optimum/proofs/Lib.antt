@@ -10,11 +10,6 @@ mod Grouped
 mod Covering
 mod Work
 pub mod Collisions
-mod Dependent
-mod Adding
-mod Moves
-mod KnownMoves
-mod Layers
 pub mod Choosing
 mod StartTables
 pub mod Steps
@@ -25,3 +20,13 @@ pub mod Parts
 pub mod ChosenGroups
 pub mod TwoAgents
 mod Asking
+mod JointLists
+mod JointSums
+mod AgentPlaces
+mod Numbered
+mod Looks
+mod JointSteps
+mod Goings
+pub mod JointSearch
+mod PlansWithin
+pub mod TogetherAgents

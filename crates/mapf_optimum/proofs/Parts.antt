@@ -1,9 +1,11 @@
 -- Some agents of a problem by themselves.
-use Rattle.std.proofs.Common.{◌≡◌, ◌≢◌, ℕ, suc, ◌<◌, List, [], ◌∷◌, map, length, get_or, subst, sym, refl, ap, ap₂, ◌∙◌, ⊎_elim, arith}
+use Rattle.std.proofs.Common.{◌≡◌, ◌≢◌, ℕ, suc, ◌<◌, ◌≤◌, List, [], ◌∷◌, map, length, get_or, subst, sym, refl, ap, ap₂, ◌∙◌, ⊎_elim, arith}
 use Rattle.std.proofs.lemmas.Bool.{cases_lt}
 use Rattle.std.proofs.lemmas.List.{length-map, get_or-map}
 use Rattle.mapf_tree.specs.Problem.{Problem}
-use Rattle.mapf_optimum.specs.FreeTree.{IsGroup}
+use Rattle.mapf_low.specs.declared.constraint.Constraint.{Constraint}
+use Rattle.mapf_plan.specs.Plan.{plan_cost}
+use Rattle.mapf_optimum.specs.FreeTree.{IsGroup, IsGroupBound, IsLowerBoundOf}
 use Rattle.mapf_optimum.specs.Groups.{part_of}
 
 -- members of a group are a group
@@ -42,10 +44,10 @@ part_of_part problem all places members there same =
     (read_again problem.inst.starts all places there.inside) (read_again problem.inst.goals all places there.inside)
 
 -- a list that is read at all places is itself
-read_all : (xs agents : List ℕ) → length agents ≡ length xs → ((i : ℕ) → i < length xs → get_or agents i 0 ≡ i) → map (λ i. get_or xs i 0) agents ≡ xs
-read_all xs agents long each = same_read xs agents xs long (λ k h. ap (λ j. get_or xs j 0) (each k (omega (arith, h, long))))
+read_all : {X : Type 0} (d : X) (xs : List X) (agents : List ℕ) → length agents ≡ length xs → ((i : ℕ) → i < length xs → get_or agents i 0 ≡ i) → map (λ i. get_or xs i d) agents ≡ xs
+read_all {X} d xs agents long each = same_read xs agents xs long (λ k h. ap (λ j. get_or xs j d) (each k (omega (arith, h, long))))
   where
-    same_read : (xs agents ys : List ℕ) → length agents ≡ length ys → ((k : ℕ) → k < length agents → get_or xs (get_or agents k 0) 0 ≡ get_or ys k 0) → map (λ i. get_or xs i 0) agents ≡ ys
+    same_read : (xs : List X) (agents : List ℕ) (ys : List X) → length agents ≡ length ys → ((k : ℕ) → k < length agents → get_or xs (get_or agents k 0) d ≡ get_or ys k d) → map (λ i. get_or xs i d) agents ≡ ys
     same_read xs [] [] long each = refl
     same_read xs [] (y ∷ ys) long each = absurd (omega (arith, long))
     same_read xs (a ∷ is) [] long each = absurd (omega (arith, long))
@@ -56,5 +58,18 @@ pub whole_is : (problem : Problem) (agents : List ℕ) (n : ℕ) → length agen
     length problem.inst.goals ≡ length problem.inst.starts → part_of problem agents ≡ problem
 whole_is problem agents n long each count goals =
     ap₂ (λ (s g : List ℕ). record { inst = record { grid = problem.inst.grid; starts = s; goals = g }; bound = problem.bound; nodes = problem.nodes; rule = problem.rule })
-    (read_all problem.inst.starts agents (long ∙ count) (λ i h. each i (omega (arith, h, count))))
-    (read_all problem.inst.goals agents (long ∙ count ∙ sym goals) (λ i h. each i (omega (arith, h, count, goals))))
+    (read_all 0 problem.inst.starts agents (long ∙ count) (λ i h. each i (omega (arith, h, count))))
+    (read_all 0 problem.inst.goals agents (long ∙ count ∙ sym goals) (λ i h. each i (omega (arith, h, count, goals))))
+
+-- what each candidate costs at least, all agents' paths do
+pub whole_bound : (problem : Problem) (sets : List (List Constraint)) (agents : List ℕ) (least : ℕ) → length agents ≡ length problem.inst.starts → ((i : ℕ) → i < length problem.inst.starts → get_or agents i 0 ≡ i) →
+    IsLowerBoundOf problem sets least → IsGroupBound problem sets agents least
+whole_bound problem sets agents least long each below = record {
+  group = record {
+    inside = λ k h. subst (λ i. i < length problem.inst.starts) (sym (each k (omega (arith, h, long)))) (omega (arith, h, long));
+    once = λ a b l h e. let same : a ≡ b = sym (each a (omega (arith, l, h, long))) ∙ e ∙ each b (omega (arith, h, long)) in omega (arith, l, same);
+  };
+  below = λ plan candidate.
+      let size = candidate.valid.agents in
+      subst (λ p. least ≤ plan_cost p) (sym (read_all [] plan agents (long ∙ sym size) (λ i h. each i (omega (arith, h, size))))) (below plan candidate);
+}

@@ -3,8 +3,8 @@ pub mod FreeTree
 pub mod FreeSearch
 pub mod Pairs
 pub mod Laws
-pub mod Dependence
-pub mod Steps
+pub mod Together
+pub mod PlaceNumbers
 pub mod TwoAgents
 pub mod Told
 pub mod Groups

@@ -10,7 +10,8 @@ use crate::agents::{copy_paths, copy_sets};
 use crate::expansion::expand;
 use crate::group_costs::{Found, GroupCosts};
 use crate::guesses::Guide;
-use crate::part::Part;
+use crate::part::{Part, all_below};
+use crate::together::MOST_TOGETHER;
 use crate::waiting::Waiting;
 use mapf_grid::NoMemory;
 use std::alloc::Global;
@@ -20,6 +21,9 @@ const MOST_ASKED: usize = 100;
 
 /// How often no plan of a group is found before little effort is made for it.
 const MOST_FAILURES: u32 = 2;
+
+/// From how many joint places all agents go on, at least, where they are more than two.
+const MANY_PLACES: usize = 50_000;
 
 /// Little effort.
 const LITTLE: usize = 10;
@@ -144,9 +148,63 @@ pub(crate) fn bounded(
     ensures known { AreKnown part.now.problem known.new }
     ensures bounded { IfOk result (IsBounded (alone part.now) node) }
 {
-    let settled = node.settled(alloc, part, &mut guide.occupancy)?;
+    let (joined, is_solved) = joined(alloc, part, node, guide)?;
+    if is_solved {
+        let joined = joined.among_others(alloc, part, &mut guide.occupancy)?;
+        return joined.finished(alloc, part, &mut guide.occupancy);
+    }
+    let settled = joined.settled(alloc, part, &mut guide.occupancy)?;
     let asked = grouped(alloc, part, settled, effort, known, guide)?;
     asked.finished(alloc, part, &mut guide.occupancy)
+}
+
+/// After how many failures so many agents are looked at together.
+fn first_failure(count: usize) -> u32 {
+    if count > 2 { 1 } else { 0 }
+}
+
+/// Whether so many agents are looked at together after so many failures: all agents a few times, others once.
+fn is_tried(count: usize, failures: u32, is_whole: bool) -> bool {
+    let first = first_failure(count);
+    if is_whole {
+        first <= failures && failures <= MOST_FAILURES
+    } else {
+        failures == first
+    }
+}
+
+/// From how many joint places the node's agents go on: from many, if they are all agents, and more than two.
+fn budget_for(node: &FreeNode, count: usize, is_whole: bool) -> usize {
+    let budget = node.joint_budget();
+    if is_whole && count > 2 {
+        budget.max(MANY_PLACES)
+    } else {
+        budget
+    }
+}
+
+/// The node with what its agents cost together, if they are few, and it wasn't in vain before.
+fn joined(
+    alloc: Global,
+    part: &Part<'_, '_>,
+    node: FreeNode,
+    guide: &mut Guide,
+) -> Result<(FreeNode, bool), NoMemory>
+    requires { IsFreeNode (alone part.now) node }
+    ensures { IfOk result (λ next. IsSame (alone part.now) node next.0) }
+{
+    let count = part.agents().len();
+    let failures = guide.failures_of(part.agents());
+    if count > MOST_TOGETHER || !is_tried(count, failures, part.is_whole()) {
+        return Ok((node, false));
+    }
+    let budget = budget_for(&node, count, part.is_whole());
+    let found = node.cost_together(alloc, part, budget)?;
+    if found.plan.is_none() {
+        guide.add_failure(part.agents())?;
+    }
+    let all = all_below(alloc, count)?;
+    node.with_group(alloc, part, &all, found, &mut guide.occupancy)
 }
 
 /// The node whose agents were asked for in groups: those that collide become one.

@@ -17,6 +17,7 @@ mod pairs;
 mod part;
 mod settling;
 mod solving;
+mod together;
 mod two_agents;
 mod waiting;
 

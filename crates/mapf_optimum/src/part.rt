@@ -5,13 +5,13 @@ ghost use Rattle.mapf_plan.specs.Path.{cost};
 ghost use Rattle.mapf_plan.specs.declared.answer.TheConstants.{MOST_BOUND};
 ghost use Rattle.mapf_tree.specs.Problem.{Problem};
 ghost use Rattle.mapf_tree.specs.Tree.{IsAllowedFor};
-ghost use Rattle.mapf_optimum.specs.Dependence.{agent_of};
+ghost use Rattle.mapf_optimum.specs.Together.{agent_of};
 ghost use Rattle.mapf_optimum.specs.FreeSearch.{IsLeastWithin};
 ghost use Rattle.mapf_optimum.specs.FreeTree.{IsGroup};
 ghost use Rattle.mapf_optimum.specs.Groups.{alone, part_of};
 
 use crate::low_level::LowLevel;
-use crate::pairs::Agent;
+use crate::together::Agent;
 use mapf_grid::{Cell, Map, NoMemory};
 use mapf_low::Constraints;
 use mapf_plan::{Path, Rule};
@@ -128,17 +128,21 @@ impl<'a, 'p> Part<'a, 'p> {
         self.low.problem().instance().goal(self.agents[agent])
     }
 
-    /// One of its agents under these constraints, at this cost.
+    /// Whether it is all agents.
+    pub(crate) fn is_whole(&self) -> bool {
+        self.agents.len() == self.low.problem().instance().agents()
+    }
+
+    /// One of its agents under these constraints, whose path costs so much at least.
     pub(crate) fn agent<'s>(
         &self,
         agent: usize,
         constraints: &'s Constraints,
-        cost: u32,
+        least: u32,
     ) -> Agent<'a, 's>
         requires agent { agent < length self.now.agents }
-        requires cost { cost ≤ MOST_BOUND }
         ensures { result ≡ agent_of (alone self.now).inst.grid constraints.now (slice_index (alone self.now).inst.starts agent)
-            (slice_index (alone self.now).inst.goals agent) cost }
+            (slice_index (alone self.now).inst.goals agent) least }
     {
         let problem = self.low.problem();
         let instance = problem.instance();
@@ -149,7 +153,7 @@ impl<'a, 'p> Part<'a, 'p> {
             constraints,
             instance.start(number),
             instance.goal(number),
-            cost,
+            least,
         )
     }
 

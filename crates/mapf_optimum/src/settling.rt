@@ -134,6 +134,25 @@ fn settle_again(
     Ok(is_new)
 }
 
+/// Each agent in turn takes a path of the same cost with the fewest collisions that is found, where none has a conflict.
+pub(crate) fn settle_each(
+    alloc: Global,
+    part: &Part<'_, '_>,
+    sets: &[Constraints],
+    paths: &mut Vec<Path>,
+    conflicts: &mut Vec<Conflict>,
+    occupancy: &mut Occupancy,
+) -> Result<(), NoMemory>
+    requires sets { length sets.now ≡ length (alone part.now).inst.starts }
+    requires paths { HaveAllowedPaths (alone part.now) sets.now paths.old.items }
+    ensures { OnOk result (HaveAllowedPaths (alone part.now) sets.now paths.new.items) }
+{
+    for agent in 0..paths.len() {
+        settle_one(alloc, part, sets, paths, agent, conflicts, occupancy)?;
+    }
+    Ok(())
+}
+
 /// The agent takes a path of the same cost with the fewest collisions that is found, and its conflicts are added.
 fn settle_one(
     alloc: Global,

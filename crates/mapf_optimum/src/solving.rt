@@ -137,6 +137,9 @@ fn search<W: Watch>(
         if is_limit(most, nodes) {
             return Ok(Answer::GaveUp { nodes, least });
         }
+        if part.agents().len() > 2 {
+            guide.add_failure(part.agents())?;
+        }
         expand(alloc, &part, &node, &conflict, &mut waiting)?;
         nodes = nodes.saturating_add(1);
     }

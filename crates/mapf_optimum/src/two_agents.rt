@@ -1,16 +1,18 @@
 //! What two agents cost together at least.
 
-ghost use Rattle.std.specs.Prelude.{◌<◌, IfOk};
-ghost use Rattle.mapf_optimum.specs.Groups.{AreKnown};
+ghost use Rattle.std.specs.Prelude.{◌<◌, ◌≤◌, length, IfOk};
+ghost use Rattle.mapf_optimum.specs.FreeTree.{IsFreeNode, IsLowerBoundOf};
+ghost use Rattle.mapf_optimum.specs.Groups.{AreKnown, alone};
 ghost use Rattle.mapf_optimum.specs.TwoAgents.{DoCost, HaveLeast};
 
 use crate::FreeNode;
 use crate::agents::sum_of;
-use crate::group_costs::GroupCosts;
+use crate::group_costs::{Found, GroupCosts};
 use crate::groups::ask;
 use crate::guesses::Guide;
 use crate::low_level::LowLevel;
 use crate::part::Part;
+use crate::together::MOST_TOGETHER;
 use mapf_grid::NoMemory;
 use mapf_low::Constraints;
 use mapf_plan::{Path, Plan};
@@ -80,9 +82,39 @@ pub fn least_of_two(
     paths.push_reserved(one.copy(alloc)?);
     paths.push_reserved(other.copy(alloc)?);
     let node = FreeNode::new(alloc, sets, costs, Plan::of(paths));
-    guide.left = PAIR_NODES;
-    let found = ask(alloc, &part, node, EFFORT, known, guide)?;
-    guide.occupancy.take(first);
-    guide.occupancy.take(second);
+    let found = find(alloc, &part, node, known, guide)?;
     Ok(found.least)
+}
+
+/// What the candidates of a node of a few agents cost at least, and one that costs so much, if it is found: by all joint places, unless
+/// that was in vain before, or else by a search.
+fn find(
+    alloc: Global,
+    part: &Part<'_, '_>,
+    node: FreeNode,
+    known: &mut GroupCosts,
+    guide: &mut Guide,
+) -> Result<Found, NoMemory>
+    requires node { IsFreeNode (alone part.now) node }
+    requires few { length node.sets ≤ MOST_TOGETHER }
+    requires known { AreKnown part.now.problem known.old }
+    ensures known { AreKnown part.now.problem known.new }
+    ensures least { IfOk result (λ found. IsLowerBoundOf (alone part.now) node.sets found.least) }
+{
+    let least = known.least_under_fewer(part, node.sets());
+    let raised = node.raised(part, least);
+    if guide.failures_of(part.agents()) == 0 {
+        let found = raised.cost_together(alloc, part, raised.joint_budget())?;
+        known.learn(alloc, part, raised.sets(), &found, 0)?;
+        if found.plan.is_some() {
+            return Ok(found);
+        }
+        guide.add_failure(part.agents())?;
+    }
+    guide.left = PAIR_NODES;
+    let found = ask(alloc, part, raised, EFFORT, known, guide)?;
+    for agent in part.agents() {
+        guide.occupancy.take(*agent);
+    }
+    Ok(found)
 }

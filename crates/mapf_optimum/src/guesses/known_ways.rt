@@ -2,7 +2,7 @@
 
 use super::marks::Marks;
 use super::ways::Ways;
-use crate::pairs::Agent;
+use crate::together::Agent;
 use mapf_grid::NoMemory;
 use std::alloc::Global;
 use std::collections::HashMap;

@@ -4,7 +4,7 @@ use super::few_conflicts::few_conflicts;
 use super::known_ways::KnownWays;
 use super::marks::Marks;
 use super::visit::{Step, Visit};
-use crate::pairs::Agent;
+use crate::together::Agent;
 use mapf_grid::{Cell, NoMemory};
 use mapf_plan::{Conflict, Path, Rule};
 use mapf_tree::Problem;

@@ -1,7 +1,7 @@
 //! Where an agent may be on paths of one cost.
 
 use super::marks::Marks;
-use crate::pairs::Agent;
+use crate::together::Agent;
 use mapf_grid::{Cell, NoMemory};
 use std::alloc::Global;
 
@@ -36,7 +36,7 @@ impl Ways {
         };
         ways.cells.push(agent.start())?;
         let mut begin = 0;
-        for time in 1..agent.cost().saturating_add(1) {
+        for time in 1..agent.least().saturating_add(1) {
             let end = ways.cells.len();
             if end > MOST_CELLS {
                 return Ok(None);
@@ -61,17 +61,18 @@ impl Ways {
     ) -> Result<(), NoMemory> {
         marks.clear();
         let is_forbidden = agent.is_forbidden_at(time);
-        let is_before_end = time.saturating_add(1) == agent.cost();
+        let least = agent.least();
+        let mut places = Vec::new(alloc);
         for place in begin..end {
             self.first_moves.push(self.moves.len())?;
             let Some(from) = self.cells.get(place) else {
                 continue;
             };
             let from = *from;
-            for to in agent.moves(alloc, from, time, is_forbidden)?.as_slice() {
-                if !is_before_end || *to != agent.goal() {
-                    self.add_move(*to, marks)?;
-                }
+            places.clear();
+            agent.add_moves(from, time, is_forbidden, least, &mut places)?;
+            for to in &places {
+                self.add_move(to.cell, marks)?;
             }
         }
         Ok(())

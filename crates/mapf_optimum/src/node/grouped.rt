@@ -7,22 +7,22 @@ ghost use Rattle.mapf_optimum.specs.FreeSearch.{IsBounded, IsFreshNode, IsSame};
 ghost use Rattle.mapf_optimum.specs.Groups.{alone, costs_in, sets_in};
 
 use super::FreeNode;
-use crate::agents::{copy_paths, some_costs, some_paths, some_sets, sum_of};
+use crate::agents::{copy_paths, some_costs, some_paths, some_sets};
 use crate::group_bound::{GroupBound, are_group, groups_without, least_of_groups};
 use crate::group_costs::Found;
 use crate::guesses::{
     Occupancy, colliding_pairs, conflicts_again, conflicts_among, hints_in, next_group,
 };
 use crate::other_paths::{adopt, take_least_paths};
-use crate::pairs::are_dependent;
 use crate::part::Part;
-use crate::settling::{settle, settle_partners};
+use crate::settling::{settle, settle_each, settle_partners};
+use crate::together::{MOST_TOGETHER, cost_together};
 use mapf_grid::NoMemory;
 use mapf_plan::{Conflict, Path, Plan};
 use std::alloc::Global;
 
-/// How many pairs of cells are looked at, at most, to tell whether two agents depend on one another.
-const BUDGET: usize = 20_000;
+/// From how many joint places agents go on for each place of their paths, at most, where they are looked at together.
+const JOINT_PLACES: usize = 60;
 
 impl FreeNode {
     /// The node whose agents take other paths of the same costs, with few conflicts.
@@ -64,6 +64,29 @@ impl FreeNode {
         node.conflicts = conflicts;
         node.is_bounded = false;
         node
+    }
+
+    /// The node, whose plan has no conflict, with other paths of the same costs that have few with other agents.
+    pub(crate) fn among_others(
+        self,
+        alloc: Global,
+        part: &Part<'_, '_>,
+        occupancy: &mut Occupancy,
+    ) -> Result<FreeNode, NoMemory>
+        requires { IsFreeNode (alone part.now) self }
+        ensures { IfOk result (IsSame (alone part.now) self) }
+    {
+        let mut paths = copy_paths(alloc, self.plan.paths())?;
+        let mut conflicts = Vec::new(alloc);
+        settle_each(
+            alloc,
+            part,
+            &self.sets,
+            &mut paths,
+            &mut conflicts,
+            occupancy,
+        )?;
+        Ok(self.showing(part, paths, conflicts))
     }
 
     /// Some of its agents by themselves: nothing but their sets, their paths, and what least ones cost is known.
@@ -183,34 +206,47 @@ impl FreeNode {
         Ok(Some(node.bounded(alloc, part, occupancy)?))
     }
 
-    /// What each valid plan costs at least that obeys the sets, by the groups, or by both agents, where there are two.
+    /// What each valid plan costs at least that obeys the sets, by the groups.
     fn least(&self, alloc: Global, part: &Part<'_, '_>) -> Result<u64, NoMemory>
         requires { IsFreeNode (alone part.now) self.now }
         ensures { IfOk result (IsLowerBoundOf (alone part.now) self.now.sets) }
     {
-        if self.sets.len() == 2 && !self.conflicts.is_empty() && self.are_dependent(alloc, part)? {
-            // What a bound is at most is known from a call alone.
-            let _bound = part.bound();
-            return Ok(sum_of(&self.costs) + 1);
-        }
         least_of_groups(alloc, part, &self.sets, &self.costs, &self.groups)
     }
 
-    /// Whether it is known that its two agents collide on whichever least paths.
-    fn are_dependent(&self, alloc: Global, part: &Part<'_, '_>) -> Result<bool, NoMemory>
-        requires node { IsFreeNode (alone part.now) self.now }
-        requires two { length self.now.sets ≡ 2 }
-        ensures { IfOk result (λ known. IsTrue known → IsLowerBoundOf (alone part.now) self.now.sets (sum_by (λ c. c) self.now.costs + 1)) }
-    {
-        if self.label > sum_of(&self.costs) {
-            return Ok(false);
+    /// From how many joint places its agents go on, at most, where they are looked at together.
+    pub(crate) fn joint_budget(&self) -> usize {
+        let mut budget = 0_usize;
+        for path in self.plan.paths() {
+            budget = budget.saturating_add(path.cells().len());
         }
-        // What a bound is at most is known from a call alone.
-        let _bound = part.bound();
-        let one = part.agent(0, &self.sets[0], self.costs[0]);
-        let other = part.agent(1, &self.sets[1], self.costs[1]);
-        let mut budget = BUDGET;
-        are_dependent(alloc, part.rule(), &one, &other, &mut budget)
+        budget.saturating_mul(JOINT_PLACES)
+    }
+
+    /// What its agents, which are few, cost together at least, and a plan that costs so much, if it is found by looking at so many joint
+    /// places.
+    pub(crate) fn cost_together(
+        &self,
+        alloc: Global,
+        part: &Part<'_, '_>,
+        budget: usize,
+    ) -> Result<Found, NoMemory>
+        requires node { IsFreeNode (alone part.now) self.now }
+        requires few { length self.now.sets ≤ MOST_TOGETHER }
+        ensures { IfOk result (λ found. IsLowerBoundOf (alone part.now) self.now.sets found.least) }
+    {
+        let mut agents = Vec::new(alloc);
+        for agent in 0..self.sets.len() {
+            agents.push(part.agent(agent, &self.sets[agent], self.costs[agent]))?;
+        }
+        cost_together(
+            alloc,
+            part.rule(),
+            &agents,
+            self.label,
+            part.bound(),
+            budget,
+        )
     }
 
     /// The node whose label was found from its groups: where its plan costs more than the label, it shows least paths instead.

@@ -11,8 +11,8 @@ returns-then-sum-from-clause-least c =
     let costs = (two_pushed c.in_ok-costs.costs.items c.push_reserved.new.self.items c.push_reserved-2.new.self.items c.cost.result c.cost-2.result c.in_ok-costs.ensures.items c.push_reserved.ensures.items c.push_reserved-2.ensures.items ∙ ap₂ (λ (x y : ℕ). x ∷ y ∷ []) c.cost.ensures.cost c.cost-2.ensures.cost) in
     subst (DoCost c.args.low.now c.args.pair) (sym c.sum_of-sum.ensures) (sum_of_two c.args.low.now c.args.pair c.args.one.now c.args.other.now c.requires.paths c.deref.result.now (c.deref.ensures.value ∙ costs))
 
-pub ask-requires-clause-node : goal.ask-requires-clause-node
-ask-requires-clause-node c =
+pub find-requires-clause-node : goal.find-requires-clause-node
+find-requires-clause-node c =
     let costs = (two_pushed c.in_ok-costs.costs.items c.push_reserved.new.self.items c.push_reserved-2.new.self.items c.cost.result c.cost-2.result c.in_ok-costs.ensures.items c.push_reserved.ensures.items c.push_reserved-2.ensures.items ∙ ap₂ (λ (x y : ℕ). x ∷ y ∷ []) c.cost.ensures.cost c.cost-2.ensures.cost) in
     let agents = two_pushed c.in_ok-agents.agents.items c.push_reserved-3.new.self.items c.push_reserved-4.new.self.items c.args.pair.first c.args.pair.second c.in_ok-agents.ensures.items c.push_reserved-3.ensures.items c.push_reserved-4.ensures.items in
     let sets = two_pushed c.in_ok-sets.sets.items c.push_reserved-5.new.self.items c.push_reserved-6.new.self.items c.args.pair.first_set c.args.pair.second_set c.in_ok-sets.ensures.items c.push_reserved-5.ensures.items c.push_reserved-6.ensures.items in
@@ -24,4 +24,4 @@ ask-requires-clause-node c =
     (omega (arith, c.if-sum-from.false, c.from.ensures, c.bound.ensures.bound, c.sum_of-sum.ensures, ap (λ l. sum_by (λ k. k) l) c.deref.ensures.value)))
 
 pub returns-in_err-found-clause-known : goal.returns-in_err-found-clause-known
-returns-in_err-found-clause-known c = subst (λ (p : Part). AreKnown p.problem c.ask.new.known) c.of-part.ensures c.ask.ensures.known
+returns-in_err-found-clause-known c = subst (λ (p : Part). AreKnown p.problem c.find.new.known) c.of-part.ensures c.find.ensures.known
