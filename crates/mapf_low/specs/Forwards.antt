@@ -1,5 +1,4 @@
 -- The search forwards, by f-levels.
 pub mod FLevels
 pub mod Chain
-pub mod Spread
 pub mod Taken

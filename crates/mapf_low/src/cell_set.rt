@@ -2,9 +2,6 @@ ghost use Rattle.std.specs.Prelude.{◌≡◌, ◌↔◌, [], eqb, IsTrue, OnOk,
 ghost use Rattle.std.specs.List.{IsDistinct};
 ghost use Rattle.mapf_low.specs.Forwards.FLevels.{IsAdded};
 
-mod cell_hasher;
-
-use crate::cell_set::cell_hasher::CellHashers;
 use indexmap::IndexSet;
 use mapf_grid::{Cell, NoMemory};
 use std::alloc::Global;
@@ -13,7 +10,7 @@ use std::marker::Model;
 /// Cells that an agent may reach, with one sum of time and distance or at one time step, in the order in which they were
 /// reached.
 pub(crate) struct CellSet {
-    cells: IndexSet<Cell, CellHashers>,
+    cells: IndexSet<Cell>,
 }
 
 // By hand, so that a proof about what holds one sees a call where it is dropped, and not its fields.
@@ -40,7 +37,7 @@ impl CellSet {
         ensures { result ≡ [] }
     {
         CellSet {
-            cells: IndexSet::with_hasher(alloc, CellHashers),
+            cells: IndexSet::new(alloc),
         }
     }
 
