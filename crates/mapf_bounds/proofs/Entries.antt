@@ -17,7 +17,7 @@ use Rattle.mapf_tree.proofs.Unique.{same_node, same_turns}
 use Rattle.mapf_bounds.specs.Below.{IsBelow}
 use Rattle.mapf_bounds.specs.Bounds.{IsOfTree}
 use Rattle.mapf_bounds.specs.declared.bound.Bound.{Bound}
-use Rattle.mapf_bounds.specs.Pairs.{AreKnownAt}
+use Rattle.mapf_bounds.specs.Groups.{AreKnownAt}
 use Rattle.mapf_bounds.specs.Waiting.{Waiting, IsKeyOf, HasEntryFor, AreKeyed, key_cmp, bound_key, IsAdmitted}
 use Rattle.mapf_plan.specs.Plan.{plan_cost}
 
@@ -110,9 +110,9 @@ module _ (problem : Problem) where
 
   -- without the first
   pub rest_keyed : (e : Key × Waiting) (es : List (Key × Waiting)) → AreKeyed problem (e ∷ es) → AreKeyed problem es
-  rest_keyed e es are = record { stand = λ x c. are.stand x (there es c); keys = λ x c. are.keys x (there es c); pairs = λ x c. are.pairs x (there es c) }
+  rest_keyed e es are = record { stand = λ x c. are.stand x (there es c); keys = λ x c. are.keys x (there es c); groups = λ x c. are.groups x (there es c) }
 
-  module _ (most : ℕ) (old new : List (Key × Waiting)) (b : Bound) (w : Waiting) (are : AreKeyed problem old) (of : IsOfTree problem w.node) (is : IsKeyOf problem (bound_key b w.node.name) w.node) (known : AreKnownAt problem w.node w.pairs) where
+  module _ (most : ℕ) (old new : List (Key × Waiting)) (b : Bound) (w : Waiting) (are : AreKeyed problem old) (of : IsOfTree problem w.node) (is : IsKeyOf problem (bound_key b w.node.name) w.node) (known : AreKnownAt problem w.node w.groups) where
     k : Key
     k = bound_key b w.node.name
 
@@ -126,7 +126,7 @@ module _ (problem : Problem) where
     admitted_keyed (inl e) = subst (AreKeyed problem) (sym e) (record {
       stand = λ x c. ⊎_elim (λ h. subst (λ (y : Key × Waiting). IsOfTree problem y.1.node) (sym h) of) (are.stand x) (came_from k w old put x (puts k w old) c);
       keys = λ x c. ⊎_elim (λ h. subst (λ (y : Key × Waiting). IsKeyOf problem y.0 y.1.node) (sym h) is) (are.keys x) (came_from k w old put x (puts k w old) c);
-      pairs = λ x c. ⊎_elim (λ h. subst (λ (y : Key × Waiting). AreKnownAt problem y.1.node y.1.pairs) (sym h) known) (are.pairs x) (came_from k w old put x (puts k w old) c);
+      groups = λ x c. ⊎_elim (λ h. subst (λ (y : Key × Waiting). AreKnownAt problem y.1.node y.1.groups) (sym h) known) (are.groups x) (came_from k w old put x (puts k w old) c);
     })
 
     -- what had an entry still has one

@@ -1,5 +1,6 @@
 mod Subtrees
-mod Pairs
+mod Groups
+mod Choosing
 mod DisjointPairs
 mod Covers
 mod Entries

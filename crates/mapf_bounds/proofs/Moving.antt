@@ -11,7 +11,7 @@ use Rattle.mapf_tree.specs.Search.{Searched, IsSearch, IsLawful, IsTakenTo, None
 use Rattle.mapf_bounds.specs.declared.bound.Bound.{Bound}
 use Rattle.mapf_bounds.specs.Below.{IsBelow}
 use Rattle.mapf_bounds.specs.Bounds.{IsOfTree}
-use Rattle.mapf_bounds.specs.Pairs.{AreKnownAt}
+use Rattle.mapf_bounds.specs.Groups.{AreKnownAt}
 use Rattle.mapf_bounds.specs.Waiting.{Waiting, IsKeyOf, HasEntryFor, IsAdmittedOwn, IsCovering, IsMoving, bound_key}
 use Rattle.mapf_bounds.proofs.Subtrees.{least_key_of}
 use Rattle.mapf_bounds.proofs.Covers.{waiting_cover}
@@ -25,7 +25,7 @@ moves_first most s open_yet is none all =
     go : IsTakenTo s.problem s.last s.waiting × NoneSolves s.problem s.last → IsMoving s.problem most s.waiting []
     go (taken, unsolved) = record {
       stand = taken.stand;
-      keyed = record { stand = λ e c. absurd (nowhere c); keys = λ e c. absurd (nowhere c); pairs = λ e c. absurd (nowhere c) };
+      keyed = record { stand = λ e c. absurd (nowhere c); keys = λ e c. absurd (nowhere c); groups = λ e c. absurd (nowhere c) };
       covers = λ t solution within. let w = waiting_cover s.problem most s.last unsolved t solution within in (w.0, inl ((taken.waits w.0).1 w.1), w.2);
     }
 
@@ -50,8 +50,8 @@ module _ (problem : Problem) (most least : ℕ) (below_all : IsBelowAll problem 
   key_of : IsKeyOf problem (bound_key (record { cost = max (plan_cost n.plan) least; depth = length n.name }) admitted.entry.node.name) admitted.entry.node
   key_of = subst (λ k. IsKeyOf problem (bound_key (record { cost = max (plan_cost n.plan) least; depth = length n.name }) k.name) k) (sym admitted.is) (least_key_of problem n least below_all)
 
-  known : AreKnownAt problem admitted.entry.node admitted.entry.pairs
-  known = subst (AreKnownAt problem admitted.entry.node) (sym admitted.unknown) tt
+  known : AreKnownAt problem admitted.entry.node admitted.entry.groups
+  known = subst (AreKnownAt problem admitted.entry.node) (sym admitted.unknown) (λ g c. absurd (nowhere c))
 
   -- one more waits by its bound
   pub moves_on : IsMoving problem most new after

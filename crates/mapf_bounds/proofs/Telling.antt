@@ -23,7 +23,7 @@ stated_ends problem given n (None, is, e) = subst (λ a. IsEndOf (record { nodes
 -- where there is no solution, nothing has to wait
 covering_nothing : (problem : Problem) → IsAnswer problem None → IsCovering problem 0 []
 covering_nothing problem none = record {
-  keyed = record { stand = λ e c. absurd (nowhere c); keys = λ e c. absurd (nowhere c); pairs = λ e c. absurd (nowhere c) };
+  keyed = record { stand = λ e c. absurd (nowhere c); keys = λ e c. absurd (nowhere c); groups = λ e c. absurd (nowhere c) };
   covers = λ s solution within. absurd (none s solution);
 }
 

@@ -25,16 +25,16 @@ use Rattle.mapf_tree.proofs.solutions.Descent.{cheaper_solution}
 use Rattle.mapf_tree.proofs.high_level.OpenNodes.{conflict_stands, none_stands, IsNodeOf}
 use Rattle.mapf_tree.proofs.Plans.{same_plan}
 use Rattle.std.proofs.lemmas.Bool.{cases_lt}
-use Rattle.mapf_optimum.specs.declared.pair_bound.PairBound.{PairBound}
+use Rattle.mapf_optimum.specs.declared.group_bound.GroupBound.{GroupBound}
 use Rattle.mapf_bounds.specs.declared.bound.Bound.{Bound}
 use Rattle.mapf_bounds.specs.declared.turn.Outcome.{Outcome}
 use Rattle.mapf_bounds.specs.declared.turn.Outcome.TheVariants.{Raised, Expanded, Ended}
 use Rattle.mapf_bounds.specs.Below.{IsBelow, IsBounded, CoversUpTo, IsEnough}
 use Rattle.mapf_bounds.specs.Bounds.{IsOfTree, IsBoundOf, IsRaised}
-use Rattle.mapf_bounds.specs.Pairs.{AreKnownAt}
+use Rattle.mapf_bounds.specs.Groups.{AreKnownAt}
 use Rattle.mapf_bounds.specs.Waiting.{Waiting, IsKeyOf, HasEntryFor, AreKeyed, IsCovering, key_cmp, key_bound, bound_key, IsAdmitted, IsAdmittedChild, absent, present, Branches, Drops, GoesOn, HoldsNone, IsLeftOrExpanded, IsTurn, Raises}
 use Rattle.mapf_bounds.proofs.Subtrees.{child_key_of, found_key_of, solution_valid, solutions_obey}
-use Rattle.mapf_bounds.proofs.Pairs.{known_below}
+use Rattle.mapf_bounds.proofs.Groups.{known_below}
 use Rattle.mapf_bounds.proofs.Covers.{AreBehind, first_taken, none_cheaper, expanded_covers}
 use Rattle.mapf_bounds.proofs.Entries.{lesser_first, one_node, rest_keyed, admitted_keyed, admitted_keeps, admitted_puts}
 
@@ -62,7 +62,7 @@ module _ (problem : Problem) (most : ℕ) where
   }
 
   -- one is put in
-  puts_node : (old new : List (Key × Waiting)) (p : TreeNode) (b : Bound) (w : Waiting) → AreKeyed problem old → IsNodeOf problem p (Some w.node) → IsKeyOf problem (bound_key b w.node.name) w.node → AreKnownAt problem w.node w.pairs →
+  puts_node : (old new : List (Key × Waiting)) (p : TreeNode) (b : Bound) (w : Waiting) → AreKeyed problem old → IsNodeOf problem p (Some w.node) → IsKeyOf problem (bound_key b w.node.name) w.node → AreKnownAt problem w.node w.groups →
       IsAdmitted most old b w new → PutsNode old new p
   puts_node old new p b w are (plan, stands) is known admitted =
       record {
@@ -78,13 +78,13 @@ module _ (problem : Problem) (most : ℕ) where
           λ i. (at i, plans i)
 
   -- a side is put in, if it is there
-  puts_side : (old new : List (Key × Waiting)) (n : Node) (x : PlannedNode) (known : Bound) (pairs : List PairBound) (c : Conflict) (s : Side) (o : Option Node) → AreKeyed problem old → StandsFor problem n x → IsBounded problem x known → AreKnownAt problem n pairs →
-      IsFirstConflict problem.rule x.1 c → IsSide problem x c s o → IsAdmittedChild most old known pairs o new → PutsNode old new (side_of x.0 c s)
-  puts_side old new n x known pairs c s None are stands bounded sure first is (absent e) = puts_none old new (side_of x.0 c s) are is e
-  puts_side old new n x known pairs c s (Some k) are stands bounded sure first is (present b w raised node of_pairs fresh admitted) =
+  puts_side : (old new : List (Key × Waiting)) (n : Node) (x : PlannedNode) (known : Bound) (groups : List GroupBound) (c : Conflict) (s : Side) (o : Option Node) → AreKeyed problem old → StandsFor problem n x → IsBounded problem x known → AreKnownAt problem n groups →
+      IsFirstConflict problem.rule x.1 c → IsSide problem x c s o → IsAdmittedChild most old known groups o new → PutsNode old new (side_of x.0 c s)
+  puts_side old new n x known groups c s None are stands bounded sure first is (absent e) = puts_none old new (side_of x.0 c s) are is e
+  puts_side old new n x known groups c s (Some k) are stands bounded sure first is (present b w raised node of_groups fresh admitted) =
       puts_node old new (side_of x.0 c s) b w are (subst (λ l. IsNodeOf problem (side_of x.0 c s) (Some l)) (sym node) is)
       (subst (λ l. IsKeyOf problem (bound_key b l.name) l) (sym node) (child_key_of problem k x known b bounded child_of raised))
-      (subst (AreKnownAt problem w.node) (sym of_pairs) (subst (λ l. AreKnownAt problem l pairs) (sym node) (known_below problem n k x (side_of x.0 c s, is.0) stands is.1 (child_of (side_of x.0 c s, is.0) is.1) pairs sure)))
+      (subst (AreKnownAt problem w.node) (sym of_groups) (subst (λ l. AreKnownAt problem l groups) (sym node) (known_below problem n k x (side_of x.0 c s, is.0) stands is.1 (child_of (side_of x.0 c s, is.0) is.1) groups sure)))
       admitted
     where
       child_of : (m : PlannedNode) → StandsFor problem k m → IsChild problem x m
@@ -124,19 +124,19 @@ module _ (problem : Problem) (most : ℕ) where
           here_too : StandsFor problem b.entry.node x
           here_too = subst (λ n. StandsFor problem n x) (sym b.same) stands
 
-          sure : AreKnownAt problem b.entry.node b.entry.pairs
-          sure = subst (λ n. AreKnownAt problem n b.entry.pairs) (sym b.same) b.known
+          sure : AreKnownAt problem b.entry.node b.entry.groups
+          sure = subst (λ n. AreKnownAt problem n b.entry.groups) (sym b.same) b.known
 
           shows : b.entry.node.conflict ≡ Some c
           shows = ap (λ n. n.conflict) b.same ∙ e
 
           one : PutsNode b.rest b.expands.middle (side_of x.0 c Left)
           one =
-              puts_side b.rest b.expands.middle b.entry.node x (key_bound b.first.0) b.entry.pairs c Left b.expands.left (rest_keyed problem b.first b.rest are) here_too known sure first (b.expands.is_left x c here_too shows) b.expands.puts_left
+              puts_side b.rest b.expands.middle b.entry.node x (key_bound b.first.0) b.entry.groups c Left b.expands.left (rest_keyed problem b.first b.rest are) here_too known sure first (b.expands.is_left x c here_too shows) b.expands.puts_left
 
           two : PutsNode b.expands.middle new (side_of x.0 c Right)
           two =
-              puts_side b.expands.middle new b.entry.node x (key_bound b.first.0) b.entry.pairs c Right b.expands.right one.keyed here_too known sure first (b.expands.is_right x c here_too shows) b.expands.puts_right
+              puts_side b.expands.middle new b.entry.node x (key_bound b.first.0) b.entry.groups c Right b.expands.right one.keyed here_too known sure first (b.expands.is_right x c here_too shows) b.expands.puts_right
 
           kept : (m : PlannedNode) → HasEntryFor problem old m → (m ≡ x) ⊎ HasEntryFor problem new m
           kept m has =
@@ -163,8 +163,8 @@ module _ (problem : Problem) (most : ℕ) where
       of : IsOfTree problem r.again.node
       of = subst (IsOfTree problem) (sym r.same) (whole.stand r.first (here r.rest refl))
 
-      known : AreKnownAt problem r.again.node r.again.pairs
-      known = subst (λ n. AreKnownAt problem n r.again.pairs) (sym r.same) r.known
+      known : AreKnownAt problem r.again.node r.again.groups
+      known = subst (λ n. AreKnownAt problem n r.again.groups) (sym r.same) r.known
 
       key_of : IsKeyOf problem (bound_key r.to r.again.node.name) r.again.node
       key_of = subst (λ n. IsKeyOf problem (bound_key r.to n.name) n) (sym r.same) (found_key_of problem r.first.1.node r.to r.bound (some_conflict r.first.1.node r.conflict))
@@ -265,9 +265,9 @@ module _ (problem : Problem) (most : ℕ) where
   pub first_known : (old rest : List (Key × Waiting)) (k : Key) (w : Waiting) → old ≡ (k, w) ∷ rest → IsCovering problem most old → IsBoundOf problem w.node (key_bound k)
   first_known old rest k w is covering m stands = (covering.keyed.keys (k, w) (first_in old rest (k, w) is) m stands).bounded
 
-  -- and what is known of its pairs is so
-  pub first_pairs : (old rest : List (Key × Waiting)) (k : Key) (w : Waiting) → old ≡ (k, w) ∷ rest → IsCovering problem most old → AreKnownAt problem w.node w.pairs
-  first_pairs old rest k w is covering = covering.keyed.pairs (k, w) (first_in old rest (k, w) is)
+  -- and what is known of its groups is so
+  pub first_groups : (old rest : List (Key × Waiting)) (k : Key) (w : Waiting) → old ≡ (k, w) ∷ rest → IsCovering problem most old → AreKnownAt problem w.node w.groups
+  first_groups old rest k w is covering = covering.keyed.groups (k, w) (first_in old rest (k, w) is)
 
   -- a raised bound is one
   pub raised_bound : (n : Node) (known found b : Bound) → IsBoundOf problem n known → IsBoundOf problem n found → IsRaised known found b → IsBoundOf problem n b
@@ -276,7 +276,7 @@ module _ (problem : Problem) (most : ℕ) where
 
   -- what came of the first of those that wait where it was left out or expanded
   pub left_or_expanded_turn : (old rest new : List (Key × Waiting)) (k : Key) (w entry : Waiting) (outcome : Outcome) → old ≡ (k, w) ∷ rest → IsCovering problem most old → IsEnough problem most →
-      All (λ l. key_cmp k l ≡ Less) (map (λ (y : Key × Waiting). y.0) rest) → IsSome w.node.conflict → entry.node ≡ w.node → AreKnownAt problem w.node entry.pairs → IsLeftOrExpanded problem most (key_bound k) entry rest new outcome →
+      All (λ l. key_cmp k l ≡ Less) (map (λ (y : Key × Waiting). y.0) rest) → IsSome w.node.conflict → entry.node ≡ w.node → AreKnownAt problem w.node entry.groups → IsLeftOrExpanded problem most (key_bound k) entry rest new outcome →
       IsTurn problem most old new outcome
   left_or_expanded_turn old rest new k w entry (Expanded least) is covering enough all some same known expanded = (
     record { first = (k, w); rest = rest; was = is; conflict = first_branches old rest k w is covering some; entry = entry; same = same; known = known; expands = expanded.0 },

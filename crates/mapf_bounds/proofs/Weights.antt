@@ -10,7 +10,7 @@ use Rattle.mapf_tree.specs.Problem.{Problem}
 use Rattle.mapf_tree.specs.Tree.{PlannedNode}
 use Rattle.mapf_tree.specs.Family.{IsSide}
 use Rattle.mapf_tree.specs.Nodes.{Node, StandsFor}
-use Rattle.mapf_optimum.specs.declared.pair_bound.PairBound.{PairBound}
+use Rattle.mapf_optimum.specs.declared.group_bound.GroupBound.{GroupBound}
 use Rattle.mapf_tree.proofs.finite.Measure.{most, depth_most, grown_all}
 use Rattle.mapf_bounds.specs.declared.bound.Bound.{Bound}
 use Rattle.mapf_bounds.specs.Waiting.{Waiting, is_own, absent, present, key_cmp, key_bound, bound_key, IsAdmitted, IsAdmittedChild, Branches, Drops, GoesOn, Raises}
@@ -54,10 +54,10 @@ module _ (problem : Problem) where
       (put_weight (most problem) (bound_key b w.node.name) w old (insert_entry key_cmp old (bound_key b w.node.name) w) (puts (bound_key b w.node.name) w old))
 
   -- a child adds no more than three quarters of its parent's power
-  side_weight : (most_cost : ℕ) (old new : List (Key × Waiting)) (n : Node) (known : Bound) (pairs : List PairBound) (x : PlannedNode) (c : Conflict) (s : Side) (o : Option Node) → StandsFor problem n x → IsSide problem x c s o → IsAdmittedChild most_cost old known pairs o new →
+  side_weight : (most_cost : ℕ) (old new : List (Key × Waiting)) (n : Node) (known : Bound) (groups : List GroupBound) (x : PlannedNode) (c : Conflict) (s : Side) (o : Option Node) → StandsFor problem n x → IsSide problem x c s o → IsAdmittedChild most_cost old known groups o new →
       (v : ℕ) × (weight_of (most problem) new ≤ weight_of (most problem) old + v) × (4 * v ≤ 3 * 4 ^ (most problem - length n.name))
-  side_weight most_cost old new n known pairs x c s None stands is (absent e) = (0, omega (arith, ap (weight_of (most problem)) e), omega arith)
-  side_weight most_cost old new n known pairs x c s (Some m) stands (plan, is) (present b w raised node of_pairs fresh admitted) =
+  side_weight most_cost old new n known groups x c s None stands is (absent e) = (0, omega (arith, ap (weight_of (most problem)) e), omega arith)
+  side_weight most_cost old new n known groups x c s (Some m) stands (plan, is) (present b w raised node of_groups fresh admitted) =
       (2 * 4 ^ (most problem - length m.name) + 1, omega (arith, admitted_weight most_cost old new b w admitted, weighs), quarters)
     where
       weighs : weight (most problem) w ≡ 2 * 4 ^ (most problem - length m.name) + 1
@@ -90,8 +90,8 @@ module _ (problem : Problem) where
           let n = b.entry.node in
           let stands : StandsFor problem n x = subst (λ k. StandsFor problem k x) (sym b.same) b.conflict.stands in
           let shows : n.conflict ≡ Some c = ap (λ (k : Node). k.conflict) b.same ∙ e in
-          let left = side_weight most_cost b.rest b.expands.middle n (key_bound b.first.0) b.entry.pairs x c Left b.expands.left stands (b.expands.is_left x c stands shows) b.expands.puts_left in
-          let right = side_weight most_cost b.expands.middle new n (key_bound b.first.0) b.entry.pairs x c Right b.expands.right stands (b.expands.is_right x c stands shows) b.expands.puts_right in
+          let left = side_weight most_cost b.rest b.expands.middle n (key_bound b.first.0) b.entry.groups x c Left b.expands.left stands (b.expands.is_left x c stands shows) b.expands.puts_left in
+          let right = side_weight most_cost b.expands.middle new n (key_bound b.first.0) b.entry.groups x c Right b.expands.right stands (b.expands.is_right x c stands shows) b.expands.puts_right in
           omega (
             arith,
             left.1,

@@ -5,7 +5,7 @@ use Rattle.std.specs.Ordering.{nat_cmp}
 use Rattle.std.specs.declared.cmp.Ordering.{Ordering}
 use Rattle.std.specs.Prelude.{◌≡◌, ◌⊎◌, ◌<◌, ℕ, ◌+◌, min, max, length, Bool, true, false, List, [], ◌∷◌, Option, Some, None, Contains}
 use Rattle.mapf_plan.specs.Plan.{HasNoConflict, plan_cost}
-use Rattle.mapf_optimum.specs.declared.pair_bound.PairBound.{PairBound}
+use Rattle.mapf_optimum.specs.declared.group_bound.GroupBound.{GroupBound}
 use Rattle.mapf_tree.specs.declared.tree.key.Key.{Key}
 use Rattle.mapf_tree.specs.declared.tree.side.Side.{Side}
 use Rattle.mapf_tree.specs.declared.tree.side.Side.TheVariants.{Left, Right}
@@ -22,10 +22,10 @@ use Rattle.mapf_bounds.specs.declared.waiting.Stage.TheVariants.{Own, Inherited,
 use Rattle.mapf_bounds.specs.declared.turn.Outcome.{Outcome}
 use Rattle.mapf_bounds.specs.declared.turn.Outcome.TheVariants.{Raised, Expanded, Ended}
 use Rattle.mapf_bounds.specs.Below.{IsBounded, CoversUpTo}
-use Rattle.mapf_bounds.specs.Pairs.{AreKnownAt}
+use Rattle.mapf_bounds.specs.Groups.{AreKnownAt}
 use Rattle.mapf_bounds.specs.Bounds.{IsBoundOf, IsOfTree, IsRaised, node_bound}
 
--- the bound is a node's own, from its own pairs
+-- the bound is a node's own, from its own groups
 abbrev pub is_own : Stage → Bool
 is_own Own = true
 is_own Inherited = false
@@ -35,7 +35,11 @@ is_own Handed = false
 pub record Waiting : Type 0 where
   pub node : Node
   pub stage : Stage
-  pub pairs : List PairBound
+  pub groups : List GroupBound
+
+-- the same node, whose bound is its own, from these groups
+abbrev pub IsByGroups : Waiting → List GroupBound → Waiting → Type 0
+IsByGroups old groups new = new ≡ record { node = old.node; stage = Own; groups = groups }
 
 -- the bound in a key, and the key of a bound and a name
 abbrev pub key_bound : Key → Bound
@@ -58,11 +62,11 @@ IsKeyOf problem k n = (m : PlannedNode) → StandsFor problem n m → IsBoundKey
 abbrev pub HasEntryFor : Problem → List (Key × Waiting) → PlannedNode → Type 0
 HasEntryFor problem waiting m = (e : Key × Waiting) × Contains waiting e × StandsFor problem e.1.node m
 
--- each is a node of the tree, under a key by a bound, and what is known of its pairs is so
+-- each is a node of the tree, under a key by a bound, and what is known of its groups is so
 pub record AreKeyed (problem : Problem) (waiting : List (Key × Waiting)) : Type 0 where
   pub stand : (e : Key × Waiting) → Contains waiting e → IsOfTree problem e.1.node
   pub keys : (e : Key × Waiting) → Contains waiting e → IsKeyOf problem e.0 e.1.node
-  pub pairs : (e : Key × Waiting) → Contains waiting e → AreKnownAt problem e.1.node e.1.pairs
+  pub groups : (e : Key × Waiting) → Contains waiting e → AreKnownAt problem e.1.node e.1.groups
 
 -- and all solutions that cost at most so much are at or below those that wait
 pub record IsCovering (problem : Problem) (most : ℕ) (waiting : List (Key × Waiting)) : Type 0 where
@@ -83,29 +87,29 @@ key_cmp a b = slice_cmp nat_cmp (key_rank a) (key_rank b)
 abbrev pub IsAdmitted : ℕ → List (Key × Waiting) → Bound → Waiting → List (Key × Waiting) → Type 0
 IsAdmitted most old b w new = (new ≡ insert_entry key_cmp old (bound_key b w.node.name) w) ⊎ ((most < b.cost) × (new ≡ old))
 
--- a node waits by its own cost and depth, where all solutions cost at least so much; nothing is known of pairs
+-- a node waits by its own cost and depth, where all solutions cost at least so much; nothing is known of groups
 pub record IsAdmittedOwn (most least : ℕ) (old : List (Key × Waiting)) (node : Node) (new : List (Key × Waiting)) : Type 0 where
   pub entry : Waiting
   pub is : entry.node ≡ node
-  pub unknown : entry.pairs ≡ []
+  pub unknown : entry.groups ≡ []
   pub puts : IsAdmitted most old (record { cost = max (plan_cost node.plan) least; depth = length node.name }) entry new
 
 -- a child, if there is one, waits by its own cost and depth, or by what is known of its parent where that is above these; what is known
--- of pairs is what was known there
-pub data IsAdmittedChild (most : ℕ) (old : List (Key × Waiting)) (known : Bound) (pairs : List PairBound) : Option Node → List (Key × Waiting) → Type 0 where
-  absent : {new : List (Key × Waiting)} → new ≡ old → IsAdmittedChild most old known pairs None new
+-- of groups is what was known there
+pub data IsAdmittedChild (most : ℕ) (old : List (Key × Waiting)) (known : Bound) (groups : List GroupBound) : Option Node → List (Key × Waiting) → Type 0 where
+  absent : {new : List (Key × Waiting)} → new ≡ old → IsAdmittedChild most old known groups None new
   present : {node : Node} {new : List (Key × Waiting)} (b : Bound) (w : Waiting) → IsRaised (node_bound node) known b →
-      w.node ≡ node → w.pairs ≡ pairs → is_own w.stage ≡ false → IsAdmitted most old b w new → IsAdmittedChild most old known pairs (Some node) new
+      w.node ≡ node → w.groups ≡ groups → is_own w.stage ≡ false → IsAdmitted most old b w new → IsAdmittedChild most old known groups (Some node) new
 
--- the children of a node of the tree wait, of which this bound and what is known of pairs hold
+-- the children of a node of the tree wait, of which this bound and what is known of groups hold
 pub record Expands (problem : Problem) (most : ℕ) (known : Bound) (entry : Waiting) (old new : List (Key × Waiting)) : Type 0 where
   pub left : Option Node
   pub right : Option Node
   pub is_left : IsChildOf problem entry.node Left left
   pub is_right : IsChildOf problem entry.node Right right
   pub middle : List (Key × Waiting)
-  pub puts_left : IsAdmittedChild most old known entry.pairs left middle
-  pub puts_right : IsAdmittedChild most middle known entry.pairs right new
+  pub puts_left : IsAdmittedChild most old known entry.groups left middle
+  pub puts_right : IsAdmittedChild most middle known entry.groups right new
 
 -- the first of those that wait has a conflict, and its children in the tree wait in its place
 pub record Branches (problem : Problem) (most : ℕ) (old new : List (Key × Waiting)) : Type 0 where
@@ -115,7 +119,7 @@ pub record Branches (problem : Problem) (most : ℕ) (old new : List (Key × Wai
   pub conflict : IsBranching problem first.1.node
   pub entry : Waiting
   pub same : entry.node ≡ first.1.node
-  pub known : AreKnownAt problem first.1.node entry.pairs
+  pub known : AreKnownAt problem first.1.node entry.groups
   pub expands : Expands problem most (key_bound first.0) entry rest new
 
 -- the first of those that wait has a conflict, and waits by a bound of its own now
@@ -128,7 +132,7 @@ pub record Raises (problem : Problem) (most : ℕ) (old new : List (Key × Waiti
   pub again : Waiting
   pub same : again.node ≡ first.1.node
   pub own : is_own again.stage ≡ true
-  pub known : AreKnownAt problem first.1.node again.pairs
+  pub known : AreKnownAt problem first.1.node again.groups
   pub to : Bound
   pub bound : IsBoundOf problem first.1.node to
   pub puts : IsAdmitted most rest to again new

@@ -1,14 +1,21 @@
 //! Pairs of agents that collide in a node's plan: each of disjoint ones takes another turn.
 
-ghost use Rattle.std.specs.Prelude.{◌≡◌, ◌<◌, ℕ, length, IfOk, IsTrue};
+ghost use Rattle.std.specs.Prelude.{◌≡◌, ◌<◌, ℕ, false, length, slice_index_or, IfOk, IsFalse, IsTrue};
 ghost use Rattle.mapf_plan.specs.Collisions.{DoCollide};
-ghost use Rattle.mapf_optimum.specs.Pairs.{AreChosenBy};
-ghost use Rattle.mapf_bounds.specs.Pairs.{HaveCollisions, IsCollidingPair};
+ghost use Rattle.mapf_bounds.specs.Pairs.{AreChosenBy, HaveCollisions, IsCollidingPair, Takes};
 
 use mapf_grid::NoMemory;
-use mapf_optimum::{PairBound, take};
 use mapf_plan::{AgentPaths, PairConflict, Path, Rule, do_steps_collide};
 use std::alloc::Global;
+
+/// Two agents.
+#[derive(Clone, Copy)]
+pub(crate) struct AgentPair {
+    /// The lower number.
+    pub(crate) first: usize,
+    /// The higher number.
+    pub(crate) second: usize,
+}
 
 /// How many disjoint pairs collide, of those that may.
 pub(crate) fn disjoint_collisions<P: AgentPaths>(
@@ -35,15 +42,14 @@ fn count_one<P: AgentPaths>(
     taken: &mut Vec<bool>,
     count: usize,
 ) -> usize
-    requires { AreChosenBy (length (P.paths paths.now)) (IsCollidingPair rule (P.paths paths.now)) (λ _. 1)
+    requires { AreChosenBy (length (P.paths paths.now)) (IsCollidingPair rule (P.paths paths.now))
         taken.old.items count }
-    ensures { AreChosenBy (length (P.paths paths.now)) (IsCollidingPair rule (P.paths paths.now)) (λ _. 1)
+    ensures { AreChosenBy (length (P.paths paths.now)) (IsCollidingPair rule (P.paths paths.now))
         taken.new.items result }
 {
-    let pair = PairBound {
+    let pair = AgentPair {
         first: usize::from(conflict.first),
         second: usize::from(conflict.second),
-        least: 0,
     };
     if count == usize::MAX || !is_collision(rule, paths, &pair, conflict.time) {
         return count;
@@ -54,8 +60,31 @@ fn count_one<P: AgentPaths>(
     count + 1
 }
 
+/// Whether it is known of the agent that it is in none of the pairs that were chosen.
+fn is_free(taken: &[bool], agent: usize) -> bool
+    ensures inside { IsTrue result → agent < length taken.now }
+    ensures free { IsTrue result → slice_index_or taken.now agent false ≡ false }
+{
+    matches!(taken.get(agent), Some(false))
+}
+
+/// Marks the two agents of a pair, if they have no mark, and says whether it did.
+fn take(taken: &mut Vec<bool>, pair: &AgentPair) -> bool
+    ensures takes { IsTrue result → Takes pair.now taken.old.items taken.new.items }
+    ensures stands { IsFalse result → taken.new.items ≡ taken.old.items }
+{
+    let (first, second) = (pair.first, pair.second);
+    if first < second && is_free(taken, first) && is_free(taken, second) {
+        taken[first] = true;
+        taken[second] = true;
+        true
+    } else {
+        false
+    }
+}
+
 /// Whether the two agents collide at that time step.
-fn is_collision<P: AgentPaths>(rule: Rule, paths: &P, pair: &PairBound, time: u32) -> bool
+fn is_collision<P: AgentPaths>(rule: Rule, paths: &P, pair: &AgentPair, time: u32) -> bool
     ensures { IsTrue result → IsCollidingPair rule (P.paths paths.now) pair.now }
 {
     let agents = paths.agents();

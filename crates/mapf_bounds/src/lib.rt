@@ -5,6 +5,7 @@ mod bound;
 mod collisions;
 pub mod laws;
 mod node_bounds;
+mod node_groups;
 mod node_tests;
 mod solving;
 mod turn;

@@ -1,25 +1,24 @@
-//! The bound of a node, from pairs of its agents.
+//! The bound of a node, from groups of its agents.
 
-ghost use Rattle.std.specs.Prelude.{◌≡◌, ◌<◌, ◌≤◌, length, IfOk, IsTrue, MatchOption, ⊤, ◌∷◌, [], Contains};
-ghost use Rattle.std.specs.List.{AllByRecursion};
+ghost use Rattle.std.specs.Prelude.{◌≡◌, ◌<◌, length, IfOk, IsTrue};
 ghost use Rattle.mapf_tree.specs.Family.{IsBranching};
+ghost use Rattle.mapf_optimum.specs.FreeTree.{IsGroup, IsGroupBound};
 ghost use Rattle.mapf_bounds.specs.Bounds.{IsBoundOf};
-ghost use Rattle.mapf_bounds.specs.Pairs.{AreKnownAt};
+ghost use Rattle.mapf_bounds.specs.Groups.{AreKnownAt};
 ghost use Rattle.mapf_bounds.specs.Waiting.{HoldsNone};
 
 use crate::Bound;
 use crate::collisions::disjoint_collisions;
+use crate::node_groups::{costs_of, is_changed, put, sets_of, two_of, with_new};
 use crate::node_tests::NodeTests;
 use crate::waiting::Stage;
 use mapf_grid::NoMemory;
-use mapf_optimum::{
-    AgentPair, GroupCosts, Guide, LowLevel, MOST_EXTRA, PairBound, disjoint_surplus, least_of_two,
-    surplus_of,
-};
-use mapf_plan::{AgentPaths, PairConflict};
+use mapf_optimum::{GroupBound, GroupCosts, Guide, LowLevel, least_of_group, least_of_groups};
+use mapf_plan::PairConflict;
 use mapf_tree::{CurrentPaths, Node, OwnPaths, Problem};
 use std::alloc::Global;
 use std::marker::Model;
+use std::sync::Arc;
 
 /// Where the bounds of a problem's nodes are from.
 pub(crate) struct NodeBounds<'p> {
@@ -60,11 +59,11 @@ impl<'p> Model for NodeBounds<'p> {
     ghost invariant = { λ b. (b.low ≡ b.problem.now) × AreKnown b.low b.known };
 }
 
-/// A node's bound, and what its pairs cost together at least.
+/// A node's bound, and what groups of its agents cost together at least.
 #[derive(Drop)]
 pub(crate) struct NodeBound {
     pub(crate) bound: Bound,
-    pub(crate) pairs: Vec<PairBound>,
+    pub(crate) groups: Arc<Vec<GroupBound>>,
 }
 
 impl<'p> NodeBounds<'p> {
@@ -125,143 +124,94 @@ impl<'p> NodeBounds<'p> {
         self.tests.hold_none(paths, node, self.most as u32)
     }
 
-    /// A bound of a node of the tree, from one that is known and what is known of pairs of its agents.
+    /// A bound of a node of the tree, from one that is known and what is known of groups of its agents.
     pub(crate) fn of(
         &mut self,
         paths: &mut OwnPaths<'_>,
         node: &Node,
         stage: Stage,
         known: Bound,
-        pairs: &[PairBound],
+        groups: &Arc<Vec<GroupBound>>,
     ) -> Result<NodeBound, NoMemory>
         requires paths { paths.old ≡ self.old.problem }
         requires node { IsBranching self.old.problem node.now }
         requires known { IsBoundOf self.old.problem node.now known }
-        requires pairs { AreKnownAt self.old.problem node.now pairs.now }
+        requires groups { AreKnownAt self.old.problem node.now groups.now.value.items }
         ensures same { self.new ≡ self.old }
         ensures paths { paths.new ≡ paths.old }
         ensures bound { IfOk result (λ found. IsBoundOf self.old.problem node.now found.bound) }
-        ensures pairs { IfOk result (λ found. AreKnownAt self.old.problem node.now found.pairs.items) }
+        ensures groups { IfOk result (λ found. AreKnownAt self.old.problem node.now found.groups.value.items) }
     {
         let conflicts = paths.pair_conflicts(node)?;
         let current = node.paths(self.alloc)?;
-        let own = Bound::own(node);
         let turns = disjoint_collisions(self.alloc, self.problem.rule(), &current, &conflicts)?;
-        let most = self.most_extra(own.cost);
-        let pairs = self.add_pairs(node, &current, stage, &conflicts, most, pairs)?;
-        let surplus = disjoint_surplus(self.alloc, &current, &pairs)?;
+        let costs = costs_of(self.alloc, &current)?;
+        let new = self.new_groups(node, &current, &costs, stage, &conflicts)?;
+        let groups = with_new(self.alloc, groups, &new, &costs)?;
+        let least = least_of_groups(self.alloc, &costs, &groups)?;
         let bound = Bound {
-            cost: known.cost.max(own.cost.saturating_add(surplus)),
-            depth: own.depth.saturating_add(turns),
+            cost: known.cost.max(least),
+            depth: Bound::own(node).depth.saturating_add(turns),
         };
-        Ok(NodeBound { bound, pairs })
+        Ok(NodeBound { bound, groups })
     }
 
-    /// Up to where it is looked for what a pair of a node that costs so much costs more.
-    fn most_extra(&self, cost: u64) -> u32 {
-        let left = self.most.saturating_sub(cost).saturating_add(1);
-        left.min(u64::from(MOST_EXTRA)) as u32
-    }
-
-    /// Adds to the dear ones of these pairs what those cost that collide, and of which one agent has another path than at the parent.
-    fn add_pairs(
+    /// The dear ones of those pairs that collide, and of which one agent has another path than at the parent.
+    fn new_groups(
         &mut self,
         node: &Node,
         current: &CurrentPaths<'_>,
+        costs: &[u32],
         stage: Stage,
         conflicts: &[PairConflict],
-        most: u32,
-        known: &[PairBound],
-    ) -> Result<Vec<PairBound>, NoMemory>
+    ) -> Result<Vec<GroupBound>, NoMemory>
         requires node { IsBranching self.old.problem node.now }
         requires current { current.now ≡ node.now.plan }
-        requires known { AreKnownAt self.old.problem node.now known.now }
         ensures same { self.new ≡ self.old }
-        ensures pairs { IfOk result (λ found. AreKnownAt self.old.problem node.now found.items) }
+        ensures groups { IfOk result (λ found. AreKnownAt self.old.problem node.now found.items) }
     {
-        let mut pairs = dear_pairs(self.alloc(), current, known)?;
+        let mut groups = Vec::new(self.alloc());
         for conflict in conflicts {
-            let (first, second) = (usize::from(conflict.first), usize::from(conflict.second));
-            if matches!(stage, Stage::Inherited) && !is_changed(node, first, second) {
+            if matches!(stage, Stage::Inherited) && !is_changed(node, conflict) {
                 continue;
             }
-            if let Some(pair) = self.pair_bound(node, current, first, second, most)? {
-                pairs.push(pair)?;
+            if let Some(agents) = two_of(self.alloc(), current, conflict)? {
+                let group = self.group_bound(node, current, agents)?;
+                put(&mut groups, group, costs)?;
             }
         }
-        Ok(pairs)
+        Ok(groups)
     }
 
-    /// What two agents cost together at least; none where that is no more than their paths.
-    fn pair_bound(
+    /// What some agents cost together at least.
+    fn group_bound(
         &mut self,
         node: &Node,
         current: &CurrentPaths<'_>,
-        first: usize,
-        second: usize,
-        most: u32,
-    ) -> Result<Option<PairBound>, NoMemory>
+        agents: Vec<usize>,
+    ) -> Result<GroupBound, NoMemory>
         requires node { IsBranching self.old.problem node.now }
         requires current { current.now ≡ node.now.plan }
+        requires group { IsGroup (length node.now.plan) agents.items }
+        requires some { 0 < length agents.items }
         ensures same { self.new ≡ self.old }
-        ensures pair { IfOk result (λ found. MatchOption found ⊤ (λ pair. AreKnownAt self.old.problem node.now (pair ∷ []))) }
+        ensures group { IfOk result (λ found. IsGroupBound self.old.problem node.now.constraints
+            found.agents.items found.least) }
     {
-        if first >= second || second >= current.agents() {
-            return Ok(None);
-        }
-        let (one, other) = (current.path(first), current.path(second));
-        let pair = AgentPair {
-            first,
-            second,
-            first_set: node.constraints(self.alloc, first)?,
-            second_set: node.constraints(self.alloc, second)?,
-        };
-        let alone = u64::from(one.cost()) + u64::from(other.cost());
-        let found = least_of_two(
+        let sets = sets_of(self.alloc, node, &agents)?;
+        let least = least_of_group(
             self.alloc,
             &self.low,
-            pair,
-            one,
-            other,
+            &agents,
+            sets,
+            current,
             &mut self.known,
             &mut self.guide,
         )?;
-        let least = found.min(alone + u64::from(most));
-        if least <= alone {
-            return Ok(None);
-        }
-        Ok(Some(PairBound {
-            first,
-            second,
+        Ok(GroupBound {
+            agents,
             least,
-        }))
-    }
-}
-
-/// Those of these pairs that cost more than their paths.
-fn dear_pairs(
-    alloc: Global,
-    current: &CurrentPaths<'_>,
-    pairs: &[PairBound],
-) -> Result<Vec<PairBound>, NoMemory>
-    ensures { IfOk result (λ kept. AllByRecursion (Contains pairs.now) kept.items) }
-{
-    let mut kept = Vec::new(alloc);
-    for pair in pairs {
-        if surplus_of(current, pair) > 0 {
-            kept.push(*pair)?;
-        }
-    }
-    Ok(kept)
-}
-
-/// Whether the last turn of a node's name gave one of these agents another path.
-fn is_changed(node: &Node, first: usize, second: usize) -> bool {
-    let Some(turn) = node.key().depth.checked_sub(1) else {
-        return true;
-    };
-    match node.change(turn) {
-        Some((agent, _constraint, _path)) => agent == first || agent == second,
-        None => true,
+            is_solved: false,
+        })
     }
 }

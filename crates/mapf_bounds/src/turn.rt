@@ -3,17 +3,16 @@
 ghost use Rattle.std.specs.Prelude.{◌≡◌, IfOk, OnOk};
 ghost use Rattle.mapf_tree.specs.Family.{IsBranching};
 ghost use Rattle.mapf_bounds.specs.Below.{IsEnough};
-ghost use Rattle.mapf_bounds.specs.Pairs.{AreKnownAt};
+ghost use Rattle.mapf_bounds.specs.Groups.{AreKnownAt};
 ghost use Rattle.mapf_bounds.specs.Waiting.{Expands, IsCovering, IsLeftOrExpanded, IsTurn};
 
 use crate::Bound;
 use crate::node_bounds::NodeBounds;
-use crate::waiting::{Stage, Waiting, admit, admit_child};
+use crate::waiting::{Waiting, admit, admit_child};
 use mapf_grid::NoMemory;
 use mapf_plan::Answer;
 use mapf_tree::{Children, Key, OwnPaths};
 use std::collections::BTreeMap;
-use std::sync::Arc;
 
 /// What came of a turn.
 #[derive(Drop)]
@@ -44,9 +43,8 @@ pub(crate) fn turn(
         let bound = bounds.problem().bound();
         return Ok(Outcome::Ended(Answer::None { bound }));
     };
-    let Waiting { node, stage, pairs } = first;
-    if node.conflict().is_none() {
-        let plan = node.plan(bounds.alloc())?;
+    if first.node.conflict().is_none() {
+        let plan = first.node.plan(bounds.alloc())?;
         let stated = key.cost;
         return Ok(Outcome::Ended(Answer::Plan { plan, stated }));
     }
@@ -54,17 +52,12 @@ pub(crate) fn turn(
         cost: key.cost,
         depth: key.depth,
     };
-    if stage.is_own() {
-        let entry = Waiting { node, stage, pairs };
-        return leave_or_expand(waiting, paths, bounds, known, entry);
+    if first.stage.is_own() {
+        return leave_or_expand(waiting, paths, bounds, known, first);
     }
-    let found = bounds.of(paths, &node, stage, known, &pairs)?;
+    let found = bounds.of(paths, &first.node, first.stage, known, &first.groups)?;
     let raised = known.raised(found.bound);
-    let entry = Waiting {
-        node,
-        stage: Stage::Own,
-        pairs: Arc::new(bounds.alloc(), found.pairs)?,
-    };
+    let entry = first.by_groups(found.groups);
     if raised == known {
         return leave_or_expand(waiting, paths, bounds, known, entry);
     }
@@ -94,7 +87,7 @@ fn leave_or_expand(
     Ok(Outcome::Expanded(least))
 }
 
-/// Puts the children of a node in, of which this bound and what is known of its pairs hold.
+/// Puts the children of a node in, of which this bound and what is known of its groups hold.
 fn expand(
     waiting: &mut BTreeMap<Key, Waiting>,
     paths: &mut OwnPaths<'_>,
@@ -110,11 +103,18 @@ fn expand(
     let Waiting {
         node,
         stage: _stage,
-        pairs,
+        groups,
     } = entry;
     let node = node.share_changes();
     let (left, right) = paths.both(bounds.problem(), &node)?;
-    admit_child(bounds.alloc(), bounds.most(), waiting, known, &pairs, left)?;
-    admit_child(bounds.alloc(), bounds.most(), waiting, known, &pairs, right)?;
+    admit_child(bounds.alloc(), bounds.most(), waiting, known, &groups, left)?;
+    admit_child(
+        bounds.alloc(),
+        bounds.most(),
+        waiting,
+        known,
+        &groups,
+        right,
+    )?;
     Ok(())
 }

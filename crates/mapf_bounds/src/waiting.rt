@@ -1,11 +1,11 @@
 //! The nodes that wait, each under a key of a bound.
 
 ghost use Rattle.std.specs.Prelude.{◌≡◌, OnOk, IsTrue, IfOk};
-ghost use Rattle.mapf_bounds.specs.Waiting.{IsAdmitted, IsAdmittedOwn, IsAdmittedChild, is_own};
+ghost use Rattle.mapf_bounds.specs.Waiting.{IsAdmitted, IsAdmittedOwn, IsAdmittedChild, IsByGroups, is_own};
 
 use crate::Bound;
 use mapf_grid::NoMemory;
-use mapf_optimum::PairBound;
+use mapf_optimum::GroupBound;
 use mapf_tree::{Key, Node};
 use std::alloc::Global;
 use std::collections::BTreeMap;
@@ -19,12 +19,12 @@ pub(crate) enum Stage {
     Handed,
     /// By its plan and what is known of its parent.
     Inherited,
-    /// By its own pairs.
+    /// By its own groups.
     Own,
 }
 
 impl Stage {
-    /// Whether it is known by the node's own pairs.
+    /// Whether it is known by the node's own groups.
     pub(crate) fn is_own(self) -> bool
         ensures { result ≡ is_own self }
     {
@@ -37,8 +37,8 @@ impl Stage {
 pub(crate) struct Waiting {
     pub(crate) node: Node,
     pub(crate) stage: Stage,
-    /// What two agents cost together at least, of those pairs of which it is known.
-    pub(crate) pairs: Arc<Vec<PairBound>>,
+    /// What groups of its agents cost together at least, of which it is known.
+    pub(crate) groups: Arc<Vec<GroupBound>>,
 }
 
 impl Model for Waiting {
@@ -46,7 +46,25 @@ impl Model for Waiting {
 
     ghost Value = { Waiting };
 
-    ghost view = { λ w. record { node = w.node; stage = w.stage; pairs = w.pairs.value.items } };
+    ghost view = { λ w. record { node = w.node; stage = w.stage; groups = w.groups.value.items } };
+}
+
+impl Waiting {
+    /// The same node, whose bound is known by these groups of its own.
+    pub(crate) fn by_groups(self, groups: Arc<Vec<GroupBound>>) -> Waiting
+        ensures { IsByGroups self groups.value.items result }
+    {
+        let Waiting {
+            node,
+            stage: _stage,
+            groups: _groups,
+        } = self;
+        Waiting {
+            node,
+            stage: Stage::Own,
+            groups,
+        }
+    }
 }
 
 /// Puts a node in under the key of a bound, unless that costs more than `most`.
@@ -91,7 +109,7 @@ pub(crate) fn admit_own(
     let entry = Waiting {
         node,
         stage: Stage::Handed,
-        pairs: Arc::new(alloc, Vec::new(alloc))?,
+        groups: Arc::new(alloc, Vec::new(alloc))?,
     };
     admit(alloc, most, waiting, bound, entry)
 }
@@ -102,10 +120,10 @@ pub(crate) fn admit_child(
     most: u64,
     waiting: &mut BTreeMap<Key, Waiting>,
     known: Bound,
-    pairs: &Arc<Vec<PairBound>>,
+    groups: &Arc<Vec<GroupBound>>,
     child: Option<Node>,
 ) -> Result<(), NoMemory>
-    ensures { OnOk result (IsAdmittedChild most waiting.old.entries known pairs.now.value.items child waiting.new.entries) }
+    ensures { OnOk result (IsAdmittedChild most waiting.old.entries known groups.now.value.items child waiting.new.entries) }
 {
     let Some(node) = child else {
         return Ok(());
@@ -114,7 +132,7 @@ pub(crate) fn admit_child(
     let entry = Waiting {
         node,
         stage: Stage::Inherited,
-        pairs: Arc::try_clone(pairs)?,
+        groups: Arc::try_clone(groups)?,
     };
     admit(alloc, most, waiting, bound, entry)?;
     Ok(())

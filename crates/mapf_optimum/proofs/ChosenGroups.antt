@@ -15,8 +15,8 @@ use Rattle.mapf_plan.specs.Plan.{path_of}
 use Rattle.mapf_low.specs.declared.constraint.Constraint.{Constraint}
 use Rattle.mapf_tree.specs.Problem.{Problem}
 use Rattle.mapf_optimum.specs.declared.group_bound.GroupBound.{GroupBound}
-use Rattle.mapf_optimum.specs.FreeTree.{AreGroupBounds, AreLeastCosts, IsGroup, IsGroupBound, IsLowerBoundOf}
-use Rattle.mapf_optimum.specs.Groups.{AreChosen, AreOf, Group, Takes, all_agents}
+use Rattle.mapf_optimum.specs.FreeTree.{FreeNode, AreGroupBounds, AreLeastCosts, IsFreeNode, IsGroup, IsGroupBound, IsLowerBoundOf}
+use Rattle.mapf_optimum.specs.Groups.{AreChosen, AreGroups, AreOf, Group, IsBoundBy, Takes, all_agents}
 use Rattle.mapf_optimum.proofs.GroupLaws.{groups_add}
 use Rattle.mapf_optimum.proofs.LeastPaths.{pays_cost}
 
@@ -55,14 +55,19 @@ module _ (n : ℕ) (first rest : List ℕ) (one : IsGroup n first) (other : IsGr
   both_group : IsGroup n (first ++ rest)
   both_group = record { inside = both_inside; once = both_once }
 
+-- what is a bound of a group wherever least paths and the groups cost so much
+abbrev pub IsBoundOf : List ℕ → List GroupBound → List ℕ → ℕ → Type 0
+IsBoundOf costs groups agents least =
+    (problem : Problem) (sets : List (List Constraint)) → AreLeastCosts problem sets costs → AreGroupBounds problem sets groups → IsGroupBound problem sets agents least
+
 -- one more is chosen
-pub chosen_more : (problem : Problem) (sets : List (List Constraint)) (old new : List Bool) (sum next : ℕ) (agents : List ℕ) (least : ℕ) → AreChosen problem sets old sum →
-    IsGroupBound problem sets agents least → Takes agents old new → next ≤ sum + least → AreChosen problem sets new next
-chosen_more problem sets old new sum next agents least are is takes few = record {
+pub chosen_more : (costs : List ℕ) (groups : List GroupBound) (old new : List Bool) (sum next : ℕ) (agents : List ℕ) (least : ℕ) → AreChosen costs groups old sum →
+    IsGroup (length costs) agents → IsBoundOf costs groups agents least → Takes agents old new → next ≤ sum + least → AreChosen costs groups new next
+chosen_more costs groups old new sum next agents least are group bound takes few = record {
   chosen = record { agents = agents; least = least } ∷ are.chosen;
   long = takes.same ∙ are.long;
-  apart = both_group (length problem.inst.starts) agents (all_agents are.chosen) is.group are.apart no_common;
-  bounds = (is, are.bounds);
+  apart = both_group (length costs) agents (all_agents are.chosen) group are.apart no_common;
+  bounds = λ problem sets c g. (bound problem sets c g, are.bounds problem sets c g);
   marked = λ i has. ⊎_elim (λ c. takes.marked i c) (λ c. takes.stays i (are.marked i c)) (Contains-append_cases agents (all_agents are.chosen) i has);
   sums = omega (arith, few, are.sums, sum_by-cons (λ (g : Group). g.least) (record { agents = agents; least = least }) are.chosen);
 }
@@ -73,23 +78,39 @@ chosen_more problem sets old new sum next agents least are is takes few = record
         (sym (are.marked (get_or (all_agents are.chosen) b 0) (Contains-get_or (all_agents are.chosen) b 0 l)) ∙ ap (λ i. get_or old i false) (sym e)
         ∙ takes.free (get_or agents a 0) (Contains-get_or agents a 0 h))
 
--- an agent by itself costs at least its least cost
-single_bound : (problem : Problem) (sets : List (List Constraint)) (costs : List ℕ) (agent : ℕ) → AreLeastCosts problem sets costs → agent < length problem.inst.starts → IsGroupBound problem sets (agent ∷ []) (get_or costs agent 0)
-single_bound problem sets costs agent are inside = record {
-  group = record {
-    inside = λ k h. let e : 0 ≡ k = omega (arith, h) in subst (λ j. get_or (agent ∷ []) j 0 < length problem.inst.starts) e inside;
-    once = λ a b l h. absurd (omega (arith, l, h));
-  };
-  below = λ plan candidate. omega (arith, sum_by-cons cost (path_of plan agent) [], pays_cost problem sets costs are plan candidate agent inside);
+-- none is chosen
+pub none_chosen : (costs : List ℕ) (groups : List GroupBound) (taken : List Bool) → length taken ≡ length costs → AreChosen costs groups taken 0
+none_chosen costs groups taken long = record {
+  chosen = [];
+  long = long;
+  apart = record { inside = λ k h. absurd (omega (arith, h)); once = λ a b l h. absurd (omega (arith, h)) };
+  bounds = λ problem sets c g. tt;
+  marked = λ i has. absurd (nowhere has);
+  sums = omega arith;
 }
 
+-- an agent by itself is a group
+alone_group : (n agent : ℕ) → agent < n → IsGroup n (agent ∷ [])
+alone_group n agent inside = record {
+  inside = λ k h. let e : 0 ≡ k = omega (arith, h) in subst (λ j. get_or (agent ∷ []) j 0 < n) e inside;
+  once = λ a b l h. absurd (omega (arith, l, h));
+}
+
+-- and costs at least its least cost
+single_bound : (problem : Problem) (sets : List (List Constraint)) (costs : List ℕ) (agent : ℕ) → AreLeastCosts problem sets costs → agent < length costs → IsGroupBound problem sets (agent ∷ []) (get_or costs agent 0)
+single_bound problem sets costs agent are inside =
+    let h : agent < length problem.inst.starts = omega (arith, inside, are.agents) in record {
+      group = alone_group (length problem.inst.starts) agent h;
+      below = λ plan candidate. omega (arith, sum_by-cons cost (path_of plan agent) [], pays_cost problem sets costs are plan candidate agent h);
+    }
+
 -- and is chosen
-pub chosen_alone : (problem : Problem) (sets : List (List Constraint)) (costs : List ℕ) (old : List Bool) (sum next agent least : ℕ) → AreChosen problem sets old sum → AreLeastCosts problem sets costs →
-    agent < length costs → get_or old agent false ≡ false → least ≡ get_or costs agent 0 → next ≤ sum + least → AreChosen problem sets (set old agent true) next
-chosen_alone problem sets costs old sum next agent least are costs_are inside free same few =
-    let l : agent < length old = omega (arith, inside, are.long, costs_are.agents) in
-    chosen_more problem sets old (set old agent true) sum next (agent ∷ []) (get_or costs agent 0) are
-    (single_bound problem sets costs agent costs_are (omega (arith, inside, costs_are.agents)))
+pub chosen_alone : (costs : List ℕ) (groups : List GroupBound) (old : List Bool) (sum next agent least : ℕ) → AreChosen costs groups old sum → agent < length costs →
+    get_or old agent false ≡ false → least ≡ get_or costs agent 0 → next ≤ sum + least → AreChosen costs groups (set old agent true) next
+chosen_alone costs groups old sum next agent least are inside free same few =
+    let l : agent < length old = omega (arith, inside, are.long) in
+    chosen_more costs groups old (set old agent true) sum next (agent ∷ []) (get_or costs agent 0) are (alone_group (length costs) agent inside)
+    (λ problem sets c g. single_bound problem sets costs agent c inside)
     (record {
       same = length-set old agent true;
       free = λ i has. ⊎_elim (λ e. subst (λ j. get_or old j false ≡ false) e free) (λ c. absurd (nowhere c)) (here_or_there [] has);
@@ -99,13 +120,21 @@ chosen_alone problem sets costs old sum next agent least are costs_are inside fr
     (omega (arith, few, same))
 
 -- one of the groups
-pub bound_at : (problem : Problem) (sets : List (List Constraint)) (groups : List GroupBound) (i : ℕ) (g : GroupBound) → AreGroupBounds problem sets groups → i < length groups → g ≡ get_or groups i g →
-    IsGroupBound problem sets g.agents.items g.least
-bound_at problem sets groups i g are l is = are g (i, l, sym is)
+pub one_of : (groups : List GroupBound) (i : ℕ) (g : GroupBound) → i < length groups → g ≡ get_or groups i g → Contains groups g
+one_of groups i g l is = (i, l, sym is)
 
 -- what the chosen ones cost at least comes to a lower bound
-pub chosen_below : (problem : Problem) (sets : List (List Constraint)) (marks : List Bool) (sum : ℕ) → AreChosen problem sets marks sum → IsLowerBoundOf problem sets sum
-chosen_below problem sets marks sum are plan candidate = omega (arith, are.sums, groups_add problem sets are.chosen are.apart are.bounds plan candidate)
+pub chosen_below : (costs : List ℕ) (groups : List GroupBound) (marks : List Bool) (sum : ℕ) → AreChosen costs groups marks sum → IsBoundBy costs groups sum
+chosen_below costs groups marks sum are problem sets c g plan candidate =
+    omega (arith, are.sums, groups_add problem sets are.chosen (subst (λ n. IsGroup n (all_agents are.chosen)) c.agents are.apart) (are.bounds problem sets c g) plan candidate)
+
+-- so it is one of a node
+pub bound_of_node : (problem : Problem) (node : FreeNode) (least : ℕ) → IsFreeNode problem node → IsBoundBy node.costs node.groups least → IsLowerBoundOf problem node.sets least
+bound_of_node problem node least is bound = bound problem node.sets is.costs is.groups
+
+-- whose groups are of its agents
+pub groups_of_node : (problem : Problem) (node : FreeNode) → IsFreeNode problem node → AreGroups (length node.costs) node.groups
+groups_of_node problem node is g i = subst (λ n. IsGroup n g.agents.items) (sym is.costs.agents) (is.groups g i).group
 
 -- one more of the groups is kept
 pub one_more_of : (old new : List GroupBound) (x k : GroupBound) → AreOf old new → Contains old k → k.agents.items ≡ x.agents.items → k.least ≡ x.least → AreOf old (new ++ x ∷ [])

@@ -3,14 +3,12 @@ pub mod LeastPaths
 mod Costs
 mod Fresh
 mod Taking
-mod PairLabels
 mod Roots
 mod Sides
 mod Grouped
 mod Covering
 mod Work
 pub mod Collisions
-pub mod Choosing
 mod StartTables
 pub mod Steps
 pub mod Telling
@@ -18,7 +16,7 @@ mod GroupSums
 pub mod GroupLaws
 pub mod Parts
 pub mod ChosenGroups
-pub mod TwoAgents
+mod SmallGroups
 mod Asking
 mod JointLists
 mod JointSums

@@ -1,6 +1,6 @@
 -- A search that may branch on any conflict: its nodes, and what their labels say (conflict-based search with other choices than the
 -- constraint tree's: Boyarski et al. 2015, Felner et al. 2018).
-use Rattle.std.specs.Prelude.{◌≡◌, ℕ, ◌+◌, ◌<◌, ◌≤◌, Bool, true, List, [], length, map, slice_index, slice_index_or, sum_by, Contains}
+use Rattle.std.specs.Prelude.{◌≡◌, ℕ, ◌<◌, ◌≤◌, Bool, true, List, [], length, map, slice_index, slice_index_or, sum_by, Contains}
 use Rattle.mapf_plan.specs.declared.conflict.Conflict.{Conflict}
 use Rattle.mapf_plan.specs.Path.{cost}
 use Rattle.mapf_plan.specs.Plan.{IsConflict, conflict_time, IsValid, path_of, plan_cost}
@@ -9,7 +9,6 @@ use Rattle.mapf_tree.specs.Problem.{Problem}
 use Rattle.mapf_tree.specs.Tree.{TreeNode, IsAllowedFor}
 use Rattle.mapf_tree.specs.Laws.{ObeysNode}
 use Rattle.mapf_grid.specs.Instance.{IsDistinct}
-use Rattle.mapf_optimum.specs.declared.pair_bound.PairBound.{PairBound}
 use Rattle.mapf_optimum.specs.declared.group_bound.GroupBound.{GroupBound}
 
 -- each agent's set of constraints, what a least path of each costs, a plan that is shown, what is known of groups of agents, and a
@@ -36,16 +35,6 @@ pub record IsCandidate (problem : Problem) (sets : List (List Constraint)) (plan
 -- no candidate costs less
 abbrev pub IsLowerBoundOf : Problem → List (List Constraint) → ℕ → Type 0
 IsLowerBoundOf problem sets least = (plan : List (List ℕ)) → IsCandidate problem sets plan → least ≤ plan_cost plan
-
--- what two agents cost in a plan
-abbrev pub cost_of_two : List (List ℕ) → ℕ → ℕ → ℕ
-cost_of_two plan i j = cost (path_of plan i) + cost (path_of plan j)
-
--- two of the problem's agents, whose paths cost at least so much in each candidate
-pub record IsPairBound (problem : Problem) (sets : List (List Constraint)) (pair : PairBound) : Type 0 where
-  pub two : pair.first < pair.second
-  pub inside : pair.second < length problem.inst.starts
-  pub least : (plan : List (List ℕ)) → IsCandidate problem sets plan → pair.least ≤ cost_of_two plan pair.first pair.second
 
 -- a path that the agent may take under these constraints, such that none that it may take costs less
 pub record IsLeastPathOf (problem : Problem) (agent : ℕ) (constraints : List Constraint) (path : List ℕ) : Type 0 where

@@ -1,12 +1,12 @@
 -- Groups of agents, each by itself: what each costs at least comes to a lower bound of all together (Standley 2010: independent groups;
 -- here at each node of a search).
-use Rattle.std.specs.Prelude.{◌≡◌, ℕ, ◌≤◌, Bool, true, false, List, [], length, map, slice_index, slice_index_or, sum_by, Contains}
+use Rattle.std.specs.Prelude.{◌≡◌, ℕ, ◌-◌, ◌≤◌, Bool, true, false, List, [], length, map, slice_index, slice_index_or, sum_by, Contains}
 use Rattle.std.specs.List.{AllByRecursion, flat_map}
 use Rattle.mapf_low.specs.declared.constraint.Constraint.{Constraint}
 use Rattle.mapf_tree.specs.Problem.{Problem}
 use Rattle.mapf_optimum.specs.declared.group_bound.GroupBound.{GroupBound}
 use Rattle.mapf_optimum.specs.declared.group_costs.KnownGroup.{KnownGroup}
-use Rattle.mapf_optimum.specs.FreeTree.{IsCandidate, IsLowerBoundOf, IsGroup, IsGroupBound, paths_in}
+use Rattle.mapf_optimum.specs.FreeTree.{AreGroupBounds, AreLeastCosts, IsCandidate, IsLowerBoundOf, IsGroup, IsGroupBound, paths_in}
 
 -- the problem of these agents by themselves
 abbrev pub part_of : Problem → List ℕ → Problem
@@ -47,12 +47,23 @@ pub record Group : Type 0 where
 abbrev pub all_agents : List Group → List ℕ
 all_agents groups = flat_map (λ g. g.agents) groups
 
--- groups without a common agent were chosen, whose agents have marks, and they cost at least so much together
-pub record AreChosen (problem : Problem) (sets : List (List Constraint)) (taken : List Bool) (sum : ℕ) : Type 0 where
+-- how much more than its agents alone the group costs at least, where each costs so much alone
+abbrev pub surplus : List ℕ → GroupBound → ℕ
+surplus costs g = g.least - sum_by (λ c. c) (costs_in costs g.agents.items)
+
+-- of so many agents, each of the groups has some, each once
+abbrev pub AreGroups : ℕ → List GroupBound → Type 0
+AreGroups n groups = (g : GroupBound) → Contains groups g → IsGroup n g.agents.items
+
+-- groups without a common agent were chosen, whose agents have marks, and they cost at least so much together, where least paths cost so
+-- much, and the groups of a list at least so much
+pub record AreChosen (costs : List ℕ) (groups : List GroupBound) (taken : List Bool) (sum : ℕ) : Type 0 where
   pub chosen : List Group
-  pub long : length taken ≡ length problem.inst.starts
-  pub apart : IsGroup (length problem.inst.starts) (all_agents chosen)
-  pub bounds : AllByRecursion (λ g. IsGroupBound problem sets g.agents g.least) chosen
+  pub long : length taken ≡ length costs
+  pub apart : IsGroup (length costs) (all_agents chosen)
+  pub bounds :
+      (problem : Problem) (sets : List (List Constraint)) → AreLeastCosts problem sets costs → AreGroupBounds problem sets groups →
+      AllByRecursion (λ g. IsGroupBound problem sets g.agents g.least) chosen
   pub marked : (i : ℕ) → Contains (all_agents chosen) i → slice_index_or taken i false ≡ true
   pub sums : sum ≤ sum_by (λ g. g.least) chosen
 
@@ -66,6 +77,11 @@ pub record Takes (agents : List ℕ) (old new : List Bool) : Type 0 where
 -- nothing else is known of groups than before
 abbrev pub AreOf : (old new : List GroupBound) → Type 0
 AreOf old new = (g : GroupBound) → Contains new g → (k : GroupBound) × Contains old k × (k.agents.items ≡ g.agents.items) × (k.least ≡ g.least)
+
+-- no candidate of any problem and sets costs less, where least paths cost so much, and groups at least so much
+abbrev pub IsBoundBy : List ℕ → List GroupBound → ℕ → Type 0
+IsBoundBy costs groups least =
+    (problem : Problem) (sets : List (List Constraint)) → AreLeastCosts problem sets costs → AreGroupBounds problem sets groups → IsLowerBoundOf problem sets least
 
 -- what is known of groups is so
 abbrev pub AreKnown : Problem → List KnownGroup → Type 0

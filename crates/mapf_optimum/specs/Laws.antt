@@ -1,16 +1,13 @@
 -- What holds of every search that may branch on any conflict: nothing is lost, and what is found is an optimum.
-use Rattle.std.specs.Prelude.{◌≡◌, ◌⊎◌, ℕ, ◌+◌, ◌<◌, ◌≤◌, true, List, [], length, All, Some, sum_by}
-use Rattle.std.specs.List.{AllByRecursion}
+use Rattle.std.specs.Prelude.{◌≡◌, ◌⊎◌, ℕ, ◌<◌, ◌≤◌, true, List, [], All, Some}
 use Rattle.mapf_plan.specs.declared.conflict.Conflict.{Conflict}
 use Rattle.mapf_plan.specs.Plan.{HasNoConflict, IsOptimum, IsValid, plan_cost}
 use Rattle.mapf_low.specs.declared.constraint.Constraint.{Constraint}
 use Rattle.mapf_tree.specs.declared.tree.side.Side.TheVariants.{Left, Right}
 use Rattle.mapf_tree.specs.Problem.{Problem}
 use Rattle.mapf_tree.specs.LowerBound.{IsBelowAll}
-use Rattle.mapf_optimum.specs.declared.pair_bound.PairBound.{PairBound}
-use Rattle.mapf_optimum.specs.FreeTree.{FreeNode, IsFreeNode, IsCandidate, IsLowerBoundOf, IsPairBound, HaveLeastPaths, IsChoice}
+use Rattle.mapf_optimum.specs.FreeTree.{FreeNode, IsFreeNode, IsCandidate, IsChoice}
 use Rattle.mapf_optimum.specs.FreeSearch.{AreSideSets, Expands, Bounds, IsTaken, IsUnderWay}
-use Rattle.mapf_optimum.specs.Pairs.{AreDisjoint, surplus}
 
 -- a candidate at a node is one on one of the sides of any conflict of its plan
 abbrev pub HasASide : Type 0
@@ -18,13 +15,6 @@ HasASide =
     (problem : Problem) (node : FreeNode) (c : Conflict) (left right : List (List Constraint)) (plan : List (List ℕ)) →
     IsFreeNode problem node → IsChoice problem node.plan c → AreSideSets node.sets c Left left → AreSideSets node.sets c Right right →
     IsCandidate problem node.sets plan → IsCandidate problem left plan ⊎ IsCandidate problem right plan
-
--- what least paths cost together, and what each of some disjoint pairs costs more, are a lower bound
-abbrev pub PairsRaise : Type 0
-PairsRaise =
-    (problem : Problem) (sets : List (List Constraint)) (plan : List (List ℕ)) (pairs : List PairBound) →
-    HaveLeastPaths problem sets plan → AreDisjoint (length problem.inst.starts) pairs → AllByRecursion (IsPairBound problem sets) pairs →
-    IsLowerBoundOf problem sets (plan_cost plan + sum_by (surplus plan) pairs)
 
 -- an expansion loses no candidate
 abbrev pub ExpansionCovers : Type 0

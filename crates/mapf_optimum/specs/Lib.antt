@@ -1,10 +1,8 @@
 pub mod AnyAnswer
 pub mod FreeTree
 pub mod FreeSearch
-pub mod Pairs
 pub mod Laws
 pub mod Together
 pub mod PlaceNumbers
-pub mod TwoAgents
 pub mod Told
 pub mod Groups

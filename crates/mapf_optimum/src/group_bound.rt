@@ -1,12 +1,11 @@
 //! What groups of agents cost together at least.
 
-ghost use Rattle.std.specs.Prelude.{◌≡◌, ℕ, ◌<◌, false, length, slice_index, slice_index_or, Contains, IfOk, IsFalse, IsTrue};
-ghost use Rattle.mapf_optimum.specs.FreeTree.{AreGroupBounds, AreLeastCosts, IsGroup, IsLowerBoundOf};
-ghost use Rattle.mapf_optimum.specs.Groups.{AreChosen, AreOf, Takes, alone};
+ghost use Rattle.std.specs.Prelude.{◌≡◌, ℕ, ◌<◌, ◌^◌, ◌-◌, false, List, length, min, slice_index, slice_index_or, sum_by, Contains, IfOk, IsFalse, IsTrue};
+ghost use Rattle.mapf_optimum.specs.FreeTree.{IsGroup};
+ghost use Rattle.mapf_optimum.specs.Groups.{AreChosen, AreGroups, AreOf, IsBoundBy, Takes, costs_in, surplus};
+ghost use Rattle.mapf_optimum.specs.declared.group_bound.GroupBound.{GroupBound};
 
-use crate::part::Part;
 use mapf_grid::NoMemory;
-use mapf_low::Constraints;
 use std::alloc::Global;
 
 /// Some agents, and what their paths cost together at least.
@@ -20,42 +19,38 @@ pub struct GroupBound {
     pub is_solved: bool,
 }
 
-/// What the agents of a part cost together at least, of which each costs so much alone: groups without a common agent are chosen that
-/// cost more than their agents alone, the last ones first.
+impl GroupBound {
+    /// How much more they cost at least than each alone, where each agent costs so much alone.
+    pub fn surplus(&self, costs: &[u32]) -> u64
+        ensures { result ≡ surplus costs.now self.now }
+    {
+        self.least.saturating_sub(sum_alone(&self.agents, costs))
+    }
+}
+
+/// What agents cost together at least, of which each costs so much alone: groups without a common agent are chosen that cost more than
+/// their agents alone, the last ones first.
 ///
 /// An error is that memory ran out.
-pub(crate) fn least_of_groups(
-    alloc: Global,
-    part: &Part<'_, '_>,
-    sets: &[Constraints],
-    costs: &[u32],
-    groups: &[GroupBound],
-) -> Result<u64, NoMemory>
-    requires costs { AreLeastCosts (alone part.now) sets.now costs.now }
-    requires groups { AreGroupBounds (alone part.now) sets.now groups.now }
-    ensures { IfOk result (IsLowerBoundOf (alone part.now) sets.now) }
+pub fn least_of_groups(alloc: Global, costs: &[u32], groups: &[GroupBound]) -> Result<u64, NoMemory>
+    requires { (g : GroupBound) → Contains groups.now g → IsGroup (length costs.now) g.agents.items }
+    ensures { IfOk result (IsBoundBy costs.now groups.now) }
 {
     let mut taken = vec![in alloc; false; costs.len()]?;
-    let sum = add_groups(part, sets, costs, groups, &mut taken);
-    Ok(add_alone(part, sets, costs, &mut taken, sum))
+    let sum = add_groups(costs, groups, &mut taken);
+    Ok(add_alone(costs, &mut taken, sum))
 }
 
 /// Marks the agents of dear groups, and answers what these cost.
-fn add_groups(
-    part: &Part<'_, '_>,
-    sets: &[Constraints],
-    costs: &[u32],
-    groups: &[GroupBound],
-    taken: &mut Vec<bool>,
-) -> u64
-    requires groups { AreGroupBounds (alone part.now) sets.now groups.now }
-    requires taken { AreChosen (alone part.now) sets.now taken.old.items 0 }
-    ensures { AreChosen (alone part.now) sets.now taken.new.items result }
+fn add_groups(costs: &[u32], groups: &[GroupBound], taken: &mut Vec<bool>) -> u64
+    requires groups { AreGroups (length costs.now) groups.now }
+    requires taken { AreChosen costs.now groups.now taken.old.items 0 }
+    ensures { AreChosen costs.now groups.now taken.new.items result }
 {
     let mut sum = 0_u64;
     for place in 0..groups.len() {
         let group = &groups[groups.len() - 1 - place];
-        if is_dear(group, costs) && take(taken, &group.agents) {
+        if group.surplus(costs) > 0 && take(taken, &group.agents) {
             sum = sum.saturating_add(group.least);
         }
     }
@@ -63,16 +58,10 @@ fn add_groups(
 }
 
 /// Adds what each agent without a mark costs alone.
-fn add_alone(
-    part: &Part<'_, '_>,
-    sets: &[Constraints],
-    costs: &[u32],
-    taken: &mut Vec<bool>,
-    before: u64,
-) -> u64
-    requires costs { AreLeastCosts (alone part.now) sets.now costs.now }
-    requires taken { AreChosen (alone part.now) sets.now taken.old.items before }
-    ensures { AreChosen (alone part.now) sets.now taken.new.items result }
+fn add_alone(costs: &[u32], taken: &mut Vec<bool>, before: u64) -> u64
+    requires { length taken.old.items ≡ length costs.now }
+    ensures { (groups : List GroupBound) → AreChosen costs.now groups taken.old.items before
+        → AreChosen costs.now groups taken.new.items result }
 {
     let mut sum = before;
     for agent in 0..costs.len() {
@@ -84,15 +73,17 @@ fn add_alone(
     sum
 }
 
-/// Whether the group costs more than its agents alone.
-fn is_dear(group: &GroupBound, costs: &[u32]) -> bool {
+/// What these agents cost alone, added up, or the greatest number, where that is less.
+fn sum_alone(agents: &[usize], costs: &[u32]) -> u64
+    ensures { result ≡ min (sum_by (λ c. c) (costs_in costs.now agents.now)) (2 ^ 64 - 1) }
+{
     let mut sum = 0_u64;
-    for agent in &group.agents {
+    for agent in agents {
         if let Some(cost) = costs.get(*agent) {
             sum = sum.saturating_add(u64::from(*cost));
         }
     }
-    group.least > sum
+    sum
 }
 
 /// Marks these agents if none has a mark, and says whether it did.

@@ -1,16 +1,11 @@
 //! What holds of every search that may branch on any conflict: functions that do nothing, each with one law as its contract.
 
-ghost use Rattle.mapf_optimum.specs.Laws.{HasASide, PairsRaise, ExpansionCovers, BoundingCovers, LeastIsOptimum, LeastLabelIsBelow, NothingWaits, SearchEnds};
+ghost use Rattle.mapf_optimum.specs.Laws.{HasASide, ExpansionCovers, BoundingCovers, LeastIsOptimum, LeastLabelIsBelow, NothingWaits, SearchEnds};
 ghost use Rattle.mapf_optimum.specs.Groups.{GroupsRestrict, GroupsAdd};
 
 /// A candidate at a node is one on one of the two sides of any conflict of its plan.
 pub fn has_a_side()
     ensures { HasASide }
-{}
-
-/// What least paths cost and the surplus of each of some disjoint pairs are a lower bound together.
-pub fn pairs_raise()
-    ensures { PairsRaise }
 {}
 
 /// An expansion loses no candidate.

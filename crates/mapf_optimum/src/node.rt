@@ -14,7 +14,7 @@ mod grouped;
 mod order;
 
 use crate::agents::{copy_paths, copy_sets, costs_of, costs_with, empty_sets, sum_of};
-use crate::group_bound::{GroupBound, least_of_groups, solved_with, unsolved_with};
+use crate::group_bound::{GroupBound, solved_with, unsolved_with};
 use crate::guesses::{KnownCosts, branching_conflict, conflicts_without};
 use crate::part::Part;
 use mapf_grid::NoMemory;
@@ -224,7 +224,7 @@ impl FreeNode {
             return Ok(None);
         };
         let child = self.child(alloc, agent, set, path)?;
-        let least = least_of_groups(alloc, part, &child.sets, &child.costs, &child.groups)?;
+        let least = child.least(alloc)?;
         Ok(Some(child.raised(part, least)))
     }
 

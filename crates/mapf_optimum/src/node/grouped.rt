@@ -4,7 +4,7 @@ ghost use Rattle.std.specs.Prelude.{◌≡◌, ℕ, ◌+◌, ◌<◌, ◌≤◌,
 ghost use Rattle.mapf_plan.specs.Plan.{plan_cost};
 ghost use Rattle.mapf_optimum.specs.FreeTree.{HaveAllowedPaths, IsFreeNode, IsGroup, IsGroupBound, IsLowerBoundOf, paths_in};
 ghost use Rattle.mapf_optimum.specs.FreeSearch.{IsBounded, IsFreshNode, IsSame};
-ghost use Rattle.mapf_optimum.specs.Groups.{alone, costs_in, sets_in};
+ghost use Rattle.mapf_optimum.specs.Groups.{AreGroups, IsBoundBy, alone, costs_in, sets_in};
 
 use super::FreeNode;
 use crate::agents::{copy_paths, some_costs, some_paths, some_sets};
@@ -198,7 +198,7 @@ impl FreeNode {
         requires { IsFreeNode (alone part.now) self }
         ensures { IfOk result (IsBounded (alone part.now) self) }
     {
-        let least = self.least(alloc, part)?;
+        let least = self.least(alloc)?;
         if least > u64::from(part.bound()) {
             return Ok(None);
         }
@@ -206,12 +206,12 @@ impl FreeNode {
         Ok(Some(node.bounded(alloc, part, occupancy)?))
     }
 
-    /// What each valid plan costs at least that obeys the sets, by the groups.
-    fn least(&self, alloc: Global, part: &Part<'_, '_>) -> Result<u64, NoMemory>
-        requires { IsFreeNode (alone part.now) self.now }
-        ensures { IfOk result (IsLowerBoundOf (alone part.now) self.now.sets) }
+    /// What each valid plan costs at least that obeys the sets, by what least paths and groups cost.
+    pub(super) fn least(&self, alloc: Global) -> Result<u64, NoMemory>
+        requires { AreGroups (length self.now.costs) self.now.groups }
+        ensures { IfOk result (IsBoundBy self.now.costs self.now.groups) }
     {
-        least_of_groups(alloc, part, &self.sets, &self.costs, &self.groups)
+        least_of_groups(alloc, &self.costs, &self.groups)
     }
 
     /// From how many joint places its agents go on, at most, where they are looked at together.

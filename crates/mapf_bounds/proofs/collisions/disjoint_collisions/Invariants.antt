@@ -1,8 +1,7 @@
 use Rattle.std.proofs.Common.{length}
-use Rattle.mapf_optimum.specs.Pairs.{AreChosenBy}
-use Rattle.mapf_bounds.specs.Pairs.{IsCollidingPair}
+use Rattle.mapf_bounds.specs.Pairs.{AreChosenBy, IsCollidingPair}
 use Rattle.mapf_bounds.proofs.collisions.disjoint_collisions.Given as goal
 
 abbrev pub invariant-loop-conflict : goal.invariant-loop-conflict
 invariant-loop-conflict g l =
-    let plan = g.P.AgentPaths.paths l.paths in AreChosenBy (length plan) (IsCollidingPair l.rule plan) (λ _. 1) l.taken.items l.count
+    let plan = g.P.AgentPaths.paths l.paths in AreChosenBy (length plan) (IsCollidingPair l.rule plan) l.taken.items l.count

@@ -1,5 +1,5 @@
 use Rattle.std.proofs.Common.{List, subst₂, ap, ◌∙◌}
-use Rattle.mapf_optimum.specs.declared.pair_bound.PairBound.{PairBound}
+use Rattle.mapf_optimum.specs.declared.group_bound.GroupBound.{GroupBound}
 use Rattle.mapf_tree.specs.declared.tree.side.Side.TheVariants.{Left, Right}
 use Rattle.mapf_tree.specs.Problem.{Problem}
 use Rattle.mapf_tree.specs.Family.{IsChildOf}
@@ -15,6 +15,6 @@ returns-clause-expands c =
       is_left = subst₂ (λ (p : Problem) (n : Node). IsChildOf p n Left c.in_ok-left.left) c.problem.ensures node c.in_ok-left.ensures.left;
       is_right = subst₂ (λ (p : Problem) (n : Node). IsChildOf p n Right c.in_ok-left.right) c.problem.ensures node c.in_ok-left.ensures.right;
       middle = c.admit_child.new.waiting.entries;
-      puts_left = subst₂ (λ m (ps : List PairBound). IsAdmittedChild m c.args.waiting.now.entries c.args.known ps c.in_ok-left.left c.admit_child.new.waiting.entries) c.most.ensures (ap (λ (e : Waiting). e.pairs) c.entry.view_is) c.in_ok-admit_child.ensures;
-      puts_right = subst₂ (λ m (ps : List PairBound). IsAdmittedChild m c.admit_child.new.waiting.entries c.args.known ps c.in_ok-left.right c.admit_child-2.new.waiting.entries) c.most-2.ensures (ap (λ (e : Waiting). e.pairs) c.entry.view_is) c.in_ok-admit_child-2.ensures;
+      puts_left = subst₂ (λ m (ps : List GroupBound). IsAdmittedChild m c.args.waiting.now.entries c.args.known ps c.in_ok-left.left c.admit_child.new.waiting.entries) c.most.ensures (ap (λ (e : Waiting). e.groups) c.entry.view_is) c.in_ok-admit_child.ensures;
+      puts_right = subst₂ (λ m (ps : List GroupBound). IsAdmittedChild m c.admit_child.new.waiting.entries c.args.known ps c.in_ok-left.right c.admit_child-2.new.waiting.entries) c.most-2.ensures (ap (λ (e : Waiting). e.groups) c.entry.view_is) c.in_ok-admit_child-2.ensures;
     }

@@ -1,13 +1,12 @@
-use Rattle.std.proofs.Common.{rules, refl, inl, subst, sym, ap, ◌∙◌, IsSome, ◌≡◌, None, false}
+use Rattle.std.proofs.Common.{refl, inl, subst, sym, ap, ◌∙◌, IsSome, ◌≡◌, None, false}
 use Rattle.std.proofs.lemmas.Result.{IfOk-weaker}
 use Rattle.std.specs.Result.{IfOk}
 use Rattle.mapf_tree.specs.Family.{IsBranching}
 use Rattle.mapf_tree.proofs.high_level.Expansions.{some_there, conflict_absent}
-use Rattle.mapf_bounds.specs.declared.waiting.Stage.TheVariants.{Own}
 use Rattle.mapf_bounds.specs.Bounds.{Bounding, IsBoundOf}
-use Rattle.mapf_bounds.specs.Pairs.{AreKnownAt}
+use Rattle.mapf_bounds.specs.Groups.{AreKnownAt}
 use Rattle.mapf_bounds.specs.Waiting.{Waiting, IsAdmitted, IsLeftOrExpanded, IsTurn, is_own, key_bound}
-use Rattle.mapf_bounds.proofs.Turns.{solved_turn, first_branches, first_known, first_pairs, left_or_expanded_turn, raised_bound}
+use Rattle.mapf_bounds.proofs.Turns.{solved_turn, first_branches, first_known, first_groups, left_or_expanded_turn, raised_bound}
 use Rattle.mapf_bounds.proofs.turn.turn.Goals as goal
 
 pub returns-then-is_none-clause-turn : goal.returns-then-is_none-clause-turn
@@ -16,8 +15,7 @@ returns-then-is_none-clause-turn c =
     (subst (λ (e : Waiting). e.node.conflict ≡ None) c.first.view_is (conflict_absent _ _ _ c.is_none.ensures c.conflict.ensures.conflict c.if-is_none.true)) (c.in_ok-plan.ensures ∙ ap (λ (e : Waiting). e.node.plan) c.first.view_is)
 
 pub leave_or_expand-requires-clause-node : goal.leave_or_expand-requires-clause-node
-leave_or_expand-requires-clause-node c =
-    subst (λ (e : Waiting). IsBranching c.args.bounds.now.problem e.node) (sym c.first.view_is) (first_branches c.args.bounds.now.problem c.args.bounds.now.most c.args.waiting.now.entries c.pop_first.new.self.entries c.in-Some.key c.in-Some.first c.in-Some.ensures.removal c.requires.covering (subst (λ (e : Waiting). IsSome e.node.conflict) c.first.view_is (some_there _ _ _ c.is_none.ensures c.conflict.ensures.conflict c.if-is_none.false)))
+leave_or_expand-requires-clause-node c = first_branches c.args.bounds.now.problem c.args.bounds.now.most c.args.waiting.now.entries c.pop_first.new.self.entries c.in-Some.key c.in-Some.first c.in-Some.ensures.removal c.requires.covering (subst (λ (e : Waiting). IsSome e.node.conflict) c.first.view_is (some_there _ _ _ c.is_none.ensures c.conflict.ensures.conflict c.if-is_none.false))
 
 pub of-requires-clause-node : goal.of-requires-clause-node
 of-requires-clause-node c =
@@ -27,29 +25,28 @@ pub of-requires-clause-known : goal.of-requires-clause-known
 of-requires-clause-known c =
     subst (λ (e : Waiting). IsBoundOf c.args.bounds.now.problem e.node (key_bound c.in-Some.key)) (sym c.first.view_is) (first_known c.args.bounds.now.problem c.args.bounds.now.most c.args.waiting.now.entries c.pop_first.new.self.entries c.in-Some.key c.in-Some.first c.in-Some.ensures.removal c.requires.covering)
 
-pub of-requires-clause-pairs : goal.of-requires-clause-pairs
-of-requires-clause-pairs c =
-    subst (AreKnownAt c.args.bounds.now.problem c.first.inside.node) (sym (c.deref-2.ensures.value ∙ ap (λ v. v.items) c.deref.ensures)) (subst (λ (e : Waiting). AreKnownAt c.args.bounds.now.problem e.node e.pairs) (sym c.first.view_is) (first_pairs c.args.bounds.now.problem c.args.bounds.now.most c.args.waiting.now.entries c.pop_first.new.self.entries c.in-Some.key c.in-Some.first c.in-Some.ensures.removal c.requires.covering))
+pub of-requires-clause-groups : goal.of-requires-clause-groups
+of-requires-clause-groups c =
+    (subst (λ (e : Waiting). AreKnownAt c.args.bounds.now.problem e.node e.groups) (sym c.first.view_is) (first_groups c.args.bounds.now.problem c.args.bounds.now.most c.args.waiting.now.entries c.pop_first.new.self.entries c.in-Some.key c.in-Some.first c.in-Some.ensures.removal c.requires.covering))
 
 pub returns-then-is_own-clause-turn : goal.returns-then-is_own-clause-turn
 returns-then-is_own-clause-turn c =
-    let entry : Waiting = record { node = c.first.inside.node; stage = c.first.inside.stage; pairs = c.first.inside.pairs.value.items } in
-    IfOk-weaker c.leave_or_expand.result (IsLeftOrExpanded c.args.bounds.now.problem c.args.bounds.now.most (key_bound c.in-Some.key) entry c.pop_first.new.self.entries c.leave_or_expand.new.waiting.entries) (IsTurn c.args.bounds.now.problem c.args.bounds.now.most c.args.waiting.now.entries c.leave_or_expand.new.waiting.entries)
-    (λ outcome is. left_or_expanded_turn c.args.bounds.now.problem c.args.bounds.now.most c.args.waiting.now.entries c.pop_first.new.self.entries c.leave_or_expand.new.waiting.entries c.in-Some.key c.in-Some.first entry outcome c.in-Some.ensures.removal c.requires.covering c.requires.enough c.in-Some.ensures.all_above
-    (subst (λ (e : Waiting). IsSome e.node.conflict) c.first.view_is (some_there _ _ _ c.is_none.ensures c.conflict.ensures.conflict c.if-is_none.false)) (ap (λ (e : Waiting). e.node) c.first.view_is)
-    (subst (AreKnownAt c.args.bounds.now.problem c.in-Some.first.node) (sym (ap (λ (e : Waiting). e.pairs) c.first.view_is)) (first_pairs c.args.bounds.now.problem c.args.bounds.now.most c.args.waiting.now.entries c.pop_first.new.self.entries c.in-Some.key c.in-Some.first c.in-Some.ensures.removal c.requires.covering)) is) c.leave_or_expand.ensures.outcome
+    IfOk-weaker c.leave_or_expand.result (IsLeftOrExpanded c.args.bounds.now.problem c.args.bounds.now.most (key_bound c.in-Some.key) c.in-Some.first c.pop_first.new.self.entries c.leave_or_expand.new.waiting.entries) (IsTurn c.args.bounds.now.problem c.args.bounds.now.most c.args.waiting.now.entries c.leave_or_expand.new.waiting.entries)
+    (λ outcome is. left_or_expanded_turn c.args.bounds.now.problem c.args.bounds.now.most c.args.waiting.now.entries c.pop_first.new.self.entries c.leave_or_expand.new.waiting.entries c.in-Some.key c.in-Some.first c.in-Some.first outcome c.in-Some.ensures.removal c.requires.covering c.requires.enough c.in-Some.ensures.all_above
+    (subst (λ (e : Waiting). IsSome e.node.conflict) c.first.view_is (some_there _ _ _ c.is_none.ensures c.conflict.ensures.conflict c.if-is_none.false)) refl (first_groups c.args.bounds.now.problem c.args.bounds.now.most c.args.waiting.now.entries c.pop_first.new.self.entries c.in-Some.key c.in-Some.first c.in-Some.ensures.removal c.requires.covering) is) c.leave_or_expand.ensures.outcome
 
 pub leave_or_expand-requires-then-eq-clause-node : goal.leave_or_expand-requires-then-eq-clause-node
 leave_or_expand-requires-then-eq-clause-node c =
-    subst (λ (b : Bounding). IsBranching b.problem c.first.inside.node) (sym c.in_ok-found.ensures.same) (subst (λ (e : Waiting). IsBranching c.args.bounds.now.problem e.node) (sym c.first.view_is) (first_branches c.args.bounds.now.problem c.args.bounds.now.most c.args.waiting.now.entries c.pop_first.new.self.entries c.in-Some.key c.in-Some.first c.in-Some.ensures.removal c.requires.covering (subst (λ (e : Waiting). IsSome e.node.conflict) c.first.view_is (some_there _ _ _ c.is_none.ensures c.conflict.ensures.conflict c.if-is_none.false))))
+    subst (λ (b : Bounding). IsBranching b.problem c.by_groups-entry.result.node) (sym c.in_ok-found.ensures.same) (subst (λ (e : Waiting). IsBranching c.args.bounds.now.problem e.node) (sym c.by_groups-entry.ensures) (first_branches c.args.bounds.now.problem c.args.bounds.now.most c.args.waiting.now.entries c.pop_first.new.self.entries c.in-Some.key c.in-Some.first c.in-Some.ensures.removal c.requires.covering (subst (λ (e : Waiting). IsSome e.node.conflict) c.first.view_is (some_there _ _ _ c.is_none.ensures c.conflict.ensures.conflict c.if-is_none.false))))
 
 pub returns-then-eq-clause-turn : goal.returns-then-eq-clause-turn
 returns-then-eq-clause-turn c =
-    let entry : Waiting = record { node = c.first.inside.node; stage = Own; pairs = c.in_ok-new.field-0.value.items } in
+    let entry = c.by_groups-entry.result in
     IfOk-weaker c.leave_or_expand-then-eq.result (IsLeftOrExpanded c.args.bounds.now.problem c.args.bounds.now.most (key_bound c.in-Some.key) entry c.pop_first.new.self.entries c.leave_or_expand-then-eq.new.waiting.entries) (IsTurn c.args.bounds.now.problem c.args.bounds.now.most c.args.waiting.now.entries c.leave_or_expand-then-eq.new.waiting.entries)
     (λ outcome is. left_or_expanded_turn c.args.bounds.now.problem c.args.bounds.now.most c.args.waiting.now.entries c.pop_first.new.self.entries c.leave_or_expand-then-eq.new.waiting.entries c.in-Some.key c.in-Some.first entry outcome c.in-Some.ensures.removal c.requires.covering c.requires.enough c.in-Some.ensures.all_above
-    (subst (λ (e : Waiting). IsSome e.node.conflict) c.first.view_is (some_there _ _ _ c.is_none.ensures c.conflict.ensures.conflict c.if-is_none.false)) (ap (λ (e : Waiting). e.node) c.first.view_is)
-    (subst (λ (e : Waiting). AreKnownAt c.args.bounds.now.problem e.node c.in_ok-new.field-0.value.items) c.first.view_is (subst (AreKnownAt c.args.bounds.now.problem c.first.inside.node) (search rules) c.in_ok-found.ensures.pairs)) is)
+    (subst (λ (e : Waiting). IsSome e.node.conflict) c.first.view_is (some_there _ _ _ c.is_none.ensures c.conflict.ensures.conflict c.if-is_none.false)) (ap (λ (e : Waiting). e.node) c.by_groups-entry.ensures)
+    (subst (AreKnownAt c.args.bounds.now.problem c.in-Some.first.node) (sym (ap (λ (e : Waiting). e.groups) c.by_groups-entry.ensures))
+    (subst (λ (e : Waiting). AreKnownAt c.args.bounds.now.problem e.node c.in_ok-found.found.groups.value.items) c.first.view_is c.in_ok-found.ensures.groups)) is)
     (subst (λ (b : Bounding). IfOk c.leave_or_expand-then-eq.result (IsLeftOrExpanded b.problem b.most (key_bound c.in-Some.key) entry c.pop_first.new.self.entries c.leave_or_expand-then-eq.new.waiting.entries)) c.in_ok-found.ensures.same c.leave_or_expand-then-eq.ensures.outcome)
 
 pub returns-clause-turn : goal.returns-clause-turn
@@ -59,12 +56,13 @@ returns-clause-turn c = inl record {
   was = c.in-Some.ensures.removal;
   conflict = (first_branches c.args.bounds.now.problem c.args.bounds.now.most c.args.waiting.now.entries c.pop_first.new.self.entries c.in-Some.key c.in-Some.first c.in-Some.ensures.removal c.requires.covering (subst (λ (e : Waiting). IsSome e.node.conflict) c.first.view_is (some_there _ _ _ c.is_none.ensures c.conflict.ensures.conflict c.if-is_none.false)));
   unknown = subst (λ (e : Waiting). is_own e.stage ≡ false) c.first.view_is (sym c.is_own.ensures ∙ c.if-is_own.false);
-  again = record { node = c.first.inside.node; stage = Own; pairs = c.in_ok-new.field-0.value.items };
-  same = ap (λ (e : Waiting). e.node) c.first.view_is;
-  own = refl;
-  known = subst (λ (e : Waiting). AreKnownAt c.args.bounds.now.problem e.node c.in_ok-new.field-0.value.items) c.first.view_is (subst (AreKnownAt c.args.bounds.now.problem c.first.inside.node) (search rules) c.in_ok-found.ensures.pairs);
+  again = c.by_groups-entry.result;
+  same = ap (λ (e : Waiting). e.node) c.by_groups-entry.ensures;
+  own = ap (λ (e : Waiting). is_own e.stage) c.by_groups-entry.ensures;
+  known = subst (AreKnownAt c.args.bounds.now.problem c.in-Some.first.node) (sym (ap (λ (e : Waiting). e.groups) c.by_groups-entry.ensures))
+      (subst (λ (e : Waiting). AreKnownAt c.args.bounds.now.problem e.node c.in_ok-found.found.groups.value.items) c.first.view_is c.in_ok-found.ensures.groups);
   to = c.raised-raised.result;
   bound = raised_bound c.args.bounds.now.problem c.args.bounds.now.most c.in-Some.first.node (key_bound c.in-Some.key) c.in_ok-found.found.bound c.raised-raised.result (first_known c.args.bounds.now.problem c.args.bounds.now.most c.args.waiting.now.entries c.pop_first.new.self.entries c.in-Some.key c.in-Some.first c.in-Some.ensures.removal c.requires.covering)
       (subst (λ (e : Waiting). IsBoundOf c.args.bounds.now.problem e.node c.in_ok-found.found.bound) c.first.view_is c.in_ok-found.ensures.bound) c.raised-raised.ensures;
-  puts = subst (λ m. IsAdmitted m c.pop_first.new.self.entries c.raised-raised.result (record { node = c.first.inside.node; stage = Own; pairs = c.in_ok-new.field-0.value.items }) c.admit.new.waiting.entries) (c.most.ensures ∙ ap (λ (b : Bounding). b.most) c.in_ok-found.ensures.same) c.in_ok-admit.ensures;
+  puts = subst (λ m. IsAdmitted m c.pop_first.new.self.entries c.raised-raised.result c.by_groups-entry.result c.admit.new.waiting.entries) (c.most.ensures ∙ ap (λ (b : Bounding). b.most) c.in_ok-found.ensures.same) c.in_ok-admit.ensures;
 }

@@ -1,24 +1,48 @@
-use Rattle.std.proofs.Common.{List, length, subst₂, ap, ◌∙◌, arith}
-use Rattle.mapf_optimum.specs.declared.pair_bound.PairBound.{PairBound}
-use Rattle.mapf_optimum.specs.Pairs.{HaveSurplus}
+use Rattle.std.proofs.Common.{List, Vec, ℕ, length, map, Contains, subst, subst₂, sym, ap, ◌∙◌, arith}
+use Rattle.std.specs.declared.alloc.Global.{Global}
+use Rattle.mapf_plan.specs.Path.{cost}
+use Rattle.mapf_optimum.specs.declared.group_bound.GroupBound.{GroupBound}
+use Rattle.mapf_optimum.specs.FreeTree.{AreGroupBounds, IsGroup}
+use Rattle.mapf_optimum.specs.Groups.{IsBoundBy}
 use Rattle.mapf_bounds.specs.declared.bound.Bound.{Bound}
 use Rattle.mapf_bounds.specs.Bounds.{Bounding}
 use Rattle.mapf_bounds.specs.Pairs.{HaveCollisions}
-use Rattle.mapf_bounds.proofs.Pairs.{surplus_bounds}
+use Rattle.mapf_bounds.proofs.Groups.{groups_bound, stands_costs}
 use Rattle.mapf_bounds.proofs.DisjointPairs.{collisions_take_turns}
 use Rattle.mapf_bounds.proofs.node_bounds.NodeBounds.of.Goals as goal
+
+pub least_of_groups-requires : goal.least_of_groups-requires
+least_of_groups-requires c g has =
+    let costs = c.in_ok-costs.ensures ∙ ap (map cost) c.in_ok-current.ensures in
+    let are = stands_costs c.args.self.now.problem c.args.node.now c.requires.node.of c.requires.node.stands c.in_ok-costs.costs.items costs in
+    let known = c.in_ok-groups.ensures c.args.self.now.problem c.args.node.now.constraints c.requires.groups
+    (subst (AreGroupBounds c.args.self.now.problem c.args.node.now.constraints) (sym c.deref-4.ensures.value) c.in_ok-new.ensures.groups) in
+    let one = known g (subst (λ (l : List GroupBound). Contains l g) (c.deref-8.ensures.value ∙ ap (λ (v : Vec GroupBound Global). v.items) c.deref-7.ensures) has) in
+    subst (λ n. IsGroup n g.agents.items) (sym (ap length c.deref-6.ensures.value ∙ are.agents)) one.group
 
 pub returns-clause-bound : goal.returns-clause-bound
 returns-clause-bound c m stands =
     let problem = c.args.self.now.problem in
+    let known = c.in_ok-groups.ensures c.args.self.now.problem c.args.node.now.constraints c.requires.groups
+    (subst (AreGroupBounds c.args.self.now.problem c.args.node.now.constraints) (sym c.deref-4.ensures.value) c.in_ok-new.ensures.groups) in
     let plan = c.in_ok-current.ensures in
-    let surplus = subst₂ (λ q (l : List PairBound). HaveSurplus q l c.in_ok-surplus.surplus) plan c.deref-3.ensures.value c.in_ok-surplus.ensures in
+    let costs = c.in_ok-costs.ensures ∙ ap (map cost) plan in
+    let bound = subst₂ (λ (k : List ℕ) (l : List GroupBound). IsBoundBy k l c.in_ok-least.least) c.deref-6.ensures.value (c.deref-8.ensures.value ∙ ap (λ (v : Vec GroupBound Global). v.items) c.deref-7.ensures) c.in_ok-least.ensures in
     let rule = c.rule.ensures ∙ ap (λ (b : Bounding). b.problem.rule) c.self.view_is in
     let turns = subst₂ (λ r q. HaveCollisions r q c.in_ok-turns.turns) rule (plan ∙ stands.plan) c.in_ok-turns.ensures in
-    let cost = ap (λ (b : Bound). b.cost) c.own-own.ensures in
-    let depth = ap (λ (b : Bound). b.depth) c.own-own.ensures in record {
+    let depth = ap (λ (b : Bound). b.depth) c.own.ensures in record {
       cost = λ s solution below.
-          omega (arith, c.max.ensures, (c.requires.known m stands).cost s solution below, surplus_bounds problem c.args.node.now m stands c.in_ok-pairs.pairs.items c.in_ok-surplus.surplus c.saturating_add.result c.in_ok-pairs.ensures.pairs surplus (omega (arith, c.saturating_add.ensures, cost)) s solution below);
+          omega (
+            arith,
+            c.max.ensures,
+            (c.requires.known m stands).cost s solution below,
+            groups_bound problem c.args.node.now m stands c.in_ok-costs.costs.items c.in_ok-groups.groups.value.items c.in_ok-least.least costs known bound s solution below,
+          );
       depth = λ s solution below same.
-          omega (arith, c.saturating_add-2.ensures, depth, ap length stands.name, collisions_take_turns problem m s c.in_ok-turns.turns stands.member turns solution below);
+          omega (arith, c.saturating_add.ensures, depth, ap length stands.name, collisions_take_turns problem m s c.in_ok-turns.turns stands.member turns solution below);
     }
+
+pub returns-clause-groups : goal.returns-clause-groups
+returns-clause-groups c =
+    c.in_ok-groups.ensures c.args.self.now.problem c.args.node.now.constraints c.requires.groups
+    (subst (AreGroupBounds c.args.self.now.problem c.args.node.now.constraints) (sym c.deref-4.ensures.value) c.in_ok-new.ensures.groups)

@@ -1,8 +1,7 @@
-use Rattle.std.proofs.Common.{ap, ◌∙◌, subst, subst₂, sym, List, ℕ}
-use Rattle.mapf_low.specs.declared.constraint.Constraint.{Constraint}
-use Rattle.mapf_optimum.specs.declared.group_bound.GroupBound.{GroupBound}
-use Rattle.mapf_optimum.specs.FreeTree.{FreeNode, IsFreeNode, IsLowerBoundOf, AreGroupBounds, AreLeastCosts}
+use Rattle.std.proofs.Common.{ap}
+use Rattle.mapf_optimum.specs.FreeTree.{FreeNode}
 use Rattle.mapf_optimum.specs.Groups.{alone}
+use Rattle.mapf_optimum.proofs.ChosenGroups.{bound_of_node, groups_of_node}
 use Rattle.mapf_optimum.proofs.Sides.{side_made, side_without, side_with, pays_no_less, cost_at, child_is}
 use Rattle.mapf_optimum.proofs.node.FreeNode.side.Goals as goal
 
@@ -19,23 +18,13 @@ returns-in_default c =
     (side_made (alone c.args.part.now) c.args.self.now c.args.conflict.now c.args.side c.requires.node c.requires.choice c.agent_of-agent.result c.constraint_of.result c.self.inside.sets.items c.index.result.now c.in_ok-set.set c.agent_of-agent.ensures c.constraint_of.ensures (ap (λ (n : FreeNode). n.sets) c.self.view_is) c.index.ensures c.in_ok-set.ensures)
     c.agent_of-agent.ensures c.left_for-bound.ensures.left c.in_ok-path.field-0 c.in_ok-path.ensures c.in_default.is
 
-pub least_of_groups-requires-clause-costs : goal.least_of_groups-requires-clause-costs
-least_of_groups-requires-clause-costs c =
-    let is : IsFreeNode (alone c.args.part.now) c.in_ok-child.child =
-    child_is (alone c.args.part.now) c.args.self.now c.args.conflict.now c.args.side c.requires.node c.requires.choice c.agent_of-agent.result c.left_for-bound.result c.in_ok-set.set
+pub least-requires : goal.least-requires
+least-requires c =
+    groups_of_node (alone c.args.part.now) c.in_ok-child.child
+    (child_is (alone c.args.part.now) c.args.self.now c.args.conflict.now c.args.side c.requires.node c.requires.choice c.agent_of-agent.result c.left_for-bound.result c.in_ok-set.set
     (side_made (alone c.args.part.now) c.args.self.now c.args.conflict.now c.args.side c.requires.node c.requires.choice c.agent_of-agent.result c.constraint_of.result c.self.inside.sets.items c.index.result.now c.in_ok-set.set c.agent_of-agent.ensures c.constraint_of.ensures (ap (λ (n : FreeNode). n.sets) c.self.view_is) c.index.ensures c.in_ok-set.ensures)
     c.agent_of-agent.ensures c.left_for-bound.ensures.left c.in_ok-path.field-0 c.in_ok-path.ensures c.in-Some.path c.in_ok-child.child c.in-Some.is c.in_ok-child.ensures.sets c.in_ok-child.ensures.costs c.in_ok-child.ensures.plan c.in_ok-child.ensures.groups c.in_ok-child.ensures.label
-    c.in_ok-child.ensures.fresh in
-    subst₂ (λ (l : List (List Constraint)) (k : List ℕ). AreLeastCosts (alone c.args.part.now) l k) (sym (c.deref.ensures.value ∙ ap (λ (n : FreeNode). n.sets) c.child-2.view_is)) (sym (c.deref-2.ensures.value ∙ ap (λ (n : FreeNode). n.costs) c.child-2.view_is)) is.costs
-
-pub least_of_groups-requires-clause-groups : goal.least_of_groups-requires-clause-groups
-least_of_groups-requires-clause-groups c =
-    let is : IsFreeNode (alone c.args.part.now) c.in_ok-child.child =
-    child_is (alone c.args.part.now) c.args.self.now c.args.conflict.now c.args.side c.requires.node c.requires.choice c.agent_of-agent.result c.left_for-bound.result c.in_ok-set.set
-    (side_made (alone c.args.part.now) c.args.self.now c.args.conflict.now c.args.side c.requires.node c.requires.choice c.agent_of-agent.result c.constraint_of.result c.self.inside.sets.items c.index.result.now c.in_ok-set.set c.agent_of-agent.ensures c.constraint_of.ensures (ap (λ (n : FreeNode). n.sets) c.self.view_is) c.index.ensures c.in_ok-set.ensures)
-    c.agent_of-agent.ensures c.left_for-bound.ensures.left c.in_ok-path.field-0 c.in_ok-path.ensures c.in-Some.path c.in_ok-child.child c.in-Some.is c.in_ok-child.ensures.sets c.in_ok-child.ensures.costs c.in_ok-child.ensures.plan c.in_ok-child.ensures.groups c.in_ok-child.ensures.label
-    c.in_ok-child.ensures.fresh in
-    subst₂ (λ (l : List (List Constraint)) (k : List GroupBound). AreGroupBounds (alone c.args.part.now) l k) (sym (c.deref.ensures.value ∙ ap (λ (n : FreeNode). n.sets) c.child-2.view_is)) (sym (c.deref-3.ensures.value ∙ ap (λ (n : FreeNode). n.groups) c.child-2.view_is)) is.groups
+    c.in_ok-child.ensures.fresh)
 
 pub raised-requires-clause-node : goal.raised-requires-clause-node
 raised-requires-clause-node c =
@@ -46,7 +35,11 @@ raised-requires-clause-node c =
 
 pub raised-requires-clause-below : goal.raised-requires-clause-below
 raised-requires-clause-below c =
-    subst (λ (l : List (List Constraint)). IsLowerBoundOf (alone c.args.part.now) l c.in_ok-least.least) (c.deref.ensures.value ∙ ap (λ (n : FreeNode). n.sets) c.child-2.view_is) c.in_ok-least.ensures
+    bound_of_node (alone c.args.part.now) c.in_ok-child.child c.in_ok-least.least
+    (child_is (alone c.args.part.now) c.args.self.now c.args.conflict.now c.args.side c.requires.node c.requires.choice c.agent_of-agent.result c.left_for-bound.result c.in_ok-set.set
+    (side_made (alone c.args.part.now) c.args.self.now c.args.conflict.now c.args.side c.requires.node c.requires.choice c.agent_of-agent.result c.constraint_of.result c.self.inside.sets.items c.index.result.now c.in_ok-set.set c.agent_of-agent.ensures c.constraint_of.ensures (ap (λ (n : FreeNode). n.sets) c.self.view_is) c.index.ensures c.in_ok-set.ensures)
+    c.agent_of-agent.ensures c.left_for-bound.ensures.left c.in_ok-path.field-0 c.in_ok-path.ensures c.in-Some.path c.in_ok-child.child c.in-Some.is c.in_ok-child.ensures.sets c.in_ok-child.ensures.costs c.in_ok-child.ensures.plan c.in_ok-child.ensures.groups c.in_ok-child.ensures.label
+    c.in_ok-child.ensures.fresh) c.in_ok-least.ensures
 
 pub returns : goal.returns
 returns c =
