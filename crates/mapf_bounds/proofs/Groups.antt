@@ -150,6 +150,12 @@ pub with_one : (problem : Problem) (sets : List (List Constraint)) (groups : Lis
 with_one problem sets groups x is are g has =
     ⊎_elim (λ e. subst (λ (y : GroupBound). IsGroupBound problem sets y.agents.items y.least) e is) (are g) (here_or_there groups has)
 
+-- and of one more behind them
+pub with_last : (problem : Problem) (sets : List (List Constraint)) (groups : List GroupBound) (x : GroupBound) → IsGroupBound problem sets x.agents.items x.least → AreGroupBounds problem sets groups →
+    AreGroupBounds problem sets (groups ++ x ∷ [])
+with_last problem sets groups x is are g has =
+    ⊎_elim (are g) (with_one problem sets [] x is (λ k none. absurd (nowhere none)) g) (Contains-append_cases groups (x ∷ []) g has)
+
 -- no groups are bounds, and one more of them is one where that is so
 pub none_follow : (groups : List GroupBound) → Follow groups []
 none_follow groups problem sets are g has = absurd (nowhere has)
@@ -167,7 +173,3 @@ put_follows old i x problem sets are g has =
   where
     among : Contains (take i old ++ drop i old) g → IsGroupBound problem sets g.agents.items g.least
     among c = are g (there old (subst (λ xs. Contains xs g) (take-append-drop i old) c))
-
--- what isn't put in leaves what is known
-pub stays_follows : (old : List GroupBound) (x : GroupBound) → Follow (x ∷ old) old
-stays_follows old x problem sets are g has = are g (there old has)

@@ -9,11 +9,11 @@ ghost use Rattle.mapf_bounds.specs.Waiting.{HoldsNone};
 
 use crate::Bound;
 use crate::collisions::disjoint_collisions;
-use crate::node_groups::{costs_of, is_changed, put, sets_of, two_of, with_new};
+use crate::node_groups::{costs_of, is_changed, sets_of, two_of, with_new};
 use crate::node_tests::NodeTests;
 use crate::waiting::Stage;
 use mapf_grid::NoMemory;
-use mapf_optimum::{GroupBound, GroupCosts, Guide, LowLevel, least_of_group, least_of_groups};
+use mapf_optimum::{GroupBound, GroupSearch, least_of_groups};
 use mapf_plan::PairConflict;
 use mapf_tree::{CurrentPaths, Node, OwnPaths, Problem};
 use std::alloc::Global;
@@ -23,10 +23,7 @@ use std::sync::Arc;
 /// Where the bounds of a problem's nodes are from.
 pub(crate) struct NodeBounds<'p> {
     alloc: Global,
-    problem: &'p Problem,
-    low: LowLevel<'p>,
-    known: GroupCosts,
-    guide: Guide,
+    groups: GroupSearch<'p>,
     tests: NodeTests,
     /// Solutions that cost more aren't looked for.
     most: u64,
@@ -37,10 +34,7 @@ impl<'p> Drop for NodeBounds<'p> {
     fn drop(self) {
         let NodeBounds {
             alloc: _,
-            problem: _,
-            low: _,
-            known: _,
-            guide: _,
+            groups: _,
             tests: _,
             most: _,
         } = self;
@@ -48,15 +42,11 @@ impl<'p> Drop for NodeBounds<'p> {
 }
 
 impl<'p> Model for NodeBounds<'p> {
-    ghost use Rattle.std.specs.Prelude.{◌≡◌};
-    ghost use Rattle.mapf_optimum.specs.Groups.{AreKnown};
     ghost use Rattle.mapf_bounds.specs.Bounds.{Bounding};
 
     ghost Value = { Bounding };
 
-    ghost view = { λ b. record { problem = b.problem.now; most = b.most } };
-
-    ghost invariant = { λ b. (b.low ≡ b.problem.now) × AreKnown b.low b.known };
+    ghost view = { λ b. record { problem = b.groups; most = b.most } };
 }
 
 /// A node's bound, and what groups of its agents cost together at least.
@@ -67,23 +57,16 @@ pub(crate) struct NodeBound {
 }
 
 impl<'p> NodeBounds<'p> {
-    /// Nothing is known yet.
-    pub(crate) fn new(
-        alloc: Global,
-        problem: &'p Problem,
-        most: u64,
-    ) -> Result<NodeBounds<'p>, NoMemory>
-        ensures { IfOk result (λ bounds. bounds ≡ record { problem = problem.now; most = most }) }
+    /// By what is known of groups.
+    pub(crate) fn new(alloc: Global, groups: GroupSearch<'p>, most: u64) -> NodeBounds<'p>
+        ensures { result ≡ record { problem = groups.entry; most = most } }
     {
-        Ok(NodeBounds {
+        NodeBounds {
             alloc,
-            problem,
-            low: LowLevel::new(alloc, problem)?,
-            known: GroupCosts::new(alloc),
-            guide: Guide::new(alloc, problem)?,
+            groups,
             tests: NodeTests::new(alloc),
             most,
-        })
+        }
     }
 
     /// Where memory is from.
@@ -95,7 +78,7 @@ impl<'p> NodeBounds<'p> {
     pub(crate) fn problem(&self) -> &'p Problem
         ensures { result.now ≡ self.now.problem }
     {
-        self.problem
+        self.groups.problem()
     }
 
     /// What a solution costs at most that is looked for.
@@ -118,7 +101,7 @@ impl<'p> NodeBounds<'p> {
         ensures paths { paths.new ≡ paths.old }
         ensures none { IfOk result (λ found. IsTrue found → HoldsNone self.old.problem node.now self.old.most) }
     {
-        if cost < self.most || self.most > u64::from(self.problem.bound()) {
+        if cost < self.most || self.most > u64::from(self.problem().bound()) {
             return Ok(false);
         }
         self.tests.hold_none(paths, node, self.most as u32)
@@ -144,10 +127,10 @@ impl<'p> NodeBounds<'p> {
     {
         let conflicts = paths.pair_conflicts(node)?;
         let current = node.paths(self.alloc)?;
-        let turns = disjoint_collisions(self.alloc, self.problem.rule(), &current, &conflicts)?;
+        let turns = disjoint_collisions(self.alloc, self.problem().rule(), &current, &conflicts)?;
         let costs = costs_of(self.alloc, &current)?;
         let new = self.new_groups(node, &current, &costs, stage, &conflicts)?;
-        let groups = with_new(self.alloc, groups, &new, &costs)?;
+        let groups = with_new(self.alloc, groups, new, &costs)?;
         let least = least_of_groups(self.alloc, &costs, &groups)?;
         let bound = Bound {
             cost: known.cost.max(least),
@@ -177,7 +160,9 @@ impl<'p> NodeBounds<'p> {
             }
             if let Some(agents) = two_of(self.alloc(), current, conflict)? {
                 let group = self.group_bound(node, current, agents)?;
-                put(&mut groups, group, costs)?;
+                if group.surplus(costs) > 0 {
+                    groups.push(group)?;
+                }
             }
         }
         Ok(groups)
@@ -199,15 +184,7 @@ impl<'p> NodeBounds<'p> {
             found.agents.items found.least) }
     {
         let sets = sets_of(self.alloc, node, &agents)?;
-        let least = least_of_group(
-            self.alloc,
-            &self.low,
-            &agents,
-            sets,
-            current,
-            &mut self.known,
-            &mut self.guide,
-        )?;
+        let least = self.groups.least_of(self.alloc, &agents, sets, current)?;
         Ok(GroupBound {
             agents,
             least,

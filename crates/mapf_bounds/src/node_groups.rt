@@ -17,9 +17,9 @@ use std::sync::Arc;
 pub(crate) fn costs_of<P: AgentPaths>(alloc: Global, paths: &P) -> Result<Vec<u32>, NoMemory>
     ensures { IfOk result (λ costs. costs.items ≡ map cost (P.paths paths.now)) }
 {
-    let mut costs = Vec::new(alloc);
+    let mut costs = Vec::with_capacity(alloc, paths.agents())?;
     for agent in 0..paths.agents() {
-        costs.push(paths.path(agent).cost())?;
+        costs.push_reserved(paths.path(agent).cost());
     }
     Ok(costs)
 }
@@ -33,7 +33,7 @@ pub(crate) fn sets_of(
     requires { (k : ℕ) → k < length agents.now → slice_index agents.now k < length node.now.plan }
     ensures { IfOk result (λ sets. AreSetsOf node.now agents.now sets.items) }
 {
-    let mut sets = Vec::new(alloc);
+    let mut sets = Vec::with_capacity(alloc, agents.len())?;
     for agent in agents {
         sets.push(node.constraints(alloc, *agent)?)?;
     }
@@ -77,10 +77,12 @@ fn dear_groups(
 ) -> Result<Vec<GroupBound>, NoMemory>
     ensures { IfOk result (λ kept. Follow groups.now kept.items) }
 {
-    let mut kept = Vec::new(alloc);
+    let mut kept = Vec::with_capacity(alloc, groups.len())?;
     for place in 0..groups.len() {
         let group = &groups[groups.len() - 1 - place];
-        put(&mut kept, copy_of(alloc, group)?, costs)?;
+        if group.surplus(costs) > 0 {
+            put(&mut kept, copy_of(alloc, group)?, costs)?;
+        }
     }
     Ok(kept)
 }
@@ -89,17 +91,17 @@ fn dear_groups(
 pub(crate) fn with_new(
     alloc: Global,
     known: &Arc<Vec<GroupBound>>,
-    new: &[GroupBound],
+    new: Vec<GroupBound>,
     costs: &[u32],
 ) -> Result<Arc<Vec<GroupBound>>, NoMemory>
-    ensures { IfOk result (λ all. FollowBoth known.now.value.items new.now all.value.items) }
+    ensures { IfOk result (λ all. FollowBoth known.now.value.items new.items all.value.items) }
 {
     if new.is_empty() {
         return Ok(Arc::try_clone(known)?);
     }
     let mut all = dear_groups(alloc, known, costs)?;
     for group in new {
-        put(&mut all, copy_of(alloc, group)?, costs)?;
+        put(&mut all, group, costs)?;
     }
     Ok(Arc::new(alloc, all)?)
 }
@@ -116,19 +118,11 @@ fn copy_of(alloc: Global, group: &GroupBound) -> Result<GroupBound, NoMemory>
     })
 }
 
-/// Puts a group in before those that cost at least so much more than their agents alone as it does, if it costs more.
-pub(crate) fn put(
-    groups: &mut Vec<GroupBound>,
-    group: GroupBound,
-    costs: &[u32],
-) -> Result<(), NoMemory>
+/// Puts a group in before those that cost at least so much more than their agents alone as it does.
+fn put(groups: &mut Vec<GroupBound>, group: GroupBound, costs: &[u32]) -> Result<(), NoMemory>
     ensures { OnOk result (Follow (group ∷ groups.old.items) groups.new.items) }
 {
-    let surplus = group.surplus(costs);
-    if surplus == 0 {
-        return Ok(());
-    }
-    let place = place_for(groups, surplus, costs);
+    let place = place_for(groups, group.surplus(costs), costs);
     match groups.insert(place, group) {
         Ok(()) => Ok(()),
         Err(_refused) => Err(NoMemory),

@@ -16,10 +16,11 @@ use crate::node_bounds::NodeBounds;
 use crate::turn::{Outcome, turn};
 use crate::waiting::{Waiting, admit_own};
 use mapf_grid::NoMemory;
-use mapf_optimum::solve_any_up_to;
+use mapf_optimum::GroupSearch;
 use mapf_plan::Answer;
 use mapf_tree::{
-    Key, NoWatch, OpenList, OwnPaths, Problem, Progress, Search, Watch, least_stated, solve_alone,
+    Key, NoWatch, OpenList, OwnPaths, Problem, Progress, Search, Watch, least_stated, root_paths,
+    solve_alone,
 };
 use std::alloc::Global;
 use std::collections::BTreeMap;
@@ -73,13 +74,14 @@ pub fn finish_by_bounds<W: Watch>(
 {
     let nodes = search.taken_nodes();
     let (problem, open_list) = search.into_waiting();
-    let Some(range) = cost_range(alloc, problem)? else {
+    let mut groups = GroupSearch::new(alloc, problem)?;
+    let Some(range) = cost_range(alloc, &mut groups)? else {
         let bound = problem.bound();
         watch.nodes_expanded(nodes, u64::from(bound) + 1);
         return Ok(Answer::None { bound });
     };
     let waiting = take_over(alloc, range, open_list)?;
-    let bounds = NodeBounds::new(alloc, problem, range.most)?;
+    let bounds = NodeBounds::new(alloc, groups, range.most);
     search_by_bounds(waiting, paths, bounds, nodes, watch)
 }
 
@@ -93,10 +95,13 @@ pub(crate) struct CostRange {
 }
 
 /// What the first solution of a problem costs, as far as a search for any optimum tells; none where there is no solution.
-fn cost_range(alloc: Global, problem: &Problem) -> Result<Option<CostRange>, NoMemory>
-    ensures { IfOk result (IsRange problem.now) }
+fn cost_range(alloc: Global, groups: &mut GroupSearch<'_>) -> Result<Option<CostRange>, NoMemory>
+    ensures same { groups.new ≡ groups.old }
+    ensures range { IfOk result (IsRange groups.old) }
 {
-    let given = solve_any_up_to(alloc, problem, Some(OPTIMUM_NODES), &mut NoWatch)?;
+    let problem = groups.problem();
+    let paths = root_paths(alloc, problem)?;
+    let given = groups.any_optimum(alloc, paths, Some(OPTIMUM_NODES), &mut NoWatch)?;
     Ok(range_of(problem, &given))
 }
 

@@ -7,6 +7,7 @@ ghost use Rattle.mapf_optimum.specs.Groups.{AreKnown, alone, part_of};
 use crate::FreeNode;
 use crate::agents::{costs_of, sum_of};
 use crate::group_costs::{Found, GroupCosts};
+use crate::group_search::GroupSearch;
 use crate::groups::ask;
 use crate::guesses::Guide;
 use crate::low_level::LowLevel;
@@ -23,10 +24,38 @@ const MOST_NODES: u64 = 8;
 /// With how much effort their plan is looked for.
 const EFFORT: usize = 8;
 
-/// What some agents cost together at least under these sets, of which this plan has least paths.
-///
-/// An error is that memory ran out.
-pub fn least_of_group<P: AgentPaths>(
+impl<'p> GroupSearch<'p> {
+    /// What some agents cost together at least under these sets, of which this plan has least paths. It is remembered.
+    ///
+    /// An error is that memory ran out.
+    pub fn least_of<P: AgentPaths>(
+        &mut self,
+        alloc: Global,
+        agents: &[usize],
+        sets: Vec<Constraints>,
+        plan: &P,
+    ) -> Result<u64, NoMemory>
+        requires group { IsGroup (length self.old.inst.starts) agents.now }
+        requires some { 0 < length agents.now }
+        requires plan { length (P.paths plan.now) ≡ length self.old.inst.starts }
+        requires paths { HaveLeastPaths (part_of self.old agents.now) sets.items (paths_in (P.paths plan.now) agents.now) }
+        ensures same { self.new ≡ self.old }
+        ensures least { IfOk result (IsLowerBoundOf (part_of self.old agents.now) sets.items) }
+    {
+        least_of_group(
+            alloc,
+            &self.low,
+            agents,
+            sets,
+            plan,
+            &mut self.known,
+            &mut self.guide,
+        )
+    }
+}
+
+/// The same of agents by what is known of groups.
+fn least_of_group<P: AgentPaths>(
     alloc: Global,
     low: &LowLevel<'_>,
     agents: &[usize],

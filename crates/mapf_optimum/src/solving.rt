@@ -3,11 +3,13 @@
 ghost use Rattle.std.specs.Prelude.{◌≡◌, ◌↔◌, IfOk, IsTrue, MatchOption, None, Some};
 ghost use Rattle.mapf_tree.specs.Family.{AreRootPaths, IsRoot};
 ghost use Rattle.mapf_optimum.specs.AnyAnswer.{IsAnyAnswer, IsAnyAnswerUpTo};
+ghost use Rattle.mapf_optimum.specs.Groups.{AreKnown};
 ghost use Rattle.mapf_optimum.specs.Told.{IsBegun, IsWatched};
 
 use crate::FreeNode;
 use crate::expansion::expand;
 use crate::group_costs::GroupCosts;
+use crate::group_search::GroupSearch;
 use crate::groups::bounded;
 use crate::guesses::Guide;
 use crate::low_level::LowLevel;
@@ -52,38 +54,35 @@ pub fn solve_any_from<W: Watch>(
     ensures answer { IfOk result (IsAnyAnswer problem.now) }
     ensures told { IfOk result (IsWatched W.told problem.now problem.now.nodes watch.old watch.new) }
 {
-    search_from(alloc, problem, paths, problem.nodes(), watch)
+    let mut groups = GroupSearch::new(alloc, problem)?;
+    groups.any_optimum(alloc, paths, problem.nodes(), watch)
 }
 
-/// The same by so many expanded nodes at most, whatever limit the problem has.
-pub fn solve_any_up_to<W: Watch>(
-    alloc: Global,
-    problem: &Problem,
-    nodes: Option<u64>,
-    watch: &mut W,
-) -> Result<Answer, NoMemory>
-    ensures answer { IfOk result (IsAnyAnswerUpTo nodes problem.now) }
-    ensures told { IfOk result (IsWatched W.told problem.now nodes watch.old watch.new) }
-{
-    let paths = root_paths(alloc, problem)?;
-    search_from(alloc, problem, paths, nodes, watch)
-}
-
-/// The same from each agent's own path under no constraints; none where some agent has none.
-fn search_from<W: Watch>(
-    alloc: Global,
-    problem: &Problem,
-    paths: Option<Vec<Path>>,
-    nodes: Option<u64>,
-    watch: &mut W,
-) -> Result<Answer, NoMemory>
-    requires { MatchOption paths (IsRoot problem.now None) (λ paths. AreRootPaths problem.now paths.items) }
-    ensures answer { IfOk result (IsAnyAnswerUpTo nodes problem.now) }
-    ensures told { IfOk result (IsWatched W.told problem.now nodes watch.old watch.new) }
-{
-    let waiting = begin(alloc, problem, paths)?;
-    let low = LowLevel::new(alloc, problem)?;
-    search(alloc, &low, waiting, nodes, watch)
+impl<'p> GroupSearch<'p> {
+    /// The same by so many expanded nodes at most, whatever limit the problem has. What is found of groups is remembered.
+    pub fn any_optimum<W: Watch>(
+        &mut self,
+        alloc: Global,
+        paths: Option<Vec<Path>>,
+        nodes: Option<u64>,
+        watch: &mut W,
+    ) -> Result<Answer, NoMemory>
+        requires { MatchOption paths (IsRoot self.old None) (λ paths. AreRootPaths self.old paths.items) }
+        ensures same { self.new ≡ self.old }
+        ensures answer { IfOk result (IsAnyAnswerUpTo nodes self.old) }
+        ensures told { IfOk result (IsWatched W.told self.old nodes watch.old watch.new) }
+    {
+        let waiting = begin(alloc, self.low.problem(), paths)?;
+        search(
+            alloc,
+            &self.low,
+            waiting,
+            &mut self.known,
+            &mut self.guide,
+            nodes,
+            watch,
+        )
+    }
 }
 
 /// The root alone, if there is one.
@@ -103,18 +102,20 @@ fn search<W: Watch>(
     alloc: Global,
     low: &LowLevel<'_>,
     waiting: Waiting,
+    known: &mut GroupCosts,
+    guide: &mut Guide,
     most: Option<u64>,
     watch: &mut W,
 ) -> Result<Answer, NoMemory>
-    requires { IsBegun low.now waiting }
+    requires begun { IsBegun low.now waiting }
+    requires known { AreKnown low.now known.old }
+    ensures known { AreKnown low.now known.new }
     ensures answer { IfOk result (IsAnyAnswerUpTo most low.now) }
     ensures told { IfOk result (IsWatched W.told low.now most watch.old watch.new) }
 {
     let problem = low.problem();
     let mut waiting = waiting;
     let part = Part::whole(alloc, low)?;
-    let mut known = GroupCosts::new(alloc);
-    let mut guide = Guide::new(alloc, problem)?;
     let mut nodes = 0;
     'steps: loop {
         let Some(node) = waiting.take_least() else {
@@ -124,7 +125,7 @@ fn search<W: Watch>(
         };
         if !node.is_bounded() {
             guide.left = MOST_GROUP_NODES;
-            waiting.put(bounded(alloc, &part, node, EFFORT, &mut known, &mut guide)?)?;
+            waiting.put(bounded(alloc, &part, node, EFFORT, known, guide)?)?;
             continue 'steps;
         }
         let least = node.label();

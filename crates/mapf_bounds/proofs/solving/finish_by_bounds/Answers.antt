@@ -19,29 +19,31 @@ use Rattle.mapf_bounds.proofs.solving.finish_by_bounds.Goals as goal
 pub returns-in_default-clause-best : goal.returns-in_default-clause-best
 returns-in_default-clause-best g c = (
   c.bound-bound.ensures.bound ∙ ap (λ (p : Problem). p.bound) c.into_waiting-open_list.ensures.problem,
-  (none_is_none c.args.search.problem).0 (subst (λ (p : Problem). IsAnswer p None) c.into_waiting-open_list.ensures.problem (subst (IsRange c.into_waiting-open_list.result.0.now) c.in_default.is c.in_ok-range.ensures)),
+  (none_is_none c.args.search.problem).0 (subst (λ (p : Problem). IsAnswer p None) c.into_waiting-open_list.ensures.problem (subst (IsRange c.into_waiting-open_list.result.0.now) c.in_default.is (subst (λ (q : Problem). IsRange q c.in_ok-range.field-0) c.in_ok-groups.ensures c.in_ok-range.ensures.range))),
 )
 
 pub search_by_bounds-requires-clause-enough : goal.search_by_bounds-requires-clause-enough
 search_by_bounds-requires-clause-enough g c =
-    subst (λ (b : Bounding). IsEnough b.problem b.most) (sym c.in_ok-bounds.ensures) (subst (IsRange c.into_waiting-open_list.result.0.now) c.in-Some.is c.in_ok-range.ensures).1
+    subst (λ (b : Bounding). IsEnough b.problem b.most) (sym c.new-bounds.ensures)
+    (subst (λ (q : Problem). IsEnough q c.in-Some.range.most) (sym (c.cost_range.ensures.same ∙ c.in_ok-groups.ensures)) (subst (IsRange c.into_waiting-open_list.result.0.now) c.in-Some.is (subst (λ (q : Problem). IsRange q c.in_ok-range.field-0) c.in_ok-groups.ensures c.in_ok-range.ensures.range)).1)
 
 pub search_by_bounds-requires-clause-covering : goal.search_by_bounds-requires-clause-covering
 search_by_bounds-requires-clause-covering g c =
-    subst (λ (b : Bounding). IsCovering b.problem b.most c.in_ok-waiting.waiting.entries) (sym c.in_ok-bounds.ensures)
-    (c.in_ok-waiting.ensures c.into_waiting-open_list.result.0.now (subst (IsRange c.into_waiting-open_list.result.0.now) c.in-Some.is c.in_ok-range.ensures).0
+    subst (λ (b : Bounding). IsCovering b.problem b.most c.in_ok-waiting.waiting.entries) (sym c.new-bounds.ensures)
+    (subst (λ (q : Problem). IsCovering q c.in-Some.range.most c.in_ok-waiting.waiting.entries) (sym (c.cost_range.ensures.same ∙ c.in_ok-groups.ensures))
+    (c.in_ok-waiting.ensures c.into_waiting-open_list.result.0.now (subst (IsRange c.into_waiting-open_list.result.0.now) c.in-Some.is (subst (λ (q : Problem). IsRange q c.in_ok-range.field-0) c.in_ok-groups.ensures c.in_ok-range.ensures.range)).0
     (subst (λ (p : Problem). IsMoving p c.in-Some.range.most c.into_waiting-open_list.result.1 []) (sym c.into_waiting-open_list.ensures.problem)
-    (moves_first c.in-Some.range.most c.args.search c.into_waiting-open_list.result.1 c.into_waiting-open_list.ensures.search c.requires.open_yet c.into_waiting-open_list.ensures.waiting)))
+    (moves_first c.in-Some.range.most c.args.search c.into_waiting-open_list.result.1 c.into_waiting-open_list.ensures.search c.requires.open_yet c.into_waiting-open_list.ensures.waiting))))
 
 pub returns-clause-best : goal.returns-clause-best
 returns-clause-best g c =
     best_out c.args.search.problem c.search_by_bounds.result
-    (stated_answer c.in_ok-bounds.bounds.problem c.args.search.problem c.search_by_bounds.result (ap (λ (b : Bounding). b.problem) c.in_ok-bounds.ensures ∙ c.into_waiting-open_list.ensures.problem) c.requires.unlimited c.search_by_bounds.ensures.stated)
+    (stated_answer c.new-bounds.result.problem c.args.search.problem c.search_by_bounds.result (ap (λ (b : Bounding). b.problem) c.new-bounds.ensures ∙ c.cost_range.ensures.same ∙ c.in_ok-groups.ensures ∙ c.into_waiting-open_list.ensures.problem) c.requires.unlimited c.search_by_bounds.ensures.stated)
 
 pub returns-in_default-clause-told : goal.returns-in_default-clause-told
 returns-in_default-clause-told g c =
     let p = c.into_waiting-open_list.result.0.now in
-    let none = subst (IsRange p) c.in_default.is c.in_ok-range.ensures in
+    let none = subst (IsRange p) c.in_default.is (subst (λ (q : Problem). IsRange q c.in_ok-range.field-0) c.in_ok-groups.ensures c.in_ok-range.ensures.range) in
     let below = subst (IsBelowAll p) (omega (arith, c.from.ensures, c.bound-bound.ensures.bound)) (stated_below p (answer.None p.bound) (None, none, refl)) in (
       subst (CountsTaken c.args.search.problem c.args.search.last) c.taken_nodes-nodes.ensures.is c.taken_nodes-nodes.ensures.taken,
       subst₂ (λ q n. IsWatched g.W.Watch.told q n c.args.watch.now c.nodes_expanded.new.self (answer.None c.bound-bound.result)) c.into_waiting-open_list.ensures.problem c.taken_nodes-nodes.ensures.is
@@ -50,10 +52,10 @@ returns-in_default-clause-told g c =
 
 pub returns-clause-told : goal.returns-clause-told
 returns-clause-told g c =
-    watched_behind g.W.Watch.told c.in_ok-bounds.bounds.problem c.args.search.problem c.args.search.last c.taken_nodes-nodes.result c.args.search.taken c.args.watch.now c.search_by_bounds.new.watch c.search_by_bounds.result
-    (ap (λ (b : Bounding). b.problem) c.in_ok-bounds.ensures ∙ c.into_waiting-open_list.ensures.problem) c.taken_nodes-nodes.ensures.is c.taken_nodes-nodes.ensures.taken c.search_by_bounds.ensures.told
+    watched_behind g.W.Watch.told c.new-bounds.result.problem c.args.search.problem c.args.search.last c.taken_nodes-nodes.result c.args.search.taken c.args.watch.now c.search_by_bounds.new.watch c.search_by_bounds.result
+    (ap (λ (b : Bounding). b.problem) c.new-bounds.ensures ∙ c.cost_range.ensures.same ∙ c.in_ok-groups.ensures ∙ c.into_waiting-open_list.ensures.problem) c.taken_nodes-nodes.ensures.is c.taken_nodes-nodes.ensures.taken c.search_by_bounds.ensures.told
 
 pub returns-clause-answer : goal.returns-clause-answer
 returns-clause-answer g c =
-    stated_answer c.in_ok-bounds.bounds.problem c.args.search.problem c.search_by_bounds.result (ap (λ (b : Bounding). b.problem) c.in_ok-bounds.ensures ∙ c.into_waiting-open_list.ensures.problem) c.requires.unlimited
+    stated_answer c.new-bounds.result.problem c.args.search.problem c.search_by_bounds.result (ap (λ (b : Bounding). b.problem) c.new-bounds.ensures ∙ c.cost_range.ensures.same ∙ c.in_ok-groups.ensures ∙ c.into_waiting-open_list.ensures.problem) c.requires.unlimited
     c.search_by_bounds.ensures.stated

@@ -1,7 +1,6 @@
 use Rattle.std.proofs.Common.{◌+◌, Some, ap, MatchOption, inl, inr, refl, subst, sym, ◌∙◌, arith}
 use Rattle.mapf_plan.specs.declared.answer.Answer.TheVariants as answer
 use Rattle.mapf_plan.specs.Plan.{HasNoConflict, IsOptimum, plan_cost}
-use Rattle.mapf_grid.proofs.Members.{nowhere}
 use Rattle.mapf_tree.specs.LowerBound.{IsBelowAll}
 use Rattle.mapf_tree.specs.Problem.{Problem}
 use Rattle.mapf_optimum.specs.FreeTree.{IsChoice, IsFreeNode}
@@ -16,9 +15,9 @@ use Rattle.mapf_optimum.proofs.solving.search.Goals as goal
 
 pub steps-init : goal.steps-init
 steps-init g c = record {
-  way = begins c.args.low.now c.args.waiting c.requires;
-  known = subst (AreKnown c.args.low.now) (sym c.new-known.ensures) (λ k i. absurd (nowhere i));
-  told = telling_begins g.W.Watch.told c.args.low.now c.args.most c.args.watch.now c.args.waiting c.requires;
+  way = begins c.args.low.now c.args.waiting c.requires.begun;
+  known = c.requires.known;
+  told = telling_begins g.W.Watch.told c.args.low.now c.args.most c.args.watch.now c.args.waiting c.requires.begun;
 }
 
 pub returns-in_default-clause-answer : goal.returns-in_default-clause-answer

@@ -7,9 +7,9 @@ use Rattle.mapf_bounds.specs.Groups.{AreSetsOf}
 use Rattle.mapf_bounds.proofs.Groups.{group_is_known, group_least, stands_least}
 use Rattle.mapf_bounds.proofs.node_bounds.NodeBounds.group_bound.Goals as goal
 
-pub least_of_group-requires-clause-paths : goal.least_of_group-requires-clause-paths
-least_of_group-requires-clause-paths c =
-    let problem : c.self.inside.low ≡ c.args.self.now.problem = c.self.invariant.0 ∙ ap (λ (b : Bounding). b.problem) c.self.view_is in
+pub least_of-requires-clause-paths : goal.least_of-requires-clause-paths
+least_of-requires-clause-paths c =
+    let problem : c.self.inside.groups ≡ c.args.self.now.problem = ap (λ (b : Bounding). b.problem) c.self.view_is in
     let stands = c.requires.node.stands in
     let group = subst (λ n. IsGroup n c.args.agents.items) (ap length stands.plan ∙ stands.member.plan.agents) c.requires.group in
     let copies = subst (λ (l : List ℕ). AreSetsOf c.args.node.now l c.in_ok-sets.sets.items) c.deref.ensures.value c.in_ok-sets.ensures in
@@ -17,12 +17,9 @@ least_of_group-requires-clause-paths c =
     (subst (λ q. HaveLeastPaths (part_of c.args.self.now.problem c.args.agents.items) c.in_ok-sets.sets.items (paths_in q c.args.agents.items)) (sym c.requires.current)
     (group_least c.args.self.now.problem c.args.node.now c.args.agents.items c.in_ok-sets.sets.items group copies (stands_least c.args.self.now.problem c.args.node.now c.requires.node.of stands)))
 
-pub invariant_of-self : goal.invariant_of-self
-invariant_of-self c = (c.self.invariant.0, c.least_of_group.ensures.known)
-
 pub returns-clause-group : goal.returns-clause-group
 returns-clause-group c =
-    let problem : c.self.inside.low ≡ c.args.self.now.problem = c.self.invariant.0 ∙ ap (λ (b : Bounding). b.problem) c.self.view_is in
+    let problem : c.self.inside.groups ≡ c.args.self.now.problem = ap (λ (b : Bounding). b.problem) c.self.view_is in
     let stands = c.requires.node.stands in
     let group = subst (λ n. IsGroup n c.args.agents.items) (ap length stands.plan ∙ stands.member.plan.agents) c.requires.group in
     let copies = subst (λ (l : List ℕ). AreSetsOf c.args.node.now l c.in_ok-sets.sets.items) c.deref.ensures.value c.in_ok-sets.ensures in

@@ -1,11 +1,11 @@
 use Rattle.std.proofs.Common.{List, Vec, ℕ, length, map, Contains, subst, subst₂, sym, ap, ◌∙◌, arith}
 use Rattle.std.specs.declared.alloc.Global.{Global}
 use Rattle.mapf_plan.specs.Path.{cost}
+use Rattle.mapf_tree.specs.Problem.{Problem}
 use Rattle.mapf_optimum.specs.declared.group_bound.GroupBound.{GroupBound}
-use Rattle.mapf_optimum.specs.FreeTree.{AreGroupBounds, IsGroup}
+use Rattle.mapf_optimum.specs.FreeTree.{IsGroup}
 use Rattle.mapf_optimum.specs.Groups.{IsBoundBy}
 use Rattle.mapf_bounds.specs.declared.bound.Bound.{Bound}
-use Rattle.mapf_bounds.specs.Bounds.{Bounding}
 use Rattle.mapf_bounds.specs.Pairs.{HaveCollisions}
 use Rattle.mapf_bounds.proofs.Groups.{groups_bound, stands_costs}
 use Rattle.mapf_bounds.proofs.DisjointPairs.{collisions_take_turns}
@@ -15,20 +15,18 @@ pub least_of_groups-requires : goal.least_of_groups-requires
 least_of_groups-requires c g has =
     let costs = c.in_ok-costs.ensures ∙ ap (map cost) c.in_ok-current.ensures in
     let are = stands_costs c.args.self.now.problem c.args.node.now c.requires.node.of c.requires.node.stands c.in_ok-costs.costs.items costs in
-    let known = c.in_ok-groups.ensures c.args.self.now.problem c.args.node.now.constraints c.requires.groups
-    (subst (AreGroupBounds c.args.self.now.problem c.args.node.now.constraints) (sym c.deref-4.ensures.value) c.in_ok-new.ensures.groups) in
-    let one = known g (subst (λ (l : List GroupBound). Contains l g) (c.deref-8.ensures.value ∙ ap (λ (v : Vec GroupBound Global). v.items) c.deref-7.ensures) has) in
-    subst (λ n. IsGroup n g.agents.items) (sym (ap length c.deref-6.ensures.value ∙ are.agents)) one.group
+    let known = c.in_ok-groups.ensures c.args.self.now.problem c.args.node.now.constraints c.requires.groups c.in_ok-new.ensures.groups in
+    let one = known g (subst (λ (l : List GroupBound). Contains l g) (c.deref-7.ensures.value ∙ ap (λ (v : Vec GroupBound Global). v.items) c.deref-6.ensures) has) in
+    subst (λ n. IsGroup n g.agents.items) (sym (ap length c.deref-5.ensures.value ∙ are.agents)) one.group
 
 pub returns-clause-bound : goal.returns-clause-bound
 returns-clause-bound c m stands =
     let problem = c.args.self.now.problem in
-    let known = c.in_ok-groups.ensures c.args.self.now.problem c.args.node.now.constraints c.requires.groups
-    (subst (AreGroupBounds c.args.self.now.problem c.args.node.now.constraints) (sym c.deref-4.ensures.value) c.in_ok-new.ensures.groups) in
+    let known = c.in_ok-groups.ensures c.args.self.now.problem c.args.node.now.constraints c.requires.groups c.in_ok-new.ensures.groups in
     let plan = c.in_ok-current.ensures in
     let costs = c.in_ok-costs.ensures ∙ ap (map cost) plan in
-    let bound = subst₂ (λ (k : List ℕ) (l : List GroupBound). IsBoundBy k l c.in_ok-least.least) c.deref-6.ensures.value (c.deref-8.ensures.value ∙ ap (λ (v : Vec GroupBound Global). v.items) c.deref-7.ensures) c.in_ok-least.ensures in
-    let rule = c.rule.ensures ∙ ap (λ (b : Bounding). b.problem.rule) c.self.view_is in
+    let bound = subst₂ (λ (k : List ℕ) (l : List GroupBound). IsBoundBy k l c.in_ok-least.least) c.deref-5.ensures.value (c.deref-7.ensures.value ∙ ap (λ (v : Vec GroupBound Global). v.items) c.deref-6.ensures) c.in_ok-least.ensures in
+    let rule = c.rule.ensures ∙ ap (λ (p : Problem). p.rule) c.problem.ensures in
     let turns = subst₂ (λ r q. HaveCollisions r q c.in_ok-turns.turns) rule (plan ∙ stands.plan) c.in_ok-turns.ensures in
     let depth = ap (λ (b : Bound). b.depth) c.own.ensures in record {
       cost = λ s solution below.
@@ -44,5 +42,4 @@ returns-clause-bound c m stands =
 
 pub returns-clause-groups : goal.returns-clause-groups
 returns-clause-groups c =
-    c.in_ok-groups.ensures c.args.self.now.problem c.args.node.now.constraints c.requires.groups
-    (subst (AreGroupBounds c.args.self.now.problem c.args.node.now.constraints) (sym c.deref-4.ensures.value) c.in_ok-new.ensures.groups)
+    c.in_ok-groups.ensures c.args.self.now.problem c.args.node.now.constraints c.requires.groups c.in_ok-new.ensures.groups
