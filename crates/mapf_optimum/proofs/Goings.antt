@@ -11,14 +11,14 @@ use Rattle.mapf_optimum.specs.declared.together.place.Move.{Move}
 use Rattle.mapf_optimum.specs.declared.together.steps.Terms.{Terms}
 use Rattle.mapf_optimum.specs.declared.together.steps.To.{To}
 use Rattle.mapf_optimum.specs.Together.{StandsAt, no_place, place_in}
-use Rattle.mapf_optimum.specs.PlaceNumbers.{AgentKnown, AreAtKnownOrIn, AreAtNumbers, AreSame, GoesBy, GoesOnFrom, Grows, HasNumber, HaveGone, Known, cost_in, number_in}
+use Rattle.mapf_optimum.specs.PlaceNumbers.{AgentKnown, AreAtKnown, AreAtNumbers, AreSame, GoesBy, GoesOnFrom, Grows, HasNumber, HaveGone, Known, cost_in, number_in}
 use Rattle.mapf_optimum.proofs.JointLists.{still_known}
 use Rattle.mapf_optimum.proofs.JointSums.{cost_behind, cost_front, cost_no_more, cost_when_gone}
 
 -- what was known or in the list still is
-pub still_known_or_in : (plan : List (List ℕ)) (places : List AgentKnown) (old new : Known) (few more : List (List ℕ)) (time : ℕ) → Grows old new → ((x : List ℕ) → Contains few x → Contains more x) →
-    AreAtKnownOrIn plan places old few time → AreAtKnownOrIn plan places new more time
-still_known_or_in plan places old new few more time grows keeps at = (at.0, ⊎_elim (λ k. inl (still_known old new at.0 grows k)) (λ i. inr (keeps at.0 i)) at.1, at.2)
+pub at_known_still : (plan : List (List ℕ)) (places : List AgentKnown) (old new : Known) (few more : List (List ℕ)) (time : ℕ) → Grows old new → ((x : List ℕ) → Contains few x → Contains more x) →
+    AreAtKnown plan places old few time → AreAtKnown plan places new more time
+at_known_still plan places old new few more time grows keeps at = (at.0, ⊎_elim (λ k. inl (still_known old new at.0 grows k)) (λ i. inr (keeps at.0 i)) at.1, at.2)
 
 -- nothing changes
 pub same_none : (count : ℕ) (old new : To) → new ≡ old → AreSame count old new
@@ -34,40 +34,37 @@ same_set agent old new move numbers joint = record {
   joint = λ i l. ap (λ j. place_in j i) joint ∙ get_or-set_other old.joint agent i move.place no_place (λ e. omega (arith, e, l));
 }
 
-pub same_fewer : (few count : ℕ) (old new : To) → few ≤ count → AreSame count old new → AreSame few old new
-same_fewer few count old new l same = record { numbers = λ i h. same.numbers i (omega (arith, h, l)); joint = λ i h. same.joint i (omega (arith, h, l)) }
-
 module _ (plan : List (List ℕ)) (terms : Terms) (places : List AgentKnown) (numbers : List ℕ) (from : List Place) (now : ℕ) (goes : GoesOnFrom plan terms places numbers from now) where
   -- where they have gone on to is the same
-  pub gone_same : (agent cost_so : ℕ) (old new : To) → AreSame agent old new → HaveGone plan terms.agents places from old agent cost_so (now + 1) → HaveGone plan terms.agents places from new agent cost_so (now + 1)
+  pub gone_same : (agent cost_so : ℕ) (old new : To) → AreSame agent old new → HaveGone plan places from old agent cost_so (now + 1) → HaveGone plan places from new agent cost_so (now + 1)
   gone_same agent cost_so old new same gone = record {
     there = λ i l. subst (StandsAt (path_of plan i) (now + 1)) (sym (same.joint i l)) (gone.there i l);
     numbered = λ i known l is. subst₂ (λ n p. HasNumber known n p (now + 1)) (sym (same.numbers i l)) (sym (same.joint i l)) (gone.numbered i known l is);
     costs = gone.costs;
   }
 
-  module _ (agent cost_so : ℕ) (inside : agent < terms.agents) (old : To) (gone : HaveGone plan terms.agents places from old agent cost_so (now + 1)) (move : Move)
+  module _ (agent cost_so : ℕ) (inside : agent < length places) (old : To) (gone : HaveGone plan places from old agent cost_so (now + 1)) (move : Move)
       (by : GoesBy plan places agent move (now + 1)) where
     -- what the others' paths leave
     pub most : ℕ
-    most = sum_by cost (take agent plan) + cost_in (drop (agent + 1) (take terms.agents from))
+    most = sum_by cost (take agent plan) + cost_in (drop (agent + 1) (take (length places) from))
 
-    pub most_is : cost_so ≤ sum_by cost (take agent plan) + cost_in (drop (agent + 1) (take terms.agents from)) + (place_in from agent).cost
-    most_is = omega (arith, gone.costs, cost_front plan terms.agents from goes.is.agents agent inside)
+    pub most_is : cost_so ≤ sum_by cost (take agent plan) + cost_in (drop (agent + 1) (take (length places) from)) + (place_in from agent).cost
+    most_is = omega (arith, gone.costs, cost_front plan (length places) from goes.is.agents agent inside)
 
     -- what a plan costs at least, where this one goes on, too
-    pub cost_then : (sum : ℕ) → sum ≤ sum_by cost (take agent plan) + cost_in (drop (agent + 1) (take terms.agents from)) + move.place.cost → sum ≤ cost_when_gone plan terms.agents (agent + 1) from
-    cost_then sum l = omega (arith, l, by.stands.pays, cost_behind plan terms.agents from goes.is.agents agent inside)
+    pub cost_then : (sum : ℕ) → sum ≤ sum_by cost (take agent plan) + cost_in (drop (agent + 1) (take (length places) from)) + move.place.cost → sum ≤ cost_when_gone plan (length places) (agent + 1) from
+    cost_then sum l = omega (arith, l, by.stands.pays, cost_behind plan (length places) from goes.is.agents agent inside)
 
     -- is within the total
-    pub cost_within : (sum : ℕ) → sum ≤ cost_when_gone plan terms.agents (agent + 1) from → sum ≤ terms.total
+    pub cost_within : (sum : ℕ) → sum ≤ cost_when_gone plan (length places) (agent + 1) from → sum ≤ terms.total
     cost_within sum l =
-        let all = cost_no_more plan terms.agents from goes.is.agents (λ i h. (goes.here i h).pays) (terms.agents - (agent + 1)) (agent + 1) (omega (arith, inside)) in
+        let all = cost_no_more plan (length places) from goes.is.agents (λ i h. (goes.here i h).pays) (length places - (agent + 1)) (agent + 1) (omega (arith, inside)) in
         omega (arith, l, all, goes.is.within)
 
     -- it has gone on, too
-    pub gone_by : (new : To) (sum : ℕ) → terms.agents ≤ length old.joint → terms.agents ≤ length old.numbers → new.numbers ≡ set old.numbers agent move.number → new.joint ≡ set old.joint agent move.place →
-        sum ≤ cost_when_gone plan terms.agents (agent + 1) from → HaveGone plan terms.agents places from new (agent + 1) sum (now + 1)
+    pub gone_by : (new : To) (sum : ℕ) → length places ≤ length old.joint → length places ≤ length old.numbers → new.numbers ≡ set old.numbers agent move.number → new.joint ≡ set old.joint agent move.place →
+        sum ≤ cost_when_gone plan (length places) (agent + 1) from → HaveGone plan places from new (agent + 1) sum (now + 1)
     gone_by new sum long_joint long_numbers numbers_are joint_is costs = record {
       there = λ i l. either i l (StandsAt (path_of plan i) (now + 1) (place_in new.joint i))
           (λ h. subst (StandsAt (path_of plan i) (now + 1)) (sym (before.joint i h)) (gone.there i h))
@@ -92,7 +89,7 @@ module _ (plan : List (List ℕ)) (terms : Terms) (places : List AgentKnown) (nu
         either i l P less same = ⊎_elim less (λ h. same (omega (arith, h, l))) (cases_lt i agent)
 
   -- where all have gone on, they are there
-  pub all_gone : (gone_so cost_so : ℕ) (to : To) → length places ≤ gone_so → HaveGone plan terms.agents places from to gone_so cost_so (now + 1) → AreAtNumbers plan places (now + 1) to.numbers
+  pub all_gone : (gone_so cost_so : ℕ) (to : To) → length places ≤ gone_so → HaveGone plan places from to gone_so cost_so (now + 1) → AreAtNumbers plan places (now + 1) to.numbers
   all_gone gone_so cost_so to all gone i known is =
       let l : i < length places = slice_get_within places i known is in
       let h : i < gone_so = omega (arith, l, all) in

@@ -57,11 +57,11 @@ module _ (plan : List (List ℕ)) (old new : List AgentKnown) (more : AllGetMore
 -- one turn: the last one that waited is taken out, and it is gone on from there
 module _ (plan : List (List ℕ)) (before after : List AgentKnown) (more : AllGetMore before after) (old taken new : Known) (number : ℕ) (numbers : List ℕ) (joint : List Place) (was : IsSearched plan before old)
     (out : IsTakenFrom old (Some number) taken) (here : slice_get taken.all number ≡ Some numbers) (numbered : AreNumbered before numbers joint) (away : ¬ AreHome (length before) joint) (grows : Grows taken new)
-    (next : (time : ℕ) → time < plan_cost plan → AreAtNumbers plan after time numbers → AreAtKnown plan after new (time + 1)) where
-  known_still : (time : ℕ) → AreAtKnown plan before old time → AreAtKnown plan after new time
+    (next : (time : ℕ) → time < plan_cost plan → AreAtNumbers plan after time numbers → AreAtKnown plan after new [] (time + 1)) where
+  known_still : (time : ℕ) → AreAtKnown plan before old [] time → AreAtKnown plan after new [] time
   known_still time at = (
     at.0,
-    (at.1.0, grows.keeps at.1.0 at.0 (subst (λ all. slice_get all at.1.0 ≡ Some at.0) (sym out.0) at.1.1)),
+    ⊎_elim (λ k. inl (k.0, grows.keeps k.0 at.0 (subst (λ all. slice_get all k.0 ≡ Some at.0) (sym out.0) k.1))) (λ i. inr i) at.1,
     at_still plan before after more time at.0 at.2,
   )
 
@@ -102,14 +102,15 @@ none_waits waiting n e has = let w = subst (λ l. Contains l n) e has in omega (
 
 -- where none waits, each time step has a joint place at which the plan is
 module _ (plan : List (List ℕ)) (places : List AgentKnown) (known : Known) (was : IsSearched plan places known) (done : known.waiting ≡ []) where
-  gone_on : (time : ℕ) (at : AreAtKnown plan places known time) → IsGoneOnFrom plan places known at.0
-  gone_on time at = ⊎_elim (λ w. absurd (none_waits known.waiting at.1.0 done w)) (λ g. g) (was.goes_on at.1.0 at.0 at.1.1)
+  gone_on : (time : ℕ) (at : AreAtKnown plan places known [] time) → IsGoneOnFrom plan places known at.0
+  gone_on time at =
+      ⊎_elim (λ k. ⊎_elim (λ w. absurd (none_waits known.waiting k.0 done w)) (λ g. g) (was.goes_on k.0 at.0 k.1)) (λ i. absurd (omega (arith, i.1))) at.1
 
-  each_time : (t : ℕ) → t ≤ plan_cost plan → AreAtKnown plan places known t
+  each_time : (t : ℕ) → t ≤ plan_cost plan → AreAtKnown plan places known [] t
   each_time zero l = was.begins
   each_time (suc t) l =
       let there = each_time t (omega (arith, l)) in
-      subst (AreAtKnown plan places known) (omega arith) ((gone_on t there).next t (omega (arith, l)) there.2)
+      subst (AreAtKnown plan places known []) (omega arith) ((gone_on t there).next t (omega (arith, l)) there.2)
 
   -- one who isn't home costs more
   is_home : (time : ℕ) (p : List ℕ) (place : Place) → StandsAt p time place → cost p ≤ time → place.is_home ≡ true
@@ -123,7 +124,7 @@ module _ (plan : List (List ℕ)) (places : List AgentKnown) (known : Known) (wa
   pub no_plan : (rule : Rule) (agents : List Agent) (total : ℕ) → length places ≡ length agents → IsPlanOf rule agents total plan → ⊥
   no_plan rule agents total size is = gone.away home
     where
-      end : AreAtKnown plan places known (plan_cost plan)
+      end : AreAtKnown plan places known [] (plan_cost plan)
       end = each_time (plan_cost plan) (omega arith)
 
       gone : IsGoneOnFrom plan places known end.0

@@ -1,11 +1,8 @@
 -- What joint places get more in one time step, item by item of a list.
-use Rattle.std.proofs.Common.{◌≡◌, ℕ, ◌+◌, ◌<◌, List, [], ◌∷◌, ◌++◌, length, take, get_or, Contains, Some, subst, sym, ap, ◌∙◌, ⊎_elim, arith}
-use Rattle.std.specs.Prelude.{slice_get}
+use Rattle.std.proofs.Common.{◌≡◌, ℕ, ◌+◌, ◌<◌, List, [], ◌∷◌, ◌++◌, length, take, get_or, Contains, subst, sym, ap, ◌∙◌, ⊎_elim, arith}
 use Rattle.std.proofs.Math.Seq.{take-length}
 use Rattle.std.proofs.lemmas.List.{take_more}
-use Rattle.std.proofs.lemmas.List.Elements.{Contains-append_left, Contains-push, Contains-push_cases}
-use Rattle.std.proofs.lemmas.Option.{slice_get_within}
-use Rattle.mapf_optimum.specs.PlaceNumbers.{Grows, Known}
+use Rattle.std.proofs.lemmas.List.Elements.{Contains-push_cases}
 
 module _ {X : Type 0} (P : X → Type 0) where
   -- what holds of each of no items
@@ -24,17 +21,3 @@ module _ {X : Type 0} (P : X → Type 0) where
     -- the first ones are all
     pub each_all : k ≡ length items → ((x : X) → Contains (take k items) x → P x) → (x : X) → Contains items x → P x
     each_all e h x i = h x (subst (λ xs. Contains xs x) (sym (ap (λ n. take n items) e ∙ take-length items)) i)
-
-module _ {X : Type 0} (old new : List X) (y : X) (is : new ≡ old ++ y ∷ []) where
-  -- what was there is there
-  pub kept : (x : X) → Contains old x → Contains new x
-  kept x h = subst (λ xs. Contains xs x) (sym is) (Contains-append_left old (y ∷ []) x h)
-
-  -- and the new one
-  pub pushed : Contains new y
-  pushed = subst (λ xs. Contains xs y) (sym is) (Contains-push old y)
-
--- where there was none before, each waits
-pub all_wait : (old new : Known) → old ≡ record { all = []; waiting = [] } → Grows old new → (n : ℕ) (x : List ℕ) → slice_get new.all n ≡ Some x → Contains new.waiting n
-all_wait old new none grows n x h =
-    ⊎_elim (λ i. absurd (let l : n < length old.all = slice_get_within old.all n x i in omega (arith, l, ap (λ (k : Known). length k.all) none))) (λ i. i) (grows.fresh n x h)

@@ -12,11 +12,7 @@ use Rattle.mapf_optimum.specs.declared.together.place.Place.{Place}
 use Rattle.mapf_optimum.specs.Together.{AreAt, ArePlan, no_place, place_in}
 use Rattle.mapf_optimum.specs.PlaceNumbers.{cost_in}
 
--- a place, as it is read
-pub place_at : (joint : List Place) (i : ℕ) (x : Place) → x ≡ get_or joint i x → i < length joint → x ≡ place_in joint i
-place_at joint i x is h = is ∙ get_or_default joint i x no_place h
-
--- and its number
+-- what a place has, as it is read
 pub number_at_place : (f : Place → ℕ) (joint : List Place) (i : ℕ) (x : Place) → i < length joint → f (get_or joint i x) ≡ f (place_in joint i)
 number_at_place f joint i x h = ap f (get_or_default joint i x no_place h)
 

@@ -2,13 +2,10 @@
 use Rattle.std.proofs.Common.{◌≡◌, ℕ, ◌+◌, ◌≤◌, List, [], ◌∷◌, ◌++◌, length, Some, inl, inr, subst, sym, refl, ap, ◌∙◌, ⊎_elim, arith}
 use Rattle.std.specs.Prelude.{slice_get}
 use Rattle.std.proofs.lemmas.List.{length_push}
-use Rattle.std.proofs.lemmas.Option.{same_Some}
 use Rattle.mapf_optimum.specs.declared.together.place.Place.{Place}
-use Rattle.mapf_optimum.specs.declared.together.place.PlaceAt.{PlaceAt}
-use Rattle.mapf_optimum.specs.declared.together.place.Look.{Look}
 use Rattle.mapf_optimum.specs.declared.together.place.Move.{Move}
 use Rattle.mapf_optimum.specs.PlaceNumbers.{AgentKnown, GetsPlaces, HasMoveTo, HasNumber}
-use Rattle.mapf_optimum.proofs.JointLists.{got_before, got_last, got_after}
+use Rattle.mapf_optimum.proofs.JointLists.{got_before, got_last}
 
 -- nothing new
 pub gets_none : (old new : AgentKnown) → new ≡ old → GetsPlaces old new
@@ -29,27 +26,6 @@ gets_both a b c h k = record {
   moves = λ n x i. k.moves n x (h.moves n x i);
   longer = omega (arith, h.longer, k.longer);
 }
-
--- a place at the end, from which nothing was looked for
-pub gets_place : (old new : AgentKnown) (x : PlaceAt) (look : Look) → look.below ≡ 0 → new.all ≡ old.all ++ x ∷ [] → new.looks ≡ old.looks ++ look ∷ [] → new.moves ≡ old.moves → new.first ≡ old.first →
-    GetsPlaces old new × (slice_get new.all (length old.all) ≡ Some x)
-gets_place old new x look none all looks moves first = (
-  record {
-    more = record { all = λ n y h. subst (λ l. slice_get l n ≡ Some y) (sym all) (got_before old.all x n y h); first = first };
-    looks = λ n y h. subst (λ l. slice_get l n ≡ Some y) (sym looks) (got_before old.looks look n y h);
-    fresh = λ n y h.
-        let there : slice_get (old.looks ++ look ∷ []) n ≡ Some y = subst (λ l. slice_get l n ≡ Some y) looks h in
-        ⊎_elim (λ i. inl i) (λ i. inr (last n y i there)) (got_after old.looks look n y there);
-    moves = λ n y h. subst (λ l. slice_get l n ≡ Some y) (sym moves) h;
-    longer = let same : length new.moves ≡ length old.moves = ap length moves in omega (arith, same);
-  },
-  subst (λ l. slice_get l (length old.all) ≡ Some x) (sym all) (got_last old.all x),
-)
-  where
-    last : (n : ℕ) (y : Look) → n ≡ length old.looks → slice_get (old.looks ++ look ∷ []) n ≡ Some y → y.below ≡ 0
-    last n y e h =
-        let same : y ≡ look = same_Some y look (sym h ∙ ap (λ k. slice_get (old.looks ++ look ∷ []) k) e ∙ got_last old.looks look) in
-        ap (λ (l : Look). l.below) same ∙ none
 
 -- a move at the end
 pub gets_move : (old new : AgentKnown) (move : Move) → new.all ≡ old.all → new.looks ≡ old.looks → new.moves ≡ old.moves ++ move ∷ [] → new.first ≡ old.first → GetsPlaces old new

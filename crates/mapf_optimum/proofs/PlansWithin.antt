@@ -109,18 +109,18 @@ module _ (rule : Rule) (agents : List Agent) (total : ℕ) (plan : List (List �
       are.begins i a.0 known a.1 at (path_of plan i) (is.1 i a.0 a.1) (omega (arith, path_within i l, within))
 
   -- the plan goes on from a joint place by the moves that were looked for
-  pub goes_from : (terms : Terms) (places : List AgentKnown) (numbers mosts : List ℕ) (joint : List Place) (time : ℕ) → rule ≡ terms.rule → length agents ≡ terms.agents → total ≡ terms.total → length places ≡ length agents →
+  pub goes_from : (terms : Terms) (places : List AgentKnown) (numbers mosts : List ℕ) (joint : List Place) (time : ℕ) → rule ≡ terms.rule → total ≡ terms.total → length places ≡ length agents →
       AllLookedOn agents places numbers mosts → ((i : ℕ) → i < length agents → cost (path_of plan i) ≤ number_in mosts i) → time + 1 < 2 ^ 32 → AreNumbered places numbers joint →
       AreAtNumbers plan places time numbers → GoesOnFrom plan terms places numbers joint time
-  goes_from terms places numbers mosts joint time same count sum long looked mosts_are fits numbered at = record {
-    is = subst (λ n. ArePlan terms.rule terms.agents n plan) sum (subst₂ (λ r n. ArePlan r n total plan) same count is.0);
+  goes_from terms places numbers mosts joint time same sum long looked mosts_are fits numbered at = record {
+    is = subst (λ n. ArePlan terms.rule (length places) n plan) sum (subst₂ (λ r n. ArePlan r n total plan) same (sym long) is.0);
     here = here;
     leads = leads;
   }
     where
-      here : AreAt plan terms.agents time joint
+      here : AreAt plan (length places) time joint
       here i h =
-          let a = reads places i (omega (arith, h, long, count)) in
+          let a = reads places i h in
           let x = at i a.0 a.1 in
           let y = numbered i a.0 a.1 in
           subst (StandsAt (path_of plan i) time) (same_place a.0 (number_in numbers i) time y.0 x.0 (place_in joint i) x.1 y.1).0 x.2

@@ -131,13 +131,9 @@ pub record Known : Type 0 where
 abbrev pub IsKnown : Known → List ℕ → Type 0
 IsKnown known numbers = (n : ℕ) × (slice_get known.all n ≡ Some numbers)
 
--- one at which the plan's agents are at this time step is known
-abbrev pub AreAtKnown : List (List ℕ) → List AgentKnown → Known → (time : ℕ) → Type 0
-AreAtKnown plan places known time = (numbers : List ℕ) × IsKnown known numbers × AreAtNumbers plan places time numbers
-
--- or in the list
-abbrev pub AreAtKnownOrIn : List (List ℕ) → List AgentKnown → Known → List (List ℕ) → (time : ℕ) → Type 0
-AreAtKnownOrIn plan places known cheap time = (numbers : List ℕ) × (IsKnown known numbers ⊎ Contains cheap numbers) × AreAtNumbers plan places time numbers
+-- one at which the plan's agents are at this time step is known, or in the list
+abbrev pub AreAtKnown : List (List ℕ) → List AgentKnown → Known → List (List ℕ) → (time : ℕ) → Type 0
+AreAtKnown plan places known more time = (numbers : List ℕ) × (IsKnown known numbers ⊎ Contains more numbers) × AreAtNumbers plan places time numbers
 
 -- nothing is lost, and each new one waits
 pub record Grows (old new : Known) : Type 0 where
@@ -159,11 +155,11 @@ pub record IsGoneOnFrom (plan : List (List ℕ)) (places : List AgentKnown) (kno
   pub joint : List Place
   pub numbered : AreNumbered places numbers joint
   pub away : ¬ AreHome (length places) joint
-  pub next : (time : ℕ) → time < plan_cost plan → AreAtNumbers plan places time numbers → AreAtKnown plan places known (time + 1)
+  pub next : (time : ℕ) → time < plan_cost plan → AreAtNumbers plan places time numbers → AreAtKnown plan places known [] (time + 1)
 
 -- what holds of joint places under way, for one plan: it begins at one of them, and it was gone on from each that doesn't wait
 pub record IsSearched (plan : List (List ℕ)) (places : List AgentKnown) (known : Known) : Type 0 where
-  pub begins : AreAtKnown plan places known 0
+  pub begins : AreAtKnown plan places known [] 0
   pub goes_on : (n : ℕ) (numbers : List ℕ) → slice_get known.all n ≡ Some numbers → Contains known.waiting n ⊎ IsGoneOnFrom plan places known numbers
 
 -- what places cost together
@@ -172,15 +168,15 @@ cost_in joint = sum_by (λ (x : Place). x.cost) joint
 
 -- a plan within the terms goes on from a joint place at a time step by the agents' moves
 pub record GoesOnFrom (plan : List (List ℕ)) (terms : Terms) (places : List AgentKnown) (numbers : List ℕ) (joint : List Place) (time : ℕ) : Type 0 where
-  pub is : ArePlan terms.rule terms.agents terms.total plan
-  pub here : AreAt plan terms.agents time joint
+  pub is : ArePlan terms.rule (length places) terms.total plan
+  pub here : AreAt plan (length places) time joint
   pub leads : LeadOn plan places (time + 1) numbers
 
 -- its first agents have gone on to this joint place by this time step; so much it costs at least, by where the others come from
-pub record HaveGone (plan : List (List ℕ)) (count : ℕ) (places : List AgentKnown) (from : List Place) (to : To) (gone cost_so time : ℕ) : Type 0 where
+pub record HaveGone (plan : List (List ℕ)) (places : List AgentKnown) (from : List Place) (to : To) (gone cost_so time : ℕ) : Type 0 where
   pub there : AreAt plan gone time to.joint
   pub numbered : (i : ℕ) (known : AgentKnown) → i < gone → slice_get places i ≡ Some known → HasNumber known (number_in to.numbers i) (place_in to.joint i) time
-  pub costs : cost_so ≤ sum_by cost (take gone plan) + cost_in (drop gone (take count from))
+  pub costs : cost_so ≤ sum_by cost (take gone plan) + cost_in (drop gone (take (length places) from))
 
 -- the next one goes on by this move
 pub record GoesBy (plan : List (List ℕ)) (places : List AgentKnown) (agent : ℕ) (move : Move) (time : ℕ) : Type 0 where

@@ -11,6 +11,7 @@ mod agent_places;
 mod joint;
 mod joint_places;
 mod place;
+mod place_table;
 mod start;
 mod steps;
 
@@ -23,7 +24,7 @@ use mapf_grid::{Cell, NoMemory};
 use mapf_plan::{MOST_CELLS, Path, Rule};
 use place::Numbers;
 pub(crate) use place::{MOST_TOGETHER, Place};
-use start::begin;
+use start::{begin, first_places};
 use std::alloc::Global;
 use steps::{Terms, go_on};
 
@@ -56,14 +57,10 @@ pub(crate) fn cost_together(
     let mut left = budget;
     let mut terms = Terms {
         rule,
-        agents: agents.len(),
         total: least,
         bound,
     };
-    let mut places = Vec::with_capacity(alloc, agents.len())?;
-    for agent in agents {
-        places.push(AgentPlaces::new(alloc, agent, bound)?)?;
-    }
+    let mut places = first_places(alloc, agents, bound)?;
     while terms.total <= u64::from(bound) {
         match plan_within(alloc, terms, agents, &mut places, &mut left)? {
             Within::Nothing => terms.total += 1,
@@ -90,8 +87,7 @@ fn plan_within(
     places: &mut Vec<AgentPlaces>,
     left: &mut usize,
 ) -> Result<Within, NoMemory>
-    requires agents { terms.agents ≡ length agents.now }
-    requires few { terms.agents ≤ MOST_TOGETHER }
+    requires few { length agents.now ≤ MOST_TOGETHER }
     requires within { terms.total ≤ terms.bound }
     requires places { AreKnownOf agents.now terms.bound places.old.items }
     ensures none { IfOk result (HasNoPlan terms.rule agents.now terms.total) }
@@ -111,7 +107,7 @@ fn plan_within(
         let Some(joint) = joint_of(places, &numbers) else {
             return Ok(Within::Unknown);
         };
-        if are_home(&joint, terms.agents) {
+        if are_home(&joint, agents.len()) {
             return traced(alloc, places, &known, number);
         }
         *left = left.saturating_sub(1);

@@ -1,21 +1,16 @@
-//! The places of an agent, time step by time step, each looked for once.
+//! The places of an agent, time step by time step, each looked for once or a few times.
 
 ghost use Rattle.std.specs.Prelude.{◌≡◌, ℕ, ◌+◌, ◌<◌, ◌≤◌, List, length, slice_get, Contains, IfOk, IfSome, OnOk};
 ghost use Rattle.mapf_optimum.specs.PlaceNumbers.{AreAdded, AreLookedOn, BeginsWithin, GetsMore, GetsPlaces, HasNumber, IsLookedOn, IsMoveFrom};
 
 use super::agent::Agent;
 use super::place::{Look, Move, Place, PlaceAt};
+use super::place_table::{PlaceTable, mixed};
 use mapf_grid::NoMemory;
 use std::alloc::Global;
 use std::marker::Model;
 
-/// How many places the first table has.
-const PLACES: usize = 256;
-
-/// No number.
-const NONE: usize = usize::MAX;
-
-/// Numbered places of an agent at time steps, each once, and for each to which of them it leads at the next time step.
+/// Numbered places of an agent at time steps, each once or a few times, and for each to which of them it leads at the next time step.
 #[derive(Drop)]
 pub(crate) struct AgentPlaces {
     all: Vec<PlaceAt>,
@@ -25,10 +20,8 @@ pub(crate) struct AgentPlaces {
     moves: Vec<Move>,
     /// How many are of time 0.
     first: usize,
-    /// Of each the number of the one before it with the same key.
-    befores: Vec<usize>,
-    /// The number of the last one with each key.
-    table: Vec<usize>,
+    /// Where a place may stand in the list: what is found there is compared.
+    table: PlaceTable,
 }
 
 impl Model for AgentPlaces {
@@ -42,11 +35,6 @@ impl Model for AgentPlaces {
     ghost invariant = { λ k. length k.looks.items ≡ length k.all.items };
 }
 
-/// A number for a place at a time step.
-fn key_of(place: &Place, time: u32) -> usize {
-    place.mixed_into(u64::from(time)) as usize
-}
-
 impl AgentPlaces {
     /// Those of time 0, by paths that cost no more than `most`.
     pub(crate) fn new(alloc: Global, agent: &Agent, most: u32) -> Result<AgentPlaces, NoMemory>
@@ -58,8 +46,7 @@ impl AgentPlaces {
             looks: Vec::new(alloc),
             moves: Vec::new(alloc),
             first: 0,
-            befores: Vec::new(alloc),
-            table: vec![in alloc; NONE; PLACES]?,
+            table: PlaceTable::new(alloc)?,
         };
         let mut firsts = Vec::new(alloc);
         agent.add_first_places(most, &mut firsts)?;
@@ -164,11 +151,7 @@ impl AgentPlaces {
             return Ok(number);
         }
         let number = self.all.len();
-        if number.saturating_mul(2) > self.table.len() {
-            self.grow(alloc)?;
-        }
-        let before = self.put(key, number);
-        self.befores.push(before)?;
+        self.table.add(alloc, key)?;
         self.all.reserve(1)?;
         self.looks.reserve(1)?;
         self.all.push_reserved(PlaceAt {
@@ -184,57 +167,21 @@ impl AgentPlaces {
     }
 
     /// The number of a place at a time step, if it is found.
-    fn find(&self, key: usize, place: &Place, time: u32) -> Option<usize>
+    fn find(&self, key: u64, place: &Place, time: u32) -> Option<usize>
         ensures { IfSome result (λ number. HasNumber self.now number place.now time) }
     {
-        let slot = key & self.table.len().saturating_sub(1);
-        let mut number = *self.table.get(slot)?;
-        for _step in 0..self.all.len() {
-            let known = self.at(number)?;
-            if known.time == time && known.place.is(place) {
-                return Some(number);
-            }
-            number = *self.befores.get(number)?;
+        let number = self.table.find(key)?;
+        let known = self.at(number)?;
+        if known.time == time && known.place.is(place) {
+            return Some(number);
         }
         None
     }
+}
 
-    /// Writes a number into the table, and gives the one that stood there.
-    fn put(&mut self, key: usize, number: usize) -> usize
-        ensures { self.new ≡ self.old }
-    {
-        let slot = key & self.table.len().saturating_sub(1);
-        match self.table.get_mut(slot) {
-            Some(old) => {
-                let before = *old;
-                *old = number;
-                before
-            }
-            None => NONE,
-        }
-    }
-
-    /// Makes the table larger.
-    fn grow(&mut self, alloc: Global) -> Result<(), NoMemory>
-        ensures { OnOk result (self.new ≡ self.old) }
-    {
-        let size = self.table.len().saturating_mul(4);
-        self.table = vec![in alloc; NONE; size]?;
-        for number in 0..self.all.len() {
-            if let Some(known) = self.at(number) {
-                let before = self.put(key_of(&known.place, known.time), number);
-                self.follow(number, before);
-            }
-        }
-        Ok(())
-    }
-
-    /// Writes which one is before it.
-    fn follow(&mut self, number: usize, before: usize)
-        ensures { self.new ≡ self.old }
-    {
-        if let Some(old) = self.befores.get_mut(number) {
-            *old = before;
-        }
-    }
+/// A number for a place at a time step. Others seldom have the same.
+fn key_of(place: &Place, time: u32) -> u64 {
+    let costs = u64::from(time) << 32 | u64::from(place.cost);
+    let is = u64::from(place.cell.number()) * 2 + u64::from(place.is_home);
+    mixed(costs, is)
 }

@@ -22,13 +22,6 @@ impl Place {
     {
         self.cell == other.cell && self.cost == other.cost && self.is_home == other.is_home
     }
-
-    /// A number for it. Others seldom have the same.
-    pub(crate) fn mixed_into(&self, key: u64) -> u64 {
-        let number = u64::from(self.cell.number()) * 2 + u64::from(self.is_home);
-        let mixed = (key.rotate_left(23) ^ number).wrapping_mul(0x9e37_79b9_7f4a_7c15);
-        mixed >> 32
-    }
 }
 
 /// A place at a time step.
@@ -64,17 +57,3 @@ pub(crate) type Joint = [Place; MOST_TOGETHER];
 
 /// For each of some agents the number of its place, the first agent's first.
 pub(crate) type Numbers = [usize; MOST_TOGETHER];
-
-/// The same numbers.
-pub(crate) fn copy_of(numbers: &Numbers) -> Numbers
-    ensures { result ≡ numbers.now }
-{
-    [numbers[0], numbers[1], numbers[2], numbers[3], numbers[4]]
-}
-
-/// The same places.
-pub(crate) fn copy_places(joint: &Joint) -> Joint
-    ensures { result ≡ joint.now }
-{
-    [joint[0], joint[1], joint[2], joint[3], joint[4]]
-}

@@ -1,13 +1,29 @@
 //! Where agents begin together.
 
-ghost use Rattle.std.specs.Prelude.{◌≡◌, ℕ, ◌<◌, ◌≤◌, List, length, IfOk, OnOk};
-ghost use Rattle.mapf_optimum.specs.PlaceNumbers.{AllBegin, AreAtKnown, Grows, HaveBegun, IsSearched, number_in};
+ghost use Rattle.std.specs.Prelude.{◌≡◌, ℕ, [], ◌<◌, ◌≤◌, List, length, IfOk, OnOk};
+ghost use Rattle.mapf_optimum.specs.PlaceNumbers.{AllBegin, AreAtKnown, AreKnownOf, Grows, HaveBegun, IsSearched, number_in};
 
+use super::agent::Agent;
 use super::agent_places::AgentPlaces;
-use super::joint_places::{JointPlaces, NONE};
+use super::joint_places::JointPlaces;
 use super::place::{MOST_TOGETHER, Numbers};
 use mapf_grid::NoMemory;
 use std::alloc::Global;
+
+/// The places of each agent at time 0, by paths that cost no more than the bound.
+pub(crate) fn first_places(
+    alloc: Global,
+    agents: &[Agent],
+    bound: u32,
+) -> Result<Vec<AgentPlaces>, NoMemory>
+    ensures { IfOk result (λ places. AreKnownOf agents.now bound places.items) }
+{
+    let mut places = Vec::with_capacity(alloc, agents.len())?;
+    for agent in agents {
+        places.push(AgentPlaces::new(alloc, agent, bound)?)?;
+    }
+    Ok(places)
+}
 
 /// Adds the joint places at time 0, in which this agent and those after it are each at one of their places.
 fn add_first(
@@ -22,10 +38,10 @@ fn add_first(
     ensures grows { OnOk result (Grows known.old known.new) }
     ensures same { OnOk result ((i : ℕ) → i < agent → number_in numbers.new i ≡ number_in numbers.old i) }
     ensures has { OnOk result ((plan : List (List ℕ)) → HaveBegun plan places.now agent numbers.old → AllBegin plan places.now
-        → AreAtKnown plan places.now known.new 0) }
+        → AreAtKnown plan places.now known.new [] 0) }
 {
     if agent == places.len() {
-        return known.add(alloc, numbers, NONE);
+        return known.add(alloc, numbers, None);
     }
     for number in 0..places[agent].first() {
         numbers[agent] = number;

@@ -1,24 +1,23 @@
 //! One time step of some agents together.
 
-ghost use Rattle.std.specs.Prelude.{◌≡◌, ◌⊎◌, ℕ, ◌+◌, ◌<◌, ◌≤◌, List, length, Contains, IsTrue, OnOk};
+ghost use Rattle.std.specs.Prelude.{◌≡◌, ◌⊎◌, ℕ, [], ◌+◌, ◌<◌, ◌≤◌, List, length, Contains, IsTrue, OnOk};
 ghost use Rattle.mapf_optimum.specs.declared.together.place.Place.{Place};
 ghost use Rattle.mapf_plan.specs.Plan.{path_of};
 ghost use Rattle.mapf_optimum.specs.Together.{AreAt, ArePlan, StandsAt, place_in};
-ghost use Rattle.mapf_optimum.specs.PlaceNumbers.{AreAtKnown, AreAtKnownOrIn, AreSame, GoesBy, GoesOnFrom, Grows, HaveGone, IsKnown};
+ghost use Rattle.mapf_optimum.specs.PlaceNumbers.{AreAtKnown, AreSame, GoesBy, GoesOnFrom, Grows, HaveGone, IsKnown};
 
 use super::agent_places::AgentPlaces;
 use super::joint::cost_of;
 use super::joint_places::JointPlaces;
-use super::place::{Joint, MOST_TOGETHER, Move, Numbers, Place, copy_of, copy_places};
+use super::place::{Joint, MOST_TOGETHER, Move, Numbers, Place};
 use mapf_grid::NoMemory;
 use mapf_plan::{Rule, do_steps_collide};
 use std::alloc::Global;
 
-/// By which rule so many agents collide, and what they may cost together: so much now, and never more than the bound.
+/// By which rule agents collide, and what they may cost together: so much now, and never more than the bound.
 #[derive(Clone, Copy)]
 pub(crate) struct Terms {
     pub(crate) rule: Rule,
-    pub(crate) agents: usize,
     pub(crate) total: u64,
     pub(crate) bound: u32,
 }
@@ -31,8 +30,8 @@ pub(crate) struct From<'a> {
     pub(crate) places: &'a [AgentPlaces],
     /// The number of the joint place.
     pub(crate) number: usize,
-    pub(crate) numbers: Numbers,
-    pub(crate) joint: Joint,
+    pub(crate) numbers: &'a Numbers,
+    pub(crate) joint: &'a Joint,
     /// What a plan costs at least in which they are there.
     pub(crate) cost: u64,
 }
@@ -77,16 +76,15 @@ fn add_from(
     known: &mut JointPlaces,
     cheap: &mut Vec<Numbers>,
 ) -> Result<(), NoMemory>
-    requires agent { agent < from.now.terms.agents }
-    requires few { from.now.terms.agents ≤ MOST_TOGETHER }
-    requires places { length from.now.places.now ≡ from.now.terms.agents }
+    requires agent { agent < length from.now.places.now }
+    requires few { length from.now.places.now ≤ MOST_TOGETHER }
     ensures grows { OnOk result (Grows known.old known.new) }
     ensures keeps { OnOk result ((x : List ℕ) → Contains cheap.old.items x → Contains cheap.new.items x) }
     ensures same { OnOk result (AreSame agent to.old to.new) }
     ensures adds { OnOk result ((plan : List (List ℕ)) (time : ℕ) →
-        GoesOnFrom plan from.now.terms from.now.places.now from.now.numbers from.now.joint time
-        → HaveGone plan from.now.terms.agents from.now.places.now from.now.joint to.old agent cost (time + 1)
-        → AreAtKnownOrIn plan from.now.places.now known.new cheap.new.items (time + 1)) }
+        GoesOnFrom plan from.now.terms from.now.places.now from.now.numbers.now from.now.joint.now time
+        → HaveGone plan from.now.places.now from.now.joint.now to.old agent cost (time + 1)
+        → AreAtKnown plan from.now.places.now known.new cheap.new.items (time + 1)) }
 {
     for next in from.places[agent].moves(from.numbers[agent]) {
         add_by(alloc, from, to, agent, cost, next, known, cheap)?;
@@ -106,28 +104,27 @@ fn add_by(
     known: &mut JointPlaces,
     cheap: &mut Vec<Numbers>,
 ) -> Result<(), NoMemory>
-    requires agent { agent < from.now.terms.agents }
-    requires few { from.now.terms.agents ≤ MOST_TOGETHER }
-    requires places { length from.now.places.now ≡ from.now.terms.agents }
+    requires agent { agent < length from.now.places.now }
+    requires few { length from.now.places.now ≤ MOST_TOGETHER }
     ensures grows { OnOk result (Grows known.old known.new) }
     ensures keeps { OnOk result ((x : List ℕ) → Contains cheap.old.items x → Contains cheap.new.items x) }
     ensures same { OnOk result (AreSame agent to.old to.new) }
     ensures adds { OnOk result ((plan : List (List ℕ)) (time : ℕ) →
-        GoesOnFrom plan from.now.terms from.now.places.now from.now.numbers from.now.joint time
-        → HaveGone plan from.now.terms.agents from.now.places.now from.now.joint to.old agent cost (time + 1)
+        GoesOnFrom plan from.now.terms from.now.places.now from.now.numbers.now from.now.joint.now time
+        → HaveGone plan from.now.places.now from.now.joint.now to.old agent cost (time + 1)
         → GoesBy plan from.now.places.now agent next.now (time + 1)
-        → AreAtKnownOrIn plan from.now.places.now known.new cheap.new.items (time + 1)) }
+        → AreAtKnown plan from.now.places.now known.new cheap.new.items (time + 1)) }
 {
-    let sum = cost_by(cost, &from.joint, agent, &next.place);
+    let sum = cost_by(cost, from.joint, agent, &next.place);
     if sum > from.terms.total {
         return Ok(());
     }
-    if !is_apart(from.terms.rule, &from.joint, &to.joint, agent, &next.place) {
+    if !is_apart(from.terms.rule, from.joint, &to.joint, agent, &next.place) {
         return Ok(());
     }
     to.joint[agent] = next.place;
     to.numbers[agent] = next.number;
-    if agent + 1 < from.terms.agents {
+    if agent + 1 < from.places.len() {
         add_from(alloc, from, to, agent + 1, sum, known, cheap)
     } else {
         add(alloc, from, to, sum, known, cheap)
@@ -157,9 +154,9 @@ fn add(
     ensures has { OnOk result (IsKnown known.new to.now.numbers ⊎ Contains cheap.new.items to.now.numbers) }
 {
     if cost > from.cost {
-        return known.add(alloc, &to.numbers, from.number);
+        return known.add(alloc, &to.numbers, Some(from.number));
     }
-    cheap.push(copy_of(&to.numbers))?;
+    cheap.push(to.numbers)?;
     Ok(())
 }
 
@@ -174,24 +171,23 @@ pub(crate) fn go_on(
     known: &mut JointPlaces,
     cheap: &mut Vec<Numbers>,
 ) -> Result<(), NoMemory>
-    requires some { 0 < terms.agents }
-    requires few { terms.agents ≤ MOST_TOGETHER }
-    requires places { length places.now ≡ terms.agents }
+    requires some { 0 < length places.now }
+    requires few { length places.now ≤ MOST_TOGETHER }
     ensures grows { OnOk result (Grows known.old known.new) }
     ensures next { OnOk result ((plan : List (List ℕ)) (time : ℕ) → GoesOnFrom plan terms places.now numbers.now joint.now time
-        → AreAtKnown plan places.now known.new (time + 1)) }
+        → AreAtKnown plan places.now known.new [] (time + 1)) }
 {
-    let cost = cost_of(joint, terms.agents);
+    let cost = cost_of(joint, places.len());
     let mut to = To {
-        numbers: copy_of(numbers),
-        joint: copy_places(joint),
+        numbers: [0; MOST_TOGETHER],
+        joint: [Place::default(); MOST_TOGETHER],
     };
     let from = From {
         terms,
         places,
         number,
-        numbers: copy_of(numbers),
-        joint: copy_places(joint),
+        numbers,
+        joint,
         cost,
     };
     cheap.clear();
@@ -210,7 +206,7 @@ fn add_all(
     ensures has { OnOk result ((x : List ℕ) → Contains joints.now x → IsKnown known.new x) }
 {
     for joint in joints {
-        known.add(alloc, joint, before)?;
+        known.add(alloc, joint, Some(before))?;
     }
     Ok(())
 }

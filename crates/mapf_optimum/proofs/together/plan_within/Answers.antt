@@ -1,4 +1,4 @@
-use Rattle.std.proofs.Common.{◌+◌, List, length, arith, refl, sym, subst, ◌∙◌}
+use Rattle.std.proofs.Common.{◌+◌, List, [], length, arith, refl, sym, subst, ◌∙◌}
 use Rattle.std.proofs.lemmas.Bool.{false≢true}
 use Rattle.mapf_optimum.specs.PlaceNumbers.{AgentKnown, AllBegin, AreAtKnown, AreHome, AreNumbered, GoesOnFrom, IsSearched, IsTakenFrom}
 use Rattle.mapf_optimum.proofs.JointSearch.{turn, no_plan, numbered_still}
@@ -30,9 +30,9 @@ loop-joint-preserved c = record {
       (subst (λ o. IsTakenFrom c.loop-joint.known o c.take.new.self) c.in-Some.is c.take.ensures)
       (sym c.at.ensures ∙ c.in-Some-at.is) numbered away c.in_ok-go_on.ensures.grows
       (λ time l at.
-      subst (λ p. AreAtKnown plan p c.go_on.new.known (time + 1)) c.deref-in-loop-joint-2.ensures.value
+      subst (λ p. AreAtKnown plan p c.go_on.new.known [] (time + 1)) c.deref-in-loop-joint-2.ensures.value
       (c.in_ok-go_on.ensures.next plan time (subst (λ p. GoesOnFrom plan c.args.terms p c.in-Some-at.numbers c.in-Some-joint_of.joint time) (sym c.deref-in-loop-joint-2.ensures.value)
-      (goes_from c.args.terms.rule c.args.agents.now c.args.terms.total plan is c.args.terms after c.in-Some-at.numbers c.mosts_within-mosts.result c.in-Some-joint_of.joint time refl (sym c.requires.agents) refl
+      (goes_from c.args.terms.rule c.args.agents.now c.args.terms.total plan is c.args.terms after c.in-Some-at.numbers c.mosts_within-mosts.result c.in-Some-joint_of.joint time refl refl
       (c.in_ok-look_on.ensures.more.each ∙ c.loop-joint.invariant.places.each) c.in_ok-look_on.ensures.there (c.mosts_within-mosts.ensures c.args.terms.rule plan is)
       (omega (arith, l, is.0.within, c.requires.within)) (numbered_still plan before after c.in_ok-look_on.ensures.more c.in-Some-at.numbers c.in-Some-joint_of.joint numbered) at))));
 }
@@ -47,4 +47,4 @@ loop-joint-preserved c = record {
     numbered = subst (λ p. AreNumbered p c.in-Some-at.numbers c.in-Some-joint_of.joint) c.deref-in-loop-joint.ensures.value c.in-Some-joint_of.ensures
 
     away : ¬ AreHome (length before) c.in-Some-joint_of.joint
-    away h = false≢true (sym c.if-are_home.false ∙ c.are_home.ensures (subst (λ n. AreHome n c.in-Some-joint_of.joint) (c.loop-joint.invariant.places.each ∙ sym c.requires.agents) h))
+    away h = false≢true (sym c.if-are_home.false ∙ c.are_home.ensures (subst (λ n. AreHome n c.in-Some-joint_of.joint) c.loop-joint.invariant.places.each h))

@@ -1,4 +1,4 @@
-use Rattle.std.proofs.Common.{rules, ◌≡◌, ℕ, ◌<◌, List, length, set, Some, refl, subst, subst₂, sym, ap, ◌∙◌, ⊎_elim, arith, below_more}
+use Rattle.std.proofs.Common.{rules, ◌≡◌, ℕ, ◌<◌, List, [], length, inl, set, Some, refl, subst, subst₂, sym, ap, ◌∙◌, ⊎_elim, arith, below_more}
 use Rattle.std.specs.Prelude.{slice_get}
 use Rattle.std.proofs.lemmas.Bool.{cases_lt}
 use Rattle.std.proofs.lemmas.List.{get_or-set_same, get_or-set_other}
@@ -6,7 +6,8 @@ use Rattle.std.proofs.lemmas.Option.{slice_get_read, slice_get_within, same_Some
 use Rattle.std.proofs.lemmas.Result.{on_ok_weaker}
 use Rattle.mapf_plan.specs.Plan.{path_of}
 use Rattle.mapf_optimum.specs.PlaceNumbers.{AgentKnown, AreAtKnown, IsAtNumber, number_in}
-use Rattle.mapf_optimum.proofs.JointLists.{grows_none, grows_both, still_known}
+use Rattle.mapf_optimum.proofs.Goings.{at_known_still}
+use Rattle.mapf_optimum.proofs.JointLists.{grows_none, grows_both}
 use Rattle.mapf_optimum.proofs.together.start.+add_first.Goals as goal
 
 pub returns-then-agent-places-clause-has : goal.returns-then-agent-places-clause-has
@@ -14,7 +15,7 @@ returns-then-agent-places-clause-has t c =
     on_ok_weaker c.add.result
     (λ has plan begun begins. (
       c.args.numbers.now,
-      has,
+      inl has,
       λ i known is.
           let l : i < length c.args.places.now = slice_get_within c.args.places.now i known is in
           begun i known (omega (arith, l, c.if-agent-places.true)) is,
@@ -28,10 +29,9 @@ pub loop-number-preserved : goal.loop-number-preserved
 loop-number-preserved t c = record {
   grows = grows_both c.args.known.now c.loop-number.known c.add_first.new.known c.loop-number.invariant.grows c.in_ok-add_first.ensures.grows;
   same = λ i l. c.in_ok-add_first.ensures.same i (omega (arith, l)) ∙ other i l;
-  has = λ plan begun begins known is. below_more (λ n. IsAtNumber known (path_of plan agent) 0 n → AreAtKnown plan c.args.places.now c.add_first.new.known 0) c.loop-number.number
+  has = λ plan begun begins known is. below_more (λ n. IsAtNumber known (path_of plan agent) 0 n → AreAtKnown plan c.args.places.now c.add_first.new.known [] 0) c.loop-number.number
       (λ n l at.
-      let before = c.loop-number.invariant.has plan begun begins known is n l at in
-      (before.0, still_known c.loop-number.known c.add_first.new.known before.0 c.in_ok-add_first.ensures.grows before.1, before.2))
+      at_known_still plan c.args.places.now c.loop-number.known c.add_first.new.known [] [] 0 c.in_ok-add_first.ensures.grows (λ x i. i) (c.loop-number.invariant.has plan begun begins known is n l at))
       (λ at. c.in_ok-add_first.ensures.has plan
       (λ i k l there. ⊎_elim
       (λ h. subst (λ n. IsAtNumber k (path_of plan i) 0 n) (sym (other i h)) (begun i k h there))
