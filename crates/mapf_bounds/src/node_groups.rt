@@ -81,7 +81,8 @@ fn dear_groups(
     for place in 0..groups.len() {
         let group = &groups[groups.len() - 1 - place];
         if group.surplus(costs) > 0 {
-            put(&mut kept, copy_of(alloc, group)?, costs)?;
+            let copy = GroupBound::of(alloc, &group.agents, group.least, false)?;
+            put(&mut kept, copy, costs)?;
         }
     }
     Ok(kept)
@@ -104,18 +105,6 @@ pub(crate) fn with_new(
         put(&mut all, group, costs)?;
     }
     Ok(Arc::new(alloc, all)?)
-}
-
-/// The same group, without a plan.
-fn copy_of(alloc: Global, group: &GroupBound) -> Result<GroupBound, NoMemory>
-    ensures agents { IfOk result (λ copy. copy.agents.items ≡ group.now.agents.items) }
-    ensures least { IfOk result (λ copy. copy.least ≡ group.now.least) }
-{
-    Ok(GroupBound {
-        agents: Vec::from_slice(alloc, &group.agents)?,
-        least: group.least,
-        is_solved: false,
-    })
 }
 
 /// Puts a group in before those that cost at least so much more than their agents alone as it does.

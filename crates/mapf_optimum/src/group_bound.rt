@@ -20,6 +20,23 @@ pub struct GroupBound {
 }
 
 impl GroupBound {
+    /// These agents, of rising numbers, and what they cost at least.
+    pub fn of(
+        alloc: Global,
+        agents: &[usize],
+        least: u64,
+        is_solved: bool,
+    ) -> Result<GroupBound, NoMemory>
+        ensures agents { IfOk result (λ group. group.agents.items ≡ agents.now) }
+        ensures least { IfOk result (λ group. group.least ≡ least) }
+    {
+        Ok(GroupBound {
+            agents: Vec::from_slice(alloc, agents)?,
+            least,
+            is_solved,
+        })
+    }
+
     /// How much more they cost at least than each alone, where each agent costs so much alone.
     pub fn surplus(&self, costs: &[u32]) -> u64
         ensures { result ≡ surplus costs.now self.now }
@@ -139,7 +156,7 @@ pub(crate) fn unsolved_with(
     let mut kept = Vec::new(alloc);
     for group in groups {
         let is_solved = group.is_solved && !group.agents.contains(&agent);
-        kept.push(copy_of(alloc, group, is_solved)?)?;
+        kept.push(GroupBound::of(alloc, &group.agents, group.least, is_solved)?)?;
     }
     Ok(kept)
 }
@@ -157,22 +174,11 @@ pub(crate) fn groups_without(
     for group in groups {
         let is_within = group.agents.iter().all(|agent| agents.contains(agent));
         if !is_within || !is_shown && group.agents.len() < agents.len() {
-            kept.push(copy_of(alloc, group, group.is_solved)?)?;
+            let is_solved = group.is_solved;
+            kept.push(GroupBound::of(alloc, &group.agents, group.least, is_solved)?)?;
         }
     }
     Ok(kept)
-}
-
-/// The same group, solved or not.
-fn copy_of(alloc: Global, group: &GroupBound, is_solved: bool) -> Result<GroupBound, NoMemory>
-    ensures agents { IfOk result (λ copy. copy.agents.items ≡ group.now.agents.items) }
-    ensures least { IfOk result (λ copy. copy.least ≡ group.now.least) }
-{
-    Ok(GroupBound {
-        agents: Vec::from_slice(alloc, &group.agents)?,
-        least: group.least,
-        is_solved,
-    })
 }
 
 /// The agents of the solved groups that this agent is in.

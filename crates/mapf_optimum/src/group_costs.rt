@@ -1,15 +1,17 @@
 //! What groups of agents cost together, by what they are forbidden: each is searched once, as long as it is remembered.
 
-ghost use Rattle.std.specs.Prelude.{◌≡◌, [], Contains, IfOk, IfSome, IsTrue};
-ghost use Rattle.std.specs.List.{AllByRecursion};
+ghost use Rattle.std.specs.Prelude.{◌≡◌, [], Contains, IfOk, IfSome};
 ghost use Rattle.mapf_optimum.specs.FreeTree.{IsLowerBoundOf};
-ghost use Rattle.mapf_optimum.specs.Groups.{AreKnown, AreWithin, alone, part_of};
+ghost use Rattle.mapf_optimum.specs.Groups.{AreKnown, alone, part_of};
 ghost use Rattle.mapf_optimum.specs.declared.group_costs.KnownGroup.{KnownGroup};
+
+mod comparing;
 
 use crate::agents::{copy_paths, copy_sets};
 use crate::part::Part;
+use comparing::{are_same_agents, are_same_sets, are_within};
 use mapf_grid::NoMemory;
-use mapf_low::{Constraint, Constraints};
+use mapf_low::Constraints;
 use mapf_plan::Path;
 use std::alloc::Global;
 use std::collections::HashMap;
@@ -209,64 +211,12 @@ fn least_if_fewer(known: &KnownGroup, part: &Part<'_, '_>, sets: &[Constraints])
     known.least
 }
 
-/// Whether the constraints of each of these sets are among those of the other ones.
-fn are_within(few: &[Constraints], more: &[Constraints]) -> bool
-    ensures { IsTrue result → AreWithin few.now more.now }
-{
-    if few.len() != more.len() {
-        return false;
-    }
-    for place in 0..few.len() {
-        if !is_within(few[place].as_slice(), more[place].as_slice()) {
-            return false;
-        }
-    }
-    true
-}
-
-/// Whether these constraints are among the other ones.
-fn is_within(few: &[Constraint], more: &[Constraint]) -> bool
-    ensures { IsTrue result → AllByRecursion (Contains more.now) few.now }
-{
-    if few.len() > more.len() {
-        return false;
-    }
-    for constraint in few {
-        if !more.contains(constraint) {
-            return false;
-        }
-    }
-    true
-}
-
 /// Equal paths, if there are some.
 fn copy_plan(alloc: Global, plan: &Option<Vec<Path>>) -> Result<Option<Vec<Path>>, NoMemory> {
     match plan {
         Some(paths) => Ok(Some(copy_paths(alloc, paths)?)),
         None => Ok(None),
     }
-}
-
-/// Whether two lists of agents are one.
-fn are_same_agents(one: &[usize], other: &[usize]) -> bool
-    ensures { IsTrue result → one.now ≡ other.now }
-{
-    one == other
-}
-
-/// Whether two lists of sets are one.
-fn are_same_sets(one: &[Constraints], other: &[Constraints]) -> bool
-    ensures { IsTrue result → one.now ≡ other.now }
-{
-    if one.len() != other.len() {
-        return false;
-    }
-    for place in 0..one.len() {
-        if !one[place].is_same(&other[place]) {
-            return false;
-        }
-    }
-    true
 }
 
 /// A number for agents under sets. Others seldom have the same.

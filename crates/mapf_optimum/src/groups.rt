@@ -93,10 +93,7 @@ fn look_for(
                 return shown_by(alloc, node);
             };
             if guide.left == 0 {
-                return Ok(Found {
-                    least: node.label(),
-                    plan: None,
-                });
+                return Ok(given_up(&node));
             }
             guide.left = guide.left.saturating_sub(1);
             expand(alloc, part, &node, &conflict, &mut waiting)?;
@@ -105,11 +102,18 @@ fn look_for(
         }
     }
     match waiting.take_least() {
-        Some(node) => Ok(Found {
-            least: node.label(),
-            plan: None,
-        }),
+        Some(node) => Ok(given_up(&node)),
         None => Ok(nothing(part)),
+    }
+}
+
+/// No plan was found, and none costs less than the label.
+fn given_up(node: &FreeNode) -> Found
+    ensures { result.least ≡ node.now.label }
+{
+    Found {
+        least: node.label(),
+        plan: None,
     }
 }
 

@@ -6,8 +6,8 @@ ghost use Rattle.mapf_plan.specs.Plan.{path_of};
 ghost use Rattle.mapf_optimum.specs.FreeTree.{AreLeastCosts, HaveAllowedPaths};
 ghost use Rattle.mapf_optimum.specs.Groups.{alone};
 
+use crate::allowed::is_allowed;
 use crate::part::Part;
-use crate::settling::accept;
 use mapf_grid::NoMemory;
 use mapf_low::Constraints;
 use mapf_plan::Path;
@@ -67,4 +67,23 @@ pub(crate) fn adopt(
         }
     }
     is_solved
+}
+
+/// The agent takes the path, if it may, and then it says so.
+pub(crate) fn accept(
+    part: &Part<'_, '_>,
+    sets: &[Constraints],
+    paths: &mut Vec<Path>,
+    agent: usize,
+    path: Path,
+) -> bool
+    requires sets { length sets.now ≡ length (alone part.now).inst.starts }
+    requires paths { HaveAllowedPaths (alone part.now) sets.now paths.old.items }
+    ensures { HaveAllowedPaths (alone part.now) sets.now paths.new.items }
+{
+    if agent >= sets.len() || !is_allowed(part, agent, &sets[agent], &path) {
+        return false;
+    }
+    paths[agent] = path;
+    true
 }

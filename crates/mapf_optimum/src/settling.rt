@@ -4,11 +4,11 @@ ghost use Rattle.std.specs.Prelude.{◌≡◌, ◌<◌, length, IfOk, OnOk};
 ghost use Rattle.mapf_optimum.specs.FreeTree.{HaveAllowedPaths};
 ghost use Rattle.mapf_optimum.specs.Groups.{alone};
 
-use crate::allowed::is_allowed;
 use crate::group_bound::GroupBound;
 use crate::guesses::{
     Occupancy, add_conflicts, are_better, conflicts_without, hide, partners, show,
 };
+use crate::other_paths::accept;
 use crate::part::{Part, all_below};
 use mapf_grid::NoMemory;
 use mapf_low::Constraints;
@@ -202,25 +202,6 @@ fn proposed(
     let stands = part.agent(agent, &sets[agent], cost);
     let key = sets[agent].mixed_into(u64::from(cost) << 16 | *number as u64);
     occupancy.few_conflicts(alloc, key, &stands, part.agents())
-}
-
-/// The agent takes the path, if it may, and then it says so.
-pub(crate) fn accept(
-    part: &Part<'_, '_>,
-    sets: &[Constraints],
-    paths: &mut Vec<Path>,
-    agent: usize,
-    path: Path,
-) -> bool
-    requires sets { length sets.now ≡ length (alone part.now).inst.starts }
-    requires paths { HaveAllowedPaths (alone part.now) sets.now paths.old.items }
-    ensures { HaveAllowedPaths (alone part.now) sets.now paths.new.items }
-{
-    if agent >= sets.len() || !is_allowed(part, agent, &sets[agent], &path) {
-        return false;
-    }
-    paths[agent] = path;
-    true
 }
 
 /// The agent takes another path of the same cost, if it has fewer conflicts by that and no more with its group, and then it says so.

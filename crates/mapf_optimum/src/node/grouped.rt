@@ -1,19 +1,16 @@
 //! Nodes whose agents are asked for in groups.
 
-ghost use Rattle.std.specs.Prelude.{◌≡◌, ℕ, ◌+◌, ◌<◌, ◌≤◌, true, length, sum_by, IfOk, IfSome, IsTrue};
-ghost use Rattle.mapf_plan.specs.Plan.{plan_cost};
+ghost use Rattle.std.specs.Prelude.{◌<◌, ◌≤◌, length, IfOk, IfSome};
 ghost use Rattle.mapf_optimum.specs.FreeTree.{HaveAllowedPaths, IsFreeNode, IsGroup, IsGroupBound, IsLowerBoundOf, paths_in};
-ghost use Rattle.mapf_optimum.specs.FreeSearch.{IsBounded, IsFreshNode, IsSame};
-ghost use Rattle.mapf_optimum.specs.Groups.{AreGroups, IsBoundBy, alone, costs_in, sets_in};
+ghost use Rattle.mapf_optimum.specs.FreeSearch.{IsFreshNode, IsSame};
+ghost use Rattle.mapf_optimum.specs.Groups.{alone, costs_in, sets_in};
 
 use super::FreeNode;
 use crate::agents::{copy_paths, some_costs, some_paths, some_sets};
-use crate::group_bound::{GroupBound, are_group, groups_without, least_of_groups};
+use crate::group_bound::{GroupBound, are_group, groups_without};
 use crate::group_costs::Found;
-use crate::guesses::{
-    Occupancy, colliding_pairs, conflicts_again, conflicts_among, hints_in, next_group,
-};
-use crate::other_paths::{adopt, take_least_paths};
+use crate::guesses::{Occupancy, conflicts_again, conflicts_among, hints_in, next_group};
+use crate::other_paths::adopt;
 use crate::part::Part;
 use crate::settling::{settle, settle_each, settle_partners};
 use crate::together::{MOST_TOGETHER, cost_together};
@@ -157,11 +154,7 @@ impl FreeNode {
         let mut paths = copy_paths(alloc, self.plan.paths())?;
         let is_solved = adopt(part, &self.sets, agents, found.plan, &mut paths);
         let mut groups = groups_without(alloc, &self.groups, agents, is_solved)?;
-        groups.push(GroupBound {
-            agents: Vec::from_slice(alloc, agents)?,
-            least: found.least,
-            is_solved,
-        })?;
+        groups.push(GroupBound::of(alloc, agents, found.least, is_solved)?)?;
         let mut conflicts = conflicts_again(
             alloc,
             part,
@@ -171,14 +164,13 @@ impl FreeNode {
             occupancy,
         )?;
         if is_solved {
-            let new = Vec::from_slice(alloc, agents)?;
             settle_partners(
                 alloc,
                 part,
                 &self.sets,
                 &mut paths,
                 &groups,
-                new,
+                Vec::from_slice(alloc, agents)?,
                 &mut conflicts,
                 occupancy,
             )?;
@@ -186,32 +178,6 @@ impl FreeNode {
         let mut node = self.showing(part, paths, conflicts);
         node.groups = groups;
         Ok((node, is_solved))
-    }
-
-    /// The node with the label that its groups give; none where that is over the bound.
-    pub(crate) fn finished(
-        self,
-        alloc: Global,
-        part: &Part<'_, '_>,
-        occupancy: &mut Occupancy,
-    ) -> Result<Option<FreeNode>, NoMemory>
-        requires { IsFreeNode (alone part.now) self }
-        ensures { IfOk result (IsBounded (alone part.now) self) }
-    {
-        let least = self.least(alloc)?;
-        if least > u64::from(part.bound()) {
-            return Ok(None);
-        }
-        let node = self.raised(part, least);
-        Ok(Some(node.bounded(alloc, part, occupancy)?))
-    }
-
-    /// What each valid plan costs at least that obeys the sets, by what least paths and groups cost.
-    pub(super) fn least(&self, alloc: Global) -> Result<u64, NoMemory>
-        requires { AreGroups (length self.now.costs) self.now.groups }
-        ensures { IfOk result (IsBoundBy self.now.costs self.now.groups) }
-    {
-        least_of_groups(alloc, &self.costs, &self.groups)
     }
 
     /// From how many joint places its agents go on, at most, where they are looked at together.
@@ -247,50 +213,5 @@ impl FreeNode {
             part.bound(),
             budget,
         )
-    }
-
-    /// The node whose label was found from its groups: where its plan costs more than the label, it shows least paths instead.
-    fn bounded(
-        self,
-        alloc: Global,
-        part: &Part<'_, '_>,
-        occupancy: &mut Occupancy,
-    ) -> Result<FreeNode, NoMemory>
-        requires { IsFreeNode (alone part.now) self }
-        ensures same { IfOk result (IsSame (alone part.now) self) }
-        ensures bounded { IfOk result (λ node. node.is_bounded ≡ true) }
-    {
-        let mut node = self;
-        if node.plan.cost() > node.label {
-            node = node.with_least_paths(alloc, part, occupancy)?;
-        }
-        node.collisions = colliding_pairs(&node.conflicts);
-        node.changed = None;
-        node.is_known = false;
-        node.hints = Vec::new(alloc);
-        node.is_bounded = true;
-        Ok(node)
-    }
-
-    /// The node that shows least paths.
-    fn with_least_paths(
-        self,
-        alloc: Global,
-        part: &Part<'_, '_>,
-        occupancy: &mut Occupancy,
-    ) -> Result<FreeNode, NoMemory>
-        requires { IsFreeNode (alone part.now) self }
-        ensures same { IfOk result (IsSame (alone part.now) self) }
-        ensures label { IfOk result (λ node. node.label ≡ self.label) }
-        ensures least { IfOk result (λ node. plan_cost node.plan ≤ node.label) }
-    {
-        let mut paths = copy_paths(alloc, self.plan.paths())?;
-        let new = take_least_paths(alloc, part, &self.sets, &self.costs, &mut paths)?;
-        let conflicts = conflicts_again(alloc, part, &new, &paths, &self.conflicts, occupancy)?;
-        let mut node = self;
-        node.plan = Plan::of(paths);
-        node.conflicts = conflicts;
-        node.is_bounded = false;
-        Ok(node)
     }
 }

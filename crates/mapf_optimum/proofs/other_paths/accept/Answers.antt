@@ -1,7 +1,7 @@
 use Rattle.std.proofs.Common.{◌<◌, arith, length, refl}
 use Rattle.mapf_optimum.specs.Groups.{alone}
 use Rattle.mapf_optimum.proofs.Taking.{takes_read}
-use Rattle.mapf_optimum.proofs.settling.accept.Goals as goal
+use Rattle.mapf_optimum.proofs.other_paths.accept.Goals as goal
 
 pub returns : goal.returns
 returns c =
