@@ -16,9 +16,9 @@ use Rattle.mapf_tree.proofs.Plans.{same_plan}
 use Rattle.mapf_tree.proofs.Unique.{same_node, same_turns}
 use Rattle.mapf_bounds.specs.Below.{IsBelow}
 use Rattle.mapf_bounds.specs.Bounds.{IsOfTree}
-use Rattle.mapf_bounds.specs.declared.bound.Bound.{Bound}
+use Rattle.mapf_bounds.specs.declared.lower_bound.LowerBound.{LowerBound}
 use Rattle.mapf_bounds.specs.Groups.{AreKnownAt}
-use Rattle.mapf_bounds.specs.Waiting.{Waiting, IsKeyOf, HasEntryFor, AreKeyed, key_cmp, bound_key, IsAdmitted}
+use Rattle.mapf_bounds.specs.Waiting.{WaitingNode, IsKeyOf, HasEntryFor, AreKeyed, key_cmp, bound_key, IsAdmitted}
 use Rattle.mapf_plan.specs.Plan.{plan_cost}
 
 cmp_less : (a b : ℕ) → a < b → nat_cmp a b ≡ Less
@@ -65,13 +65,13 @@ same_key a b h =
     λ i. record { cost = costs i; depth = depths i; name = names i }
 
 -- the entry (k, n) among others: put between them, or in the place of one with the same key
-pub data Puts (k : Key) (n : Waiting) : List (Key × Waiting) → List (Key × Waiting) → Type 0 where
-  added : {es : List (Key × Waiting)} → Puts k n es ((k, n) ∷ es)
-  replaced : {e : Key × Waiting} {es : List (Key × Waiting)} → k ≡ e.0 → Puts k n (e ∷ es) ((e.0, n) ∷ es)
-  later : {e : Key × Waiting} {es new : List (Key × Waiting)} → Puts k n es new → Puts k n (e ∷ es) (e ∷ new)
+pub data Puts (k : Key) (n : WaitingNode) : List (Key × WaitingNode) → List (Key × WaitingNode) → Type 0 where
+  added : {es : List (Key × WaitingNode)} → Puts k n es ((k, n) ∷ es)
+  replaced : {e : Key × WaitingNode} {es : List (Key × WaitingNode)} → k ≡ e.0 → Puts k n (e ∷ es) ((e.0, n) ∷ es)
+  later : {e : Key × WaitingNode} {es new : List (Key × WaitingNode)} → Puts k n es new → Puts k n (e ∷ es) (e ∷ new)
 
 -- a map puts it so
-pub puts : (k : Key) (n : Waiting) (es : List (Key × Waiting)) → Puts k n es (insert_entry key_cmp es k n)
+pub puts : (k : Key) (n : WaitingNode) (es : List (Key × WaitingNode)) → Puts k n es (insert_entry key_cmp es k n)
 puts k n [] = added
 puts k n (e ∷ es) = by (puts k n es) (key_cmp k e.0) refl
   where
@@ -81,20 +81,20 @@ puts k n (e ∷ es) = by (puts k n es) (key_cmp k e.0) refl
     by ih Greater h = later ih
 
 -- it is there
-put_in : (k : Key) (n : Waiting) (es new : List (Key × Waiting)) → Puts k n es new → Contains new (k, n)
+put_in : (k : Key) (n : WaitingNode) (es new : List (Key × WaitingNode)) → Puts k n es new → Contains new (k, n)
 put_in k n es _ added = here es refl
 put_in k n _ _ (replaced {e = e} {es = es} same) = here es (λ i. (sym same i, n))
 put_in k n _ _ (later {e = e} {es = es} {new = new} p) = there new (put_in k n es new p)
 
 -- what is there was there, or is it
-came_from : (k : Key) (n : Waiting) (es new : List (Key × Waiting)) (x : Key × Waiting) → Puts k n es new → Contains new x → (x ≡ (k, n)) ⊎ Contains es x
+came_from : (k : Key) (n : WaitingNode) (es new : List (Key × WaitingNode)) (x : Key × WaitingNode) → Puts k n es new → Contains new x → (x ≡ (k, n)) ⊎ Contains es x
 came_from k n es _ x added c = ⊎_elim (λ e. inl (sym e)) inr (here_or_there es c)
 came_from k n _ _ x (replaced {e = e} {es = es} same) c = ⊎_elim (λ h. inl (sym h ∙ (λ i. (sym same i, n)))) (λ i. inr (there es i)) (here_or_there es c)
 came_from k n _ _ x (later {e = e} {es = es} {new = new} p) c =
     ⊎_elim (λ h. inr (here es h)) (λ i. ⊎_elim inl (λ j. inr (there es j)) (came_from k n es new x p i)) (here_or_there new c)
 
 -- what was there still is, but for one with the same key
-stays : (k : Key) (n : Waiting) (es new : List (Key × Waiting)) (x : Key × Waiting) → Puts k n es new → Contains es x → Contains new x ⊎ (k ≡ x.0)
+stays : (k : Key) (n : WaitingNode) (es new : List (Key × WaitingNode)) (x : Key × WaitingNode) → Puts k n es new → Contains es x → Contains new x ⊎ (k ≡ x.0)
 stays k n es _ x added c = inl (there es c)
 stays k n _ _ x (replaced {e = e} {es = es} same) c = ⊎_elim (λ h. inr (same ∙ ap (λ y. y.0) h)) (λ i. inl (there es i)) (here_or_there es c)
 stays k n _ _ x (later {e = e} {es = es} {new = new} p) c =
@@ -109,14 +109,14 @@ module _ (problem : Problem) where
       λ i. (nodes i, plans i)
 
   -- without the first
-  pub rest_keyed : (e : Key × Waiting) (es : List (Key × Waiting)) → AreKeyed problem (e ∷ es) → AreKeyed problem es
+  pub rest_keyed : (e : Key × WaitingNode) (es : List (Key × WaitingNode)) → AreKeyed problem (e ∷ es) → AreKeyed problem es
   rest_keyed e es are = record { stand = λ x c. are.stand x (there es c); keys = λ x c. are.keys x (there es c); groups = λ x c. are.groups x (there es c) }
 
-  module _ (most : ℕ) (old new : List (Key × Waiting)) (b : Bound) (w : Waiting) (are : AreKeyed problem old) (of : IsOfTree problem w.node) (is : IsKeyOf problem (bound_key b w.node.name) w.node) (known : AreKnownAt problem w.node w.groups) where
+  module _ (most : ℕ) (old new : List (Key × WaitingNode)) (b : LowerBound) (w : WaitingNode) (are : AreKeyed problem old) (of : IsOfTree problem w.node) (is : IsKeyOf problem (bound_key b w.node.name) w.node) (known : AreKnownAt problem w.node w.groups) where
     k : Key
     k = bound_key b w.node.name
 
-    put : List (Key × Waiting)
+    put : List (Key × WaitingNode)
     put = insert_entry key_cmp old (bound_key b w.node.name) w
 
     -- with one more
@@ -124,9 +124,9 @@ module _ (problem : Problem) where
     unfolding k put
     admitted_keyed (inr none) = subst (AreKeyed problem) (sym none.1) are
     admitted_keyed (inl e) = subst (AreKeyed problem) (sym e) (record {
-      stand = λ x c. ⊎_elim (λ h. subst (λ (y : Key × Waiting). IsOfTree problem y.1.node) (sym h) of) (are.stand x) (came_from k w old put x (puts k w old) c);
-      keys = λ x c. ⊎_elim (λ h. subst (λ (y : Key × Waiting). IsKeyOf problem y.0 y.1.node) (sym h) is) (are.keys x) (came_from k w old put x (puts k w old) c);
-      groups = λ x c. ⊎_elim (λ h. subst (λ (y : Key × Waiting). AreKnownAt problem y.1.node y.1.groups) (sym h) known) (are.groups x) (came_from k w old put x (puts k w old) c);
+      stand = λ x c. ⊎_elim (λ h. subst (λ (y : Key × WaitingNode). IsOfTree problem y.1.node) (sym h) of) (are.stand x) (came_from k w old put x (puts k w old) c);
+      keys = λ x c. ⊎_elim (λ h. subst (λ (y : Key × WaitingNode). IsKeyOf problem y.0 y.1.node) (sym h) is) (are.keys x) (came_from k w old put x (puts k w old) c);
+      groups = λ x c. ⊎_elim (λ h. subst (λ (y : Key × WaitingNode). AreKnownAt problem y.1.node y.1.groups) (sym h) known) (are.groups x) (came_from k w old put x (puts k w old) c);
     })
 
     -- what had an entry still has one

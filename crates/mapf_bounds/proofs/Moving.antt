@@ -8,11 +8,11 @@ use Rattle.mapf_tree.specs.Problem.{Problem}
 use Rattle.mapf_tree.specs.Tree.{PlannedNode, IsSolution}
 use Rattle.mapf_tree.specs.Nodes.{Node, StandsFor, HasNodeFor}
 use Rattle.mapf_tree.specs.Search.{Searched, IsSearch, IsLawful, IsTakenTo, NoneSolves}
-use Rattle.mapf_bounds.specs.declared.bound.Bound.{Bound}
+use Rattle.mapf_bounds.specs.declared.lower_bound.LowerBound.{LowerBound}
 use Rattle.mapf_bounds.specs.Below.{IsBelow}
 use Rattle.mapf_bounds.specs.Bounds.{IsOfTree}
 use Rattle.mapf_bounds.specs.Groups.{AreKnownAt}
-use Rattle.mapf_bounds.specs.Waiting.{Waiting, IsKeyOf, HasEntryFor, IsAdmittedOwn, IsCovering, IsMoving, bound_key}
+use Rattle.mapf_bounds.specs.Waiting.{WaitingNode, IsKeyOf, HasEntryFor, IsAdmittedOwn, IsCovering, IsMoving, bound_key}
 use Rattle.mapf_bounds.proofs.Subtrees.{least_key_of}
 use Rattle.mapf_bounds.proofs.Covers.{waiting_cover}
 use Rattle.mapf_bounds.proofs.Entries.{admitted_keyed, admitted_keeps, admitted_puts}
@@ -30,7 +30,7 @@ moves_first most s open_yet is none all =
     }
 
 -- once none waits by its key, all are covered
-pub moved_all : (problem : Problem) (most : ℕ) (open_yet : List Node) (waiting : List (Key × Waiting)) → open_yet ≡ [] → IsMoving problem most open_yet waiting → IsCovering problem most waiting
+pub moved_all : (problem : Problem) (most : ℕ) (open_yet : List Node) (waiting : List (Key × WaitingNode)) → open_yet ≡ [] → IsMoving problem most open_yet waiting → IsCovering problem most waiting
 moved_all problem most open_yet waiting none moving = record {
   keyed = moving.keyed;
   covers = λ s solution within.
@@ -38,9 +38,9 @@ moved_all problem most open_yet waiting none moving = record {
       (v.0, ⊎_elim (λ has. absurd (nowhere (subst (λ nodes. Contains nodes has.0) none has.1))) (λ e. e) v.1, v.2);
 }
 
-module _ (problem : Problem) (most least : ℕ) (below_all : IsBelowAll problem least) (old new : List Node) (n : Node) (before after : List (Key × Waiting)) (moving : IsMoving problem most old before) (is : old ≡ n ∷ new)
+module _ (problem : Problem) (most least : ℕ) (below_all : IsBelowAll problem least) (old new : List Node) (n : Node) (before after : List (Key × WaitingNode)) (moving : IsMoving problem most old before) (is : old ≡ n ∷ new)
     (admitted : IsAdmittedOwn most least before n after) where
-  b : Bound
+  b : LowerBound
   b = record { cost = max (plan_cost n.plan) least; depth = length n.name }
 
   -- the first is of the tree

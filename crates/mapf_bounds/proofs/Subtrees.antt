@@ -14,7 +14,7 @@ use Rattle.mapf_tree.proofs.high_level.SearchLaws.{obeys_fewer, parent_before}
 use Rattle.mapf_tree.specs.Laws.{ObeysNode}
 use Rattle.mapf_tree.specs.Search.{IsChild}
 use Rattle.mapf_bounds.specs.Below.{IsBelow, itself, child, IsBounded, own_bound}
-use Rattle.mapf_bounds.specs.declared.bound.Bound.{Bound}
+use Rattle.mapf_bounds.specs.declared.lower_bound.LowerBound.{LowerBound}
 use Rattle.mapf_bounds.specs.Bounds.{IsBoundOf, IsRaised, node_bound}
 use Rattle.mapf_bounds.specs.Waiting.{IsKeyOf, bound_key}
 use Rattle.mapf_bounds.specs.Laws.{SolutionsObey, PlansBoundCost, OwnAreBounds, BoundsPassDown}
@@ -121,7 +121,7 @@ module _ (problem : Problem) (n : Node) (least : ℕ) (below_all : IsBelowAll pr
           ap (λ c. rank c (length n.name) n.name) same ∙ key-stands problem n m stands
 
 -- and by a bound that is known of its parent, where that is above its own
-pub child_key_of : (problem : Problem) (n : Node) (x : PlannedNode) (known b : Bound) → IsBounded problem x known →
+pub child_key_of : (problem : Problem) (n : Node) (x : PlannedNode) (known b : LowerBound) → IsBounded problem x known →
     ((m : PlannedNode) → StandsFor problem n m → IsChild problem x m) → IsRaised (node_bound n) known b → IsKeyOf problem (bound_key b n.name) n
 child_key_of problem n x known b bounded is (inl (e, _)) = subst (λ c. IsKeyOf problem (bound_key c n.name) n) (sym e) (own_key_of problem n)
 child_key_of problem n x known b bounded is (inr (e, above)) = subst (λ c. IsKeyOf problem (bound_key c n.name) n) (sym e) key_of
@@ -133,13 +133,13 @@ child_key_of problem n x known b bounded is (inr (e, above)) = subst (λ c. IsKe
     no_solution m stands none =
         let solution : IsSolution problem m = record { planned = stands.member; no_conflict = none } in
         let own = own_stands problem n m stands in
-        ⊎_elim (λ l. omega (arith, l, ap (λ (c : Bound). c.cost) own, bounded.cost m solution (below m stands)))
-        (λ l. let same : plan_cost m.1 ≡ known.cost = sym (ap (λ (c : Bound). c.cost) own) ∙ l.0 in
-        omega (arith, l.1, ap (λ (c : Bound). c.depth) own, bounded.depth m solution (below m stands) same)) above
+        ⊎_elim (λ l. omega (arith, l, ap (λ (c : LowerBound). c.cost) own, bounded.cost m solution (below m stands)))
+        (λ l. let same : plan_cost m.1 ≡ known.cost = sym (ap (λ (c : LowerBound). c.cost) own) ∙ l.0 in
+        omega (arith, l.1, ap (λ (c : LowerBound). c.depth) own, bounded.depth m solution (below m stands) same)) above
 
     key_of : IsKeyOf problem (bound_key known n.name) n
     key_of m stands = record { bounded = bounds_pass_down problem x m known bounded (below m stands); name = stands.name; exact = λ none. absurd (no_solution m stands none) }
 
 -- and by any bound, where it has a conflict
-pub found_key_of : (problem : Problem) (n : Node) (b : Bound) → IsBoundOf problem n b → ((m : PlannedNode) → StandsFor problem n m → ¬ HasNoConflict problem.rule m.1) → IsKeyOf problem (bound_key b n.name) n
+pub found_key_of : (problem : Problem) (n : Node) (b : LowerBound) → IsBoundOf problem n b → ((m : PlannedNode) → StandsFor problem n m → ¬ HasNoConflict problem.rule m.1) → IsKeyOf problem (bound_key b n.name) n
 found_key_of problem n b is conflict m stands = record { bounded = is m stands; name = stands.name; exact = λ none. absurd (conflict m stands none) }

@@ -13,7 +13,7 @@ use Rattle.mapf_tree.specs.Tree.{IsAnswer}
 use Rattle.mapf_tree.proofs.high_level.Telling.{IsTelling, telling_begins, telling_ends, telling_expands, telling_goes}
 use Rattle.mapf_bounds.specs.Bounds.{Bounding}
 use Rattle.mapf_bounds.specs.Told.{Begins, IsWatched}
-use Rattle.mapf_bounds.specs.Waiting.{Branches, GoesOn, IsCovering, Waiting}
+use Rattle.mapf_bounds.specs.Waiting.{Branches, GoesOn, IsCovering, WaitingNode}
 
 -- an answer's lower bound is what was told last
 pub stated_ends : (problem : Problem) (given : Answer) (n : ℕ) → IsStated problem given → IsEndOf (record { nodes = n; least = least_stated given }) given
@@ -29,7 +29,7 @@ covering_nothing problem none = record {
 
 module _ {W : Type 0} (told : W → ℕ → ℕ → W → Type 0) where
   -- so many nodes were expanded so far, of which so many by keys, and the watch was told of the others
-  abbrev pub IsTellingBy : Bounding → (taken n : ℕ) → (old new : W) → List (Key × Waiting) → Type 0
+  abbrev pub IsTellingBy : Bounding → (taken n : ℕ) → (old new : W) → List (Key × WaitingNode) → Type 0
   IsTellingBy b taken = IsTelling told (Begins b.problem b.most taken) (GoesOn b.problem b.most) (Branches b.problem b.most) (λ waiting. IsBelowAll b.problem)
 
   -- the end of a search by keys without a solution
@@ -49,17 +49,17 @@ module _ {W : Type 0} (told : W → ℕ → ℕ → W → Type 0) where
   watched_behind p q last taken n old new (Err e) same is took w = tt
 
   module _ (b : Bounding) (taken : ℕ) where
-    pub by_begins : (w : W) (waiting : List (Key × Waiting)) → IsCovering b.problem b.most waiting → IsTellingBy b taken taken w w waiting
+    pub by_begins : (w : W) (waiting : List (Key × WaitingNode)) → IsCovering b.problem b.most waiting → IsTellingBy b taken taken w w waiting
     by_begins w waiting covering = telling_begins told (Begins b.problem b.most taken) (GoesOn b.problem b.most) (Branches b.problem b.most) (λ waiting. IsBelowAll b.problem) taken w waiting (refl, covering)
 
-    pub by_goes : (n : ℕ) (old new : W) (waiting next : List (Key × Waiting)) → IsTellingBy b taken n old new waiting → GoesOn b.problem b.most waiting next → IsTellingBy b taken n old new next
+    pub by_goes : (n : ℕ) (old new : W) (waiting next : List (Key × WaitingNode)) → IsTellingBy b taken n old new waiting → GoesOn b.problem b.most waiting next → IsTellingBy b taken n old new next
     by_goes = telling_goes told (Begins b.problem b.most taken) (GoesOn b.problem b.most) (Branches b.problem b.most) (λ waiting. IsBelowAll b.problem)
 
-    pub by_expands : (n least : ℕ) (old between new : W) (waiting : List (Key × Waiting)) → IsTellingBy b taken n old between waiting → IsBelowAll b.problem least → told between n least new →
-        (next : List (Key × Waiting)) → Branches b.problem b.most waiting next → IsTellingBy b taken (one_more n) old new next
+    pub by_expands : (n least : ℕ) (old between new : W) (waiting : List (Key × WaitingNode)) → IsTellingBy b taken n old between waiting → IsBelowAll b.problem least → told between n least new →
+        (next : List (Key × WaitingNode)) → Branches b.problem b.most waiting next → IsTellingBy b taken (one_more n) old new next
     by_expands = telling_expands told (Begins b.problem b.most taken) (GoesOn b.problem b.most) (Branches b.problem b.most) (λ waiting. IsBelowAll b.problem)
 
-    pub by_ends : (n least : ℕ) (old between new : W) (waiting : List (Key × Waiting)) → IsTellingBy b taken n old between waiting → IsBelowAll b.problem least → told between n least new →
+    pub by_ends : (n least : ℕ) (old between new : W) (waiting : List (Key × WaitingNode)) → IsTellingBy b taken n old between waiting → IsBelowAll b.problem least → told between n least new →
         (given : Answer) → IsEndOf (record { nodes = n; least = least }) given → IsWatched told b.problem taken old new given
     by_ends n least old between new waiting t below tell given end =
         (b.most, telling_ends told (Begins b.problem b.most taken) (GoesOn b.problem b.most) (Branches b.problem b.most) (λ waiting. IsBelowAll b.problem) n least old between new waiting t below tell given end)

@@ -26,13 +26,13 @@ use Rattle.mapf_tree.proofs.high_level.OpenNodes.{conflict_stands, none_stands, 
 use Rattle.mapf_tree.proofs.Plans.{same_plan}
 use Rattle.std.proofs.lemmas.Bool.{cases_lt}
 use Rattle.mapf_optimum.specs.declared.group_bound.GroupBound.{GroupBound}
-use Rattle.mapf_bounds.specs.declared.bound.Bound.{Bound}
+use Rattle.mapf_bounds.specs.declared.lower_bound.LowerBound.{LowerBound}
 use Rattle.mapf_bounds.specs.declared.turn.Outcome.{Outcome}
 use Rattle.mapf_bounds.specs.declared.turn.Outcome.TheVariants.{Raised, Expanded, Ended}
 use Rattle.mapf_bounds.specs.Below.{IsBelow, IsBounded, CoversUpTo, IsEnough}
 use Rattle.mapf_bounds.specs.Bounds.{IsOfTree, IsBoundOf, IsRaised}
 use Rattle.mapf_bounds.specs.Groups.{AreKnownAt}
-use Rattle.mapf_bounds.specs.Waiting.{Waiting, IsKeyOf, HasEntryFor, AreKeyed, IsCovering, key_cmp, key_bound, bound_key, IsAdmitted, IsAdmittedChild, absent, present, Branches, Drops, GoesOn, HoldsNone, IsLeftOrExpanded, IsTurn, Raises}
+use Rattle.mapf_bounds.specs.Waiting.{WaitingNode, IsKeyOf, HasEntryFor, AreKeyed, IsCovering, key_cmp, key_bound, bound_key, IsAdmitted, IsAdmittedChild, absent, present, Branches, Drops, GoesOn, HoldsNone, IsLeftOrExpanded, IsTurn, Raises}
 use Rattle.mapf_bounds.proofs.Subtrees.{child_key_of, found_key_of, solution_valid, solutions_obey}
 use Rattle.mapf_bounds.proofs.Groups.{known_below}
 use Rattle.mapf_bounds.proofs.Covers.{AreBehind, first_taken, none_cheaper, expanded_covers}
@@ -48,13 +48,13 @@ module _ (problem : Problem) (most : ℕ) where
   one_stands n a b h k = one_node problem a b h.member k.member (sym h.name ∙ k.name)
 
   -- what waits once the node of a node of the tree is put in, if that has one
-  pub record PutsNode (old new : List (Key × Waiting)) (p : TreeNode) : Type 0 where
+  pub record PutsNode (old new : List (Key × WaitingNode)) (p : TreeNode) : Type 0 where
     pub keyed : AreKeyed problem new
     pub keeps : (m : PlannedNode) → HasEntryFor problem old m → HasEntryFor problem new m
     pub puts : (q t : PlannedNode) → IsMember problem q → q.0 ≡ p → IsSolution problem t → plan_cost t.1 ≤ most → IsBelow problem q t → HasEntryFor problem new q
 
   -- none is put in
-  puts_none : (old new : List (Key × Waiting)) (p : TreeNode) → AreKeyed problem old → IsNodeOf problem p None → new ≡ old → PutsNode old new p
+  puts_none : (old new : List (Key × WaitingNode)) (p : TreeNode) → AreKeyed problem old → IsNodeOf problem p None → new ≡ old → PutsNode old new p
   puts_none old new p are none e = record {
     keyed = subst (AreKeyed problem) (sym e) are;
     keeps = λ m has. subst (λ es. HasEntryFor problem es m) (sym e) has;
@@ -62,7 +62,7 @@ module _ (problem : Problem) (most : ℕ) where
   }
 
   -- one is put in
-  puts_node : (old new : List (Key × Waiting)) (p : TreeNode) (b : Bound) (w : Waiting) → AreKeyed problem old → IsNodeOf problem p (Some w.node) → IsKeyOf problem (bound_key b w.node.name) w.node → AreKnownAt problem w.node w.groups →
+  puts_node : (old new : List (Key × WaitingNode)) (p : TreeNode) (b : LowerBound) (w : WaitingNode) → AreKeyed problem old → IsNodeOf problem p (Some w.node) → IsKeyOf problem (bound_key b w.node.name) w.node → AreKnownAt problem w.node w.groups →
       IsAdmitted most old b w new → PutsNode old new p
   puts_node old new p b w are (plan, stands) is known admitted =
       record {
@@ -78,7 +78,7 @@ module _ (problem : Problem) (most : ℕ) where
           λ i. (at i, plans i)
 
   -- a side is put in, if it is there
-  puts_side : (old new : List (Key × Waiting)) (n : Node) (x : PlannedNode) (known : Bound) (groups : List GroupBound) (c : Conflict) (s : Side) (o : Option Node) → AreKeyed problem old → StandsFor problem n x → IsBounded problem x known → AreKnownAt problem n groups →
+  puts_side : (old new : List (Key × WaitingNode)) (n : Node) (x : PlannedNode) (known : LowerBound) (groups : List GroupBound) (c : Conflict) (s : Side) (o : Option Node) → AreKeyed problem old → StandsFor problem n x → IsBounded problem x known → AreKnownAt problem n groups →
       IsFirstConflict problem.rule x.1 c → IsSide problem x c s o → IsAdmittedChild most old known groups o new → PutsNode old new (side_of x.0 c s)
   puts_side old new n x known groups c s None are stands bounded sure first is (absent e) = puts_none old new (side_of x.0 c s) are is e
   puts_side old new n x known groups c s (Some k) are stands bounded sure first is (present b w raised node of_groups fresh admitted) =
@@ -102,7 +102,7 @@ module _ (problem : Problem) (most : ℕ) where
       by (c, e) = none c (conflict_stands problem n m c stands e).member
 
   -- what waits covers all after a turn, if it did before
-  pub branches_cover : (old new : List (Key × Waiting)) → Branches problem most old new → IsCovering problem most old → IsCovering problem most new
+  pub branches_cover : (old new : List (Key × WaitingNode)) → Branches problem most old new → IsCovering problem most old → IsCovering problem most new
   branches_cover old new b covering = by b.conflict.of b.conflict.stands (conflict_of b.first.1.node.conflict refl b.conflict.conflict)
     where
       conflict_of : (o : Option Conflict) → b.first.1.node.conflict ≡ o → IsSome o → (c : Conflict) × (b.first.1.node.conflict ≡ Some c)
@@ -140,7 +140,7 @@ module _ (problem : Problem) (most : ℕ) where
 
           kept : (m : PlannedNode) → HasEntryFor problem old m → (m ≡ x) ⊎ HasEntryFor problem new m
           kept m has =
-              ⊎_elim (λ h. inl (one_stands b.first.1.node m x (subst (λ (y : Key × Waiting). StandsFor problem y.1.node m) (sym h) has.2) stands)) (λ i. inr (two.keeps m (one.keeps m (has.0, i, has.2))))
+              ⊎_elim (λ h. inl (one_stands b.first.1.node m x (subst (λ (y : Key × WaitingNode). StandsFor problem y.1.node m) (sym h) has.2) stands)) (λ i. inr (two.keeps m (one.keeps m (has.0, i, has.2))))
               (here_or_there b.rest (subst (λ es. Contains es has.0) b.was has.1))
 
           children : (q t : PlannedNode) → IsMember problem q → IsChild problem x q → IsSolution problem t → plan_cost t.1 ≤ most → IsBelow problem q t → HasEntryFor problem new q
@@ -151,7 +151,7 @@ module _ (problem : Problem) (most : ℕ) where
               on Right h = two.puts q t member h solution within below
 
   -- and where the first waits by a bound of its own
-  pub raises_cover : (old new : List (Key × Waiting)) → Raises problem most old new → IsCovering problem most old → IsCovering problem most new
+  pub raises_cover : (old new : List (Key × WaitingNode)) → Raises problem most old new → IsCovering problem most old → IsCovering problem most new
   raises_cover old new r covering = record { keyed = admitted_keyed problem most r.rest new r.to r.again are of key_of known r.puts; covers = covers }
     where
       whole : AreKeyed problem (r.first ∷ r.rest)
@@ -175,7 +175,7 @@ module _ (problem : Problem) (most : ℕ) where
           has_still : (m : PlannedNode) → IsBelow problem m s → HasEntryFor problem old m → HasEntryFor problem new m
           has_still m below has =
               ⊎_elim
-              (λ h. admitted_puts problem most r.rest new r.to r.again are of key_of known r.puts m s (subst (λ n. StandsFor problem n m) (sym r.same) (subst (λ (y : Key × Waiting). StandsFor problem y.1.node m) (sym h) has.2)) solution within below)
+              (λ h. admitted_puts problem most r.rest new r.to r.again are of key_of known r.puts m s (subst (λ n. StandsFor problem n m) (sym r.same) (subst (λ (y : Key × WaitingNode). StandsFor problem y.1.node m) (sym h) has.2)) solution within below)
               (λ i. admitted_keeps problem most r.rest new r.to r.again are of key_of known r.puts m (has.0, i, has.2)) (here_or_there r.rest (subst (λ es. Contains es has.0) r.was has.1))
 
   -- no solution at or below a node that no valid plan of so little cost obeys costs so little
@@ -183,7 +183,7 @@ module _ (problem : Problem) (most : ℕ) where
   none_below n m s stands none solution below within = none m stands s.1 (solution_valid problem s solution) (solutions_obey problem m s stands.member solution below) within
 
   -- and where the first is gone
-  pub drops_cover : (old new : List (Key × Waiting)) → Drops problem most old new → IsCovering problem most old → IsCovering problem most new
+  pub drops_cover : (old new : List (Key × WaitingNode)) → Drops problem most old new → IsCovering problem most old → IsCovering problem most new
   drops_cover old new d covering = record { keyed = subst (AreKeyed problem) (sym d.left) (rest_keyed problem d.first d.rest whole); covers = covers }
     where
       whole : AreKeyed problem (d.first ∷ d.rest)
@@ -195,20 +195,20 @@ module _ (problem : Problem) (most : ℕ) where
           has_still : (m : PlannedNode) → IsBelow problem m s → HasEntryFor problem old m → HasEntryFor problem new m
           has_still m below has =
               ⊎_elim
-              (λ h. absurd (none_below d.first.1.node m s (subst (λ (y : Key × Waiting). StandsFor problem y.1.node m) (sym h) has.2) d.none solution below within))
+              (λ h. absurd (none_below d.first.1.node m s (subst (λ (y : Key × WaitingNode). StandsFor problem y.1.node m) (sym h) has.2) d.none solution below within))
               (λ i. subst (λ es. HasEntryFor problem es m) (sym d.left) (has.0, i, has.2)) (here_or_there d.rest (subst (λ es. Contains es has.0) d.was has.1))
 
   -- whichever it is
-  pub goes_on_covers : (old new : List (Key × Waiting)) → GoesOn problem most old new → IsCovering problem most old → IsCovering problem most new
+  pub goes_on_covers : (old new : List (Key × WaitingNode)) → GoesOn problem most old new → IsCovering problem most old → IsCovering problem most new
   goes_on_covers old new (inl r) = raises_cover old new r
   goes_on_covers old new (inr d) = drops_cover old new d
 
   -- what a map has behind its first entry comes behind it
-  later_keys : (e : Key × Waiting) (rest : List (Key × Waiting)) → All (λ k. key_cmp e.0 k ≡ Less) (map (λ (y : Key × Waiting). y.0) rest) → (y : Key × Waiting) → Contains rest y → key_cmp e.0 y.0 ≡ Less
-  later_keys e rest all y c = All-contains (λ k. key_cmp e.0 k ≡ Less) (map (λ (z : Key × Waiting). z.0) rest) y.0 all (Contains-map (λ (z : Key × Waiting). z.0) rest y c)
+  later_keys : (e : Key × WaitingNode) (rest : List (Key × WaitingNode)) → All (λ k. key_cmp e.0 k ≡ Less) (map (λ (y : Key × WaitingNode). y.0) rest) → (y : Key × WaitingNode) → Contains rest y → key_cmp e.0 y.0 ≡ Less
+  later_keys e rest all y c = All-contains (λ k. key_cmp e.0 k ≡ Less) (map (λ (z : Key × WaitingNode). z.0) rest) y.0 all (Contains-map (λ (z : Key × WaitingNode). z.0) rest y c)
 
   -- so all solutions are behind the first of those that wait
-  pub all_behind : (old rest : List (Key × Waiting)) (k : Key) (w : Waiting) → old ≡ (k, w) ∷ rest → IsCovering problem most old → All (λ l. key_cmp k l ≡ Less) (map (λ (y : Key × Waiting). y.0) rest) → AreBehind problem most k
+  pub all_behind : (old rest : List (Key × WaitingNode)) (k : Key) (w : WaitingNode) → old ≡ (k, w) ∷ rest → IsCovering problem most old → All (λ l. key_cmp k l ≡ Less) (map (λ (y : Key × WaitingNode). y.0) rest) → AreBehind problem most k
   all_behind old rest k w is covering all s solution within =
       let v = covering.covers s solution within in
       let has = v.1 in (
@@ -216,13 +216,13 @@ module _ (problem : Problem) (most : ℕ) where
         v.0,
         covering.keyed.keys has.0 has.1 v.0 has.2,
         v.2,
-        ⊎_elim (λ h. subst (λ (y : Key × Waiting). ¬ Precedes (key_rank y.0) (key_rank k)) h (irreflexive (key_rank k))) (λ i. lesser_first k has.0.0 (later_keys (k, w) rest all has.0 i))
+        ⊎_elim (λ h. subst (λ (y : Key × WaitingNode). ¬ Precedes (key_rank y.0) (key_rank k)) h (irreflexive (key_rank k))) (λ i. lesser_first k has.0.0 (later_keys (k, w) rest all has.0 i))
             (here_or_there rest (subst (λ es. Contains es has.0) is has.1)),
       )
 
   -- the first of those that wait has no conflict: it is the answer
-  pub solved_turn : (old rest : List (Key × Waiting)) (k : Key) (w : Waiting) (plan : List (List ℕ)) → old ≡ (k, w) ∷ rest → IsCovering problem most old → IsEnough problem most →
-      All (λ l. key_cmp k l ≡ Less) (map (λ (y : Key × Waiting). y.0) rest) → w.node.conflict ≡ None → plan ≡ w.node.plan → IsStated problem (answer.Plan plan k.cost)
+  pub solved_turn : (old rest : List (Key × WaitingNode)) (k : Key) (w : WaitingNode) (plan : List (List ℕ)) → old ≡ (k, w) ∷ rest → IsCovering problem most old → IsEnough problem most →
+      All (λ l. key_cmp k l ≡ Less) (map (λ (y : Key × WaitingNode). y.0) rest) → w.node.conflict ≡ None → plan ≡ w.node.plan → IsStated problem (answer.Plan plan k.cost)
   solved_turn old rest k w plan is covering enough all free same =
       let has = first_in old rest (k, w) is in
       let x = covering.keyed.stand (k, w) has in
@@ -235,7 +235,7 @@ module _ (problem : Problem) (most : ℕ) where
       (Some x.0.1, (x.0.0, first), ap (λ c. answer.Plan plan c) costs ∙ ap (λ q. answer.Plan q (plan_cost x.0.1)) plans)
 
   -- none waits: there is no solution
-  pub empty_turn : (old : List (Key × Waiting)) → old ≡ [] → IsCovering problem most old → IsEnough problem most → IsStated problem (answer.None problem.bound)
+  pub empty_turn : (old : List (Key × WaitingNode)) → old ≡ [] → IsCovering problem most old → IsEnough problem most → IsStated problem (answer.None problem.bound)
   empty_turn old is covering enough = (
     None,
     (λ s solution. let t = enough s solution in
@@ -244,7 +244,7 @@ module _ (problem : Problem) (most : ℕ) where
   )
 
   -- no valid plan costs less than the first key says
-  pub first_is_below : (old rest : List (Key × Waiting)) (k : Key) (w : Waiting) → old ≡ (k, w) ∷ rest → IsCovering problem most old → IsEnough problem most → All (λ l. key_cmp k l ≡ Less) (map (λ (y : Key × Waiting). y.0) rest) →
+  pub first_is_below : (old rest : List (Key × WaitingNode)) (k : Key) (w : WaitingNode) → old ≡ (k, w) ∷ rest → IsCovering problem most old → IsEnough problem most → All (λ l. key_cmp k l ≡ Less) (map (λ (y : Key × WaitingNode). y.0) rest) →
       (least : ℕ) → least ≤ k.cost → least ≤ problem.bound + 1 → IsBelowAll problem least
   first_is_below old rest k w is covering enough all least l m plan valid =
       ⊎_elim (λ over. omega (arith, over, m))
@@ -256,27 +256,27 @@ module _ (problem : Problem) (most : ℕ) where
       (cases_lt problem.bound (plan_cost plan))
 
   -- the first of those that wait branches, if it has a conflict
-  pub first_branches : (old rest : List (Key × Waiting)) (k : Key) (w : Waiting) → old ≡ (k, w) ∷ rest → IsCovering problem most old → IsSome w.node.conflict → IsBranching problem w.node
+  pub first_branches : (old rest : List (Key × WaitingNode)) (k : Key) (w : WaitingNode) → old ≡ (k, w) ∷ rest → IsCovering problem most old → IsSome w.node.conflict → IsBranching problem w.node
   first_branches old rest k w is covering some =
       let x = covering.keyed.stand (k, w) (first_in old rest (k, w) is) in
       record { of = x.0; stands = x.1; conflict = some }
 
   -- its key is known to bound it
-  pub first_known : (old rest : List (Key × Waiting)) (k : Key) (w : Waiting) → old ≡ (k, w) ∷ rest → IsCovering problem most old → IsBoundOf problem w.node (key_bound k)
+  pub first_known : (old rest : List (Key × WaitingNode)) (k : Key) (w : WaitingNode) → old ≡ (k, w) ∷ rest → IsCovering problem most old → IsBoundOf problem w.node (key_bound k)
   first_known old rest k w is covering m stands = (covering.keyed.keys (k, w) (first_in old rest (k, w) is) m stands).bounded
 
   -- and what is known of its groups is so
-  pub first_groups : (old rest : List (Key × Waiting)) (k : Key) (w : Waiting) → old ≡ (k, w) ∷ rest → IsCovering problem most old → AreKnownAt problem w.node w.groups
+  pub first_groups : (old rest : List (Key × WaitingNode)) (k : Key) (w : WaitingNode) → old ≡ (k, w) ∷ rest → IsCovering problem most old → AreKnownAt problem w.node w.groups
   first_groups old rest k w is covering = covering.keyed.groups (k, w) (first_in old rest (k, w) is)
 
   -- a raised bound is one
-  pub raised_bound : (n : Node) (known found b : Bound) → IsBoundOf problem n known → IsBoundOf problem n found → IsRaised known found b → IsBoundOf problem n b
+  pub raised_bound : (n : Node) (known found b : LowerBound) → IsBoundOf problem n known → IsBoundOf problem n found → IsRaised known found b → IsBoundOf problem n b
   raised_bound n known found b is other (inl e) = subst (IsBoundOf problem n) (sym e.0) is
   raised_bound n known found b is other (inr e) = subst (IsBoundOf problem n) (sym e.0) other
 
   -- what came of the first of those that wait where it was left out or expanded
-  pub left_or_expanded_turn : (old rest new : List (Key × Waiting)) (k : Key) (w entry : Waiting) (outcome : Outcome) → old ≡ (k, w) ∷ rest → IsCovering problem most old → IsEnough problem most →
-      All (λ l. key_cmp k l ≡ Less) (map (λ (y : Key × Waiting). y.0) rest) → IsSome w.node.conflict → entry.node ≡ w.node → AreKnownAt problem w.node entry.groups → IsLeftOrExpanded problem most (key_bound k) entry rest new outcome →
+  pub left_or_expanded_turn : (old rest new : List (Key × WaitingNode)) (k : Key) (w entry : WaitingNode) (outcome : Outcome) → old ≡ (k, w) ∷ rest → IsCovering problem most old → IsEnough problem most →
+      All (λ l. key_cmp k l ≡ Less) (map (λ (y : Key × WaitingNode). y.0) rest) → IsSome w.node.conflict → entry.node ≡ w.node → AreKnownAt problem w.node entry.groups → IsLeftOrExpanded problem most (key_bound k) entry rest new outcome →
       IsTurn problem most old new outcome
   left_or_expanded_turn old rest new k w entry (Expanded least) is covering enough all some same known expanded = (
     record { first = (k, w); rest = rest; was = is; conflict = first_branches old rest k w is covering some; entry = entry; same = same; known = known; expands = expanded.0 },

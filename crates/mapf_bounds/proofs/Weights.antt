@@ -12,8 +12,8 @@ use Rattle.mapf_tree.specs.Family.{IsSide}
 use Rattle.mapf_tree.specs.Nodes.{Node, StandsFor}
 use Rattle.mapf_optimum.specs.declared.group_bound.GroupBound.{GroupBound}
 use Rattle.mapf_tree.proofs.finite.Measure.{most, depth_most, grown_all}
-use Rattle.mapf_bounds.specs.declared.bound.Bound.{Bound}
-use Rattle.mapf_bounds.specs.Waiting.{Waiting, is_own, absent, present, key_cmp, key_bound, bound_key, IsAdmitted, IsAdmittedChild, Branches, Drops, GoesOn, Raises}
+use Rattle.mapf_bounds.specs.declared.lower_bound.LowerBound.{LowerBound}
+use Rattle.mapf_bounds.specs.Waiting.{WaitingNode, is_own, absent, present, key_cmp, key_bound, bound_key, IsAdmitted, IsAdmittedChild, Branches, Drops, GoesOn, Raises}
 use Rattle.mapf_bounds.proofs.Entries.{Puts, added, replaced, later, puts}
 
 -- a bound that is yet to be found weighs one
@@ -22,16 +22,16 @@ unknown_weight true = 0
 unknown_weight false = 1
 
 -- what a node weighs, where no name is longer than that
-abbrev weight : ℕ → Waiting → ℕ
+abbrev weight : ℕ → WaitingNode → ℕ
 weight longest w = 2 * 4 ^ (longest - length w.node.name) + unknown_weight (is_own w.stage)
 
 -- what all weigh
-abbrev weight_of : ℕ → List (Key × Waiting) → ℕ
+abbrev weight_of : ℕ → List (Key × WaitingNode) → ℕ
 weight_of longest [] = 0
 weight_of longest (e ∷ es) = weight longest e.1 + weight_of longest es
 
 -- one that is put in adds no more than its weight
-put_weight : (longest : ℕ) (k : Key) (w : Waiting) (es new : List (Key × Waiting)) → Puts k w es new → weight_of longest new ≤ weight_of longest es + weight longest w
+put_weight : (longest : ℕ) (k : Key) (w : WaitingNode) (es new : List (Key × WaitingNode)) → Puts k w es new → weight_of longest new ≤ weight_of longest es + weight longest w
 put_weight longest k w es _ added = omega arith
 put_weight longest k w _ _ (replaced {e = e} {es = es} same) = omega arith
 put_weight longest k w _ _ (later {e = e} {es = es} {new = new} p) = omega (arith, put_weight longest k w es new p)
@@ -43,18 +43,18 @@ some_weight (suc k) = omega (arith, some_weight k, pow-succ' 4 k)
 
 module _ (problem : Problem) where
   -- what those that wait weigh
-  pub total : List (Key × Waiting) → ℕ
+  pub total : List (Key × WaitingNode) → ℕ
   total es = weight_of (most problem) es
 
   -- what is put in
-  admitted_weight : (most_cost : ℕ) (old new : List (Key × Waiting)) (b : Bound) (w : Waiting) → IsAdmitted most_cost old b w new → weight_of (most problem) new ≤ weight_of (most problem) old + weight (most problem) w
+  admitted_weight : (most_cost : ℕ) (old new : List (Key × WaitingNode)) (b : LowerBound) (w : WaitingNode) → IsAdmitted most_cost old b w new → weight_of (most problem) new ≤ weight_of (most problem) old + weight (most problem) w
   admitted_weight most_cost old new b w (inr none) = omega (arith, ap (weight_of (most problem)) none.1)
   admitted_weight most_cost old new b w (inl e) =
       subst (λ es. weight_of (most problem) es ≤ weight_of (most problem) old + weight (most problem) w) (sym e)
       (put_weight (most problem) (bound_key b w.node.name) w old (insert_entry key_cmp old (bound_key b w.node.name) w) (puts (bound_key b w.node.name) w old))
 
   -- a child adds no more than three quarters of its parent's power
-  side_weight : (most_cost : ℕ) (old new : List (Key × Waiting)) (n : Node) (known : Bound) (groups : List GroupBound) (x : PlannedNode) (c : Conflict) (s : Side) (o : Option Node) → StandsFor problem n x → IsSide problem x c s o → IsAdmittedChild most_cost old known groups o new →
+  side_weight : (most_cost : ℕ) (old new : List (Key × WaitingNode)) (n : Node) (known : LowerBound) (groups : List GroupBound) (x : PlannedNode) (c : Conflict) (s : Side) (o : Option Node) → StandsFor problem n x → IsSide problem x c s o → IsAdmittedChild most_cost old known groups o new →
       (v : ℕ) × (weight_of (most problem) new ≤ weight_of (most problem) old + v) × (4 * v ≤ 3 * 4 ^ (most problem - length n.name))
   side_weight most_cost old new n known groups x c s None stands is (absent e) = (0, omega (arith, ap (weight_of (most problem)) e), omega arith)
   side_weight most_cost old new n known groups x c s (Some m) stands (plan, is) (present b w raised node of_groups fresh admitted) =
@@ -76,7 +76,7 @@ module _ (problem : Problem) where
       quarters = omega (arith, some_weight (most problem - length m.name), pow-succ' 4 (most problem - length m.name), ap (λ k. 4 ^ k) left)
 
   -- a turn that branches makes what waits lighter
-  pub branches_fall : (most_cost : ℕ) (old new : List (Key × Waiting)) → Branches problem most_cost old new → total new < total old
+  pub branches_fall : (most_cost : ℕ) (old new : List (Key × WaitingNode)) → Branches problem most_cost old new → total new < total old
   unfolding total
   branches_fall most_cost old new b = by (conflict_of b.first.1.node.conflict refl b.conflict.conflict)
     where
@@ -104,7 +104,7 @@ module _ (problem : Problem) where
           )
 
   -- and so does one that finds a bound
-  pub raises_fall : (most_cost : ℕ) (old new : List (Key × Waiting)) → Raises problem most_cost old new → total new < total old
+  pub raises_fall : (most_cost : ℕ) (old new : List (Key × WaitingNode)) → Raises problem most_cost old new → total new < total old
   unfolding total
   raises_fall most_cost old new r =
       omega (
@@ -117,12 +117,12 @@ module _ (problem : Problem) where
       )
 
   -- and one that lets a node go
-  pub drops_fall : (most_cost : ℕ) (old new : List (Key × Waiting)) → Drops problem most_cost old new → total new < total old
+  pub drops_fall : (most_cost : ℕ) (old new : List (Key × WaitingNode)) → Drops problem most_cost old new → total new < total old
   unfolding total
   drops_fall most_cost old new d =
       omega (arith, some_weight (most problem - length d.first.1.node.name), ap (weight_of (most problem)) d.was, ap (weight_of (most problem)) d.left)
 
   -- whichever it is
-  pub goes_on_falls : (most_cost : ℕ) (old new : List (Key × Waiting)) → GoesOn problem most_cost old new → total new < total old
+  pub goes_on_falls : (most_cost : ℕ) (old new : List (Key × WaitingNode)) → GoesOn problem most_cost old new → total new < total old
   goes_on_falls most_cost old new (inl r) = raises_fall most_cost old new r
   goes_on_falls most_cost old new (inr d) = drops_fall most_cost old new d

@@ -4,7 +4,7 @@ use Rattle.mapf_plan.specs.Plan.{plan_cost}
 use Rattle.mapf_tree.specs.Problem.{Problem}
 use Rattle.mapf_tree.specs.Tree.{PlannedNode, IsMember, IsSolution}
 use Rattle.mapf_tree.specs.Search.{IsChild}
-use Rattle.mapf_bounds.specs.declared.bound.Bound.{Bound}
+use Rattle.mapf_bounds.specs.declared.lower_bound.LowerBound.{LowerBound}
 
 -- the nodes of the tree at or below a node: that node, and the children of such nodes
 pub data IsBelow (problem : Problem) (top : PlannedNode) : PlannedNode → Type 0 where
@@ -20,12 +20,12 @@ abbrev pub IsDepthBound : Problem → PlannedNode → ℕ → ℕ → Type 0
 IsDepthBound problem m cost least = (s : PlannedNode) → IsSolution problem s → IsBelow problem m s → plan_cost s.1 ≡ cost → least ≤ length s.0.name
 
 -- no solution at or below the node comes before the bound, by cost and then by depth
-pub record IsBounded (problem : Problem) (m : PlannedNode) (b : Bound) : Type 0 where
+pub record IsBounded (problem : Problem) (m : PlannedNode) (b : LowerBound) : Type 0 where
   pub cost : IsCostBound problem m b.cost
   pub depth : IsDepthBound problem m b.cost b.depth
 
 -- the cost and the depth of a node itself
-abbrev pub own_bound : PlannedNode → Bound
+abbrev pub own_bound : PlannedNode → LowerBound
 own_bound m = record { cost = plan_cost m.1; depth = length m.0.name }
 
 -- each solution of the tree that costs at most so much is at or below one of these nodes

@@ -5,12 +5,12 @@ use Rattle.mapf_tree.specs.Problem.{Problem}
 use Rattle.mapf_tree.specs.LowerBound.{IsBelowAll}
 use Rattle.mapf_tree.specs.Tree.{PlannedNode, IsAnswer}
 use Rattle.mapf_tree.specs.Nodes.{Node, StandsFor}
-use Rattle.mapf_bounds.specs.declared.bound.Bound.{Bound}
+use Rattle.mapf_bounds.specs.declared.lower_bound.LowerBound.{LowerBound}
 use Rattle.mapf_bounds.specs.declared.solving.CostRange.{CostRange}
 use Rattle.mapf_bounds.specs.Below.{IsBounded, IsEnough}
 
 -- it is a bound of the node of the tree that the node stands for
-abbrev pub IsBoundOf : Problem → Node → Bound → Type 0
+abbrev pub IsBoundOf : Problem → Node → LowerBound → Type 0
 IsBoundOf problem node b = (m : PlannedNode) → StandsFor problem node m → IsBounded problem m b
 
 -- the node is one of the tree
@@ -18,15 +18,15 @@ abbrev pub IsOfTree : Problem → Node → Type 0
 IsOfTree problem node = (m : PlannedNode) × StandsFor problem node m
 
 -- a node's own cost and depth
-abbrev pub node_bound : Node → Bound
+abbrev pub node_bound : Node → LowerBound
 node_bound node = record { cost = plan_cost node.plan; depth = length node.name }
 
 -- by cost, then by depth
-abbrev pub IsAbove : Bound → Bound → Type 0
+abbrev pub IsAbove : LowerBound → LowerBound → Type 0
 IsAbove a b = (b.cost < a.cost) ⊎ ((b.cost ≡ a.cost) × (b.depth < a.depth))
 
 -- the other one where that is above it, else itself
-abbrev pub IsRaised : Bound → Bound → Bound → Type 0
+abbrev pub IsRaised : LowerBound → LowerBound → LowerBound → Type 0
 IsRaised own other result = ((result ≡ own) × (¬ IsAbove other own)) ⊎ ((result ≡ other) × IsAbove other own)
 
 -- a problem, and what solutions cost at most that are looked for

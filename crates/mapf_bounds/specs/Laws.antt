@@ -7,7 +7,7 @@ use Rattle.mapf_tree.specs.Problem.{Problem}
 use Rattle.mapf_tree.specs.Tree.{PlannedNode, IsMember, IsSolution, IsFirstSolution, IsAnswer, key_rank}
 use Rattle.mapf_tree.specs.Laws.{ObeysNode}
 use Rattle.mapf_tree.specs.Search.{IsChild, IsWaiting, NoneSolves}
-use Rattle.mapf_bounds.specs.declared.bound.Bound.{Bound}
+use Rattle.mapf_bounds.specs.declared.lower_bound.LowerBound.{LowerBound}
 use Rattle.mapf_bounds.specs.Below.{IsBelow, IsCostBound, IsBounded, own_bound, CoversUpTo, IsEnough}
 use Rattle.mapf_bounds.specs.Pairs.{HaveCollisions}
 use Rattle.mapf_bounds.specs.Waiting.{IsBoundKey}
@@ -30,7 +30,7 @@ OwnAreBounds = (problem : Problem) (m : PlannedNode) → IsMember problem m → 
 
 -- bounds of a node are bounds of each node below it
 abbrev pub BoundsPassDown : Type 0
-BoundsPassDown = (problem : Problem) (m p : PlannedNode) (b : Bound) → IsBounded problem m b → IsBelow problem m p → IsBounded problem p b
+BoundsPassDown = (problem : Problem) (m p : PlannedNode) (b : LowerBound) → IsBounded problem m b → IsBelow problem m p → IsBounded problem p b
 
 -- the nodes that wait in a search by keys that has found no solution cover all solutions
 abbrev pub WaitingCover : Type 0

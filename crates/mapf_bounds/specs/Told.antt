@@ -5,10 +5,10 @@ use Rattle.mapf_tree.specs.declared.tree.key.Key.{Key}
 use Rattle.mapf_tree.specs.LowerBound.{IsBelowAll}
 use Rattle.mapf_tree.specs.Problem.{Problem}
 use Rattle.mapf_tree.specs.Told as tree
-use Rattle.mapf_bounds.specs.Waiting.{Waiting, Branches, GoesOn, IsCovering}
+use Rattle.mapf_bounds.specs.Waiting.{WaitingNode, Branches, GoesOn, IsCovering}
 
 -- so many nodes were expanded when all solutions up to this cost were at or below those that wait
-abbrev pub Begins : Problem → ℕ → ℕ → ℕ → List (Key × Waiting) → Type 0
+abbrev pub Begins : Problem → ℕ → ℕ → ℕ → List (Key × WaitingNode) → Type 0
 Begins problem most taken nodes waiting = (nodes ≡ taken) × IsCovering problem most waiting
 
 -- what the watch was told of the search that began after so many nodes and gave this answer

@@ -1,9 +1,9 @@
 //! The first solution of the constraint tree, by lower bounds on what lies below its nodes.
 #![tactic(auto)]
 
-mod bound;
 mod collisions;
 pub mod laws;
+mod lower_bound;
 mod node_bounds;
 mod node_groups;
 mod node_tests;
@@ -11,5 +11,5 @@ mod solving;
 mod turn;
 mod waiting;
 
-pub use bound::Bound;
+pub use lower_bound::LowerBound;
 pub use solving::{finish_by_bounds, solve_by_bounds};

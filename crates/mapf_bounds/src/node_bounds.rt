@@ -7,7 +7,7 @@ ghost use Rattle.mapf_bounds.specs.Bounds.{IsBoundOf};
 ghost use Rattle.mapf_bounds.specs.Groups.{AreKnownAt};
 ghost use Rattle.mapf_bounds.specs.Waiting.{HoldsNone};
 
-use crate::Bound;
+use crate::LowerBound;
 use crate::collisions::disjoint_collisions;
 use crate::node_groups::{costs_of, is_changed, sets_of, two_of, with_new};
 use crate::node_tests::NodeTests;
@@ -52,7 +52,7 @@ impl<'p> Model for NodeBounds<'p> {
 /// A node's bound, and what groups of its agents cost together at least.
 #[derive(Drop)]
 pub(crate) struct NodeBound {
-    pub(crate) bound: Bound,
+    pub(crate) bound: LowerBound,
     pub(crate) groups: Arc<Vec<GroupBound>>,
 }
 
@@ -113,7 +113,7 @@ impl<'p> NodeBounds<'p> {
         paths: &mut OwnPaths<'_>,
         node: &Node,
         stage: Stage,
-        known: Bound,
+        known: LowerBound,
         groups: &Arc<Vec<GroupBound>>,
     ) -> Result<NodeBound, NoMemory>
         requires paths { paths.old ≡ self.old.problem }
@@ -132,9 +132,9 @@ impl<'p> NodeBounds<'p> {
         let new = self.new_groups(node, &current, &costs, stage, &conflicts)?;
         let groups = with_new(self.alloc, groups, new, &costs)?;
         let least = least_of_groups(self.alloc, &costs, &groups)?;
-        let bound = Bound {
+        let bound = LowerBound {
             cost: known.cost.max(least),
-            depth: Bound::own(node).depth.saturating_add(turns),
+            depth: LowerBound::own(node).depth.saturating_add(turns),
         };
         Ok(NodeBound { bound, groups })
     }

@@ -13,20 +13,17 @@ use std::sync::Arc;
 /// How many plans are kept.
 const MOST_PLANS: usize = 24;
 
-/// How much work may be done at first, as `OwnPaths::obeyed_within` counts it.
-const FIRST_WORK: u64 = 20_000;
-
-/// How much may be done at most.
-const MOST_WORK: u64 = 100_000;
+/// How much work may be done at first, and never more, as `OwnPaths::obeyed_within` counts it.
+const MOST_WORK: u64 = 50_000;
 
 /// How much more may be done for each node that is looked at.
 const WORK_BY_NODE: u64 = 1;
 
-/// How much more for each that is left out: about what five nodes take that are expanded.
-const WORK_BY_FIND: u64 = 400;
+/// How much more for each that is left out: about what eight nodes take that are expanded.
+const WORK_BY_FIND: u64 = 600;
 
 /// With less than that nothing is searched.
-const LEAST_WORK: u64 = 300;
+const LEAST_WORK: u64 = 1_000;
 
 /// What tests found, and how much work they may do.
 #[derive(Drop)]
@@ -46,7 +43,7 @@ impl NodeTests {
             alloc,
             plans: Vec::new(alloc),
             oldest: 0,
-            work: FIRST_WORK,
+            work: MOST_WORK,
         }
     }
 

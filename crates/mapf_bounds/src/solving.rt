@@ -14,7 +14,7 @@ ghost use Rattle.mapf_bounds.specs.Waiting.{IsCovering, IsMoving};
 
 use crate::node_bounds::NodeBounds;
 use crate::turn::{Outcome, turn};
-use crate::waiting::{Waiting, admit_own};
+use crate::waiting::{WaitingNode, admit_own};
 use mapf_grid::NoMemory;
 use mapf_optimum::GroupSearch;
 use mapf_plan::Answer;
@@ -80,7 +80,7 @@ pub fn finish_by_bounds<W: Watch>(
         watch.nodes_expanded(nodes, u64::from(bound) + 1);
         return Ok(Answer::None { bound });
     };
-    let waiting = take_over(alloc, range, open_list)?;
+    let waiting = admit_all(alloc, range, open_list)?;
     let bounds = NodeBounds::new(alloc, groups, range.most);
     search_by_bounds(waiting, paths, bounds, nodes, watch)
 }
@@ -123,11 +123,11 @@ fn range_of(problem: &Problem, given: &Answer) -> Option<CostRange>
 }
 
 /// The nodes of an open list, each under the key of a bound.
-fn take_over(
+fn admit_all(
     alloc: Global,
     range: CostRange,
     open_list: OpenList,
-) -> Result<BTreeMap<Key, Waiting>, NoMemory>
+) -> Result<BTreeMap<Key, WaitingNode>, NoMemory>
     ensures { IfOk result (λ waiting. (problem : Problem) → IsBelowAll problem range.least
         → IsMoving problem range.most open_list [] → IsCovering problem range.most waiting.entries) }
 {
@@ -142,7 +142,7 @@ fn take_over(
 /// Takes turns until there is the answer. It returns, since a turn puts deeper nodes in the place of one, or a bound that each node has
 /// once.
 fn search_by_bounds<W: Watch>(
-    waiting: BTreeMap<Key, Waiting>,
+    waiting: BTreeMap<Key, WaitingNode>,
     paths: OwnPaths<'_>,
     bounds: NodeBounds<'_>,
     nodes: u64,

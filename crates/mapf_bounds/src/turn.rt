@@ -6,9 +6,9 @@ ghost use Rattle.mapf_bounds.specs.Below.{IsEnough};
 ghost use Rattle.mapf_bounds.specs.Groups.{AreKnownAt};
 ghost use Rattle.mapf_bounds.specs.Waiting.{Expands, IsCovering, IsLeftOrExpanded, IsTurn};
 
-use crate::Bound;
+use crate::LowerBound;
 use crate::node_bounds::NodeBounds;
-use crate::waiting::{Waiting, admit, admit_child};
+use crate::waiting::{WaitingNode, admit, admit_child};
 use mapf_grid::NoMemory;
 use mapf_plan::Answer;
 use mapf_tree::{Children, Key, OwnPaths};
@@ -28,7 +28,7 @@ pub(crate) enum Outcome {
 /// Takes the first node that waits. Its plan is the answer if that has no conflict; else it waits by a bound of its own, where
 /// that is above what was known, or is left out, or its children wait in its place. Where none waits there is no plan.
 pub(crate) fn turn(
-    waiting: &mut BTreeMap<Key, Waiting>,
+    waiting: &mut BTreeMap<Key, WaitingNode>,
     paths: &mut OwnPaths<'_>,
     bounds: &mut NodeBounds<'_>,
 ) -> Result<Outcome, NoMemory>
@@ -48,7 +48,7 @@ pub(crate) fn turn(
         let stated = key.cost;
         return Ok(Outcome::Ended(Answer::Plan { plan, stated }));
     }
-    let known = Bound {
+    let known = LowerBound {
         cost: key.cost,
         depth: key.depth,
     };
@@ -67,11 +67,11 @@ pub(crate) fn turn(
 
 /// Leaves a node out, where it is found that no solution that is looked for is below it, or puts its children in.
 fn leave_or_expand(
-    waiting: &mut BTreeMap<Key, Waiting>,
+    waiting: &mut BTreeMap<Key, WaitingNode>,
     paths: &mut OwnPaths<'_>,
     bounds: &mut NodeBounds<'_>,
-    known: Bound,
-    entry: Waiting,
+    known: LowerBound,
+    entry: WaitingNode,
 ) -> Result<Outcome, NoMemory>
     requires paths { paths.old ≡ bounds.old.problem }
     requires node { IsBranching bounds.old.problem entry.node }
@@ -89,18 +89,18 @@ fn leave_or_expand(
 
 /// Puts the children of a node in, of which this bound and what is known of its groups hold.
 fn expand(
-    waiting: &mut BTreeMap<Key, Waiting>,
+    waiting: &mut BTreeMap<Key, WaitingNode>,
     paths: &mut OwnPaths<'_>,
     bounds: &NodeBounds<'_>,
-    known: Bound,
-    entry: Waiting,
+    known: LowerBound,
+    entry: WaitingNode,
 ) -> Result<(), NoMemory>
     requires paths { paths.old ≡ bounds.now.problem }
     requires node { IsBranching bounds.now.problem entry.node }
     ensures paths { paths.new ≡ paths.old }
     ensures expands { OnOk result (Expands bounds.now.problem bounds.now.most known entry waiting.old.entries waiting.new.entries) }
 {
-    let Waiting {
+    let WaitingNode {
         node,
         stage: _stage,
         groups,

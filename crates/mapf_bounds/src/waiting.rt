@@ -3,7 +3,7 @@
 ghost use Rattle.std.specs.Prelude.{◌≡◌, OnOk, IsTrue, IfOk};
 ghost use Rattle.mapf_bounds.specs.Waiting.{IsAdmitted, IsAdmittedOwn, IsAdmittedChild, IsByGroups, is_own};
 
-use crate::Bound;
+use crate::LowerBound;
 use mapf_grid::NoMemory;
 use mapf_optimum::GroupBound;
 use mapf_tree::{Key, Node};
@@ -34,32 +34,32 @@ impl Stage {
 
 /// A node that waits.
 #[derive(Drop)]
-pub(crate) struct Waiting {
+pub(crate) struct WaitingNode {
     pub(crate) node: Node,
     pub(crate) stage: Stage,
     /// What groups of its agents cost together at least, of which it is known.
     pub(crate) groups: Arc<Vec<GroupBound>>,
 }
 
-impl Model for Waiting {
-    ghost use Rattle.mapf_bounds.specs.Waiting.{Waiting};
+impl Model for WaitingNode {
+    ghost use Rattle.mapf_bounds.specs.Waiting.{WaitingNode};
 
-    ghost Value = { Waiting };
+    ghost Value = { WaitingNode };
 
     ghost view = { λ w. record { node = w.node; stage = w.stage; groups = w.groups.value.items } };
 }
 
-impl Waiting {
+impl WaitingNode {
     /// The same node, whose bound is known by these groups of its own.
-    pub(crate) fn by_groups(self, groups: Arc<Vec<GroupBound>>) -> Waiting
+    pub(crate) fn by_groups(self, groups: Arc<Vec<GroupBound>>) -> WaitingNode
         ensures { IsByGroups self groups.value.items result }
     {
-        let Waiting {
+        let WaitingNode {
             node,
             stage: _stage,
             groups: _groups,
         } = self;
-        Waiting {
+        WaitingNode {
             node,
             stage: Stage::Own,
             groups,
@@ -71,9 +71,9 @@ impl Waiting {
 pub(crate) fn admit(
     alloc: Global,
     most: u64,
-    waiting: &mut BTreeMap<Key, Waiting>,
-    bound: Bound,
-    entry: Waiting,
+    waiting: &mut BTreeMap<Key, WaitingNode>,
+    bound: LowerBound,
+    entry: WaitingNode,
 ) -> Result<(), NoMemory>
     ensures { OnOk result (IsAdmitted most waiting.old.entries bound entry waiting.new.entries) }
 {
@@ -96,17 +96,17 @@ pub(crate) fn admit_own(
     alloc: Global,
     least: u64,
     most: u64,
-    waiting: &mut BTreeMap<Key, Waiting>,
+    waiting: &mut BTreeMap<Key, WaitingNode>,
     node: Node,
 ) -> Result<(), NoMemory>
     ensures { OnOk result (IsAdmittedOwn most least waiting.old.entries node waiting.new.entries) }
 {
-    let own = Bound::own(&node);
-    let bound = Bound {
+    let own = LowerBound::own(&node);
+    let bound = LowerBound {
         cost: own.cost.max(least),
         depth: own.depth,
     };
-    let entry = Waiting {
+    let entry = WaitingNode {
         node,
         stage: Stage::Handed,
         groups: Arc::new(alloc, Vec::new(alloc))?,
@@ -118,8 +118,8 @@ pub(crate) fn admit_own(
 pub(crate) fn admit_child(
     alloc: Global,
     most: u64,
-    waiting: &mut BTreeMap<Key, Waiting>,
-    known: Bound,
+    waiting: &mut BTreeMap<Key, WaitingNode>,
+    known: LowerBound,
     groups: &Arc<Vec<GroupBound>>,
     child: Option<Node>,
 ) -> Result<(), NoMemory>
@@ -128,8 +128,8 @@ pub(crate) fn admit_child(
     let Some(node) = child else {
         return Ok(());
     };
-    let bound = Bound::own(&node).raised(known);
-    let entry = Waiting {
+    let bound = LowerBound::own(&node).raised(known);
+    let entry = WaitingNode {
         node,
         stage: Stage::Inherited,
         groups: Arc::try_clone(groups)?,

@@ -5,7 +5,7 @@ use Rattle.mapf_tree.specs.Problem.{Problem}
 use Rattle.mapf_optimum.specs.declared.group_bound.GroupBound.{GroupBound}
 use Rattle.mapf_optimum.specs.FreeTree.{IsGroup}
 use Rattle.mapf_optimum.specs.Groups.{IsBoundBy}
-use Rattle.mapf_bounds.specs.declared.bound.Bound.{Bound}
+use Rattle.mapf_bounds.specs.declared.lower_bound.LowerBound.{LowerBound}
 use Rattle.mapf_bounds.specs.Pairs.{HaveCollisions}
 use Rattle.mapf_bounds.proofs.Groups.{groups_bound, stands_costs}
 use Rattle.mapf_bounds.proofs.DisjointPairs.{collisions_take_turns}
@@ -28,7 +28,7 @@ returns-clause-bound c m stands =
     let bound = subst₂ (λ (k : List ℕ) (l : List GroupBound). IsBoundBy k l c.in_ok-least.least) c.deref-5.ensures.value (c.deref-7.ensures.value ∙ ap (λ (v : Vec GroupBound Global). v.items) c.deref-6.ensures) c.in_ok-least.ensures in
     let rule = c.rule.ensures ∙ ap (λ (p : Problem). p.rule) c.problem.ensures in
     let turns = subst₂ (λ r q. HaveCollisions r q c.in_ok-turns.turns) rule (plan ∙ stands.plan) c.in_ok-turns.ensures in
-    let depth = ap (λ (b : Bound). b.depth) c.own.ensures in record {
+    let depth = ap (λ (b : LowerBound). b.depth) c.own.ensures in record {
       cost = λ s solution below.
           omega (
             arith,

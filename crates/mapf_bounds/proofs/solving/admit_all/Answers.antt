@@ -1,7 +1,7 @@
 use Rattle.std.proofs.Common.{arith, ap, length, subst, sym}
 use Rattle.mapf_bounds.specs.Waiting.{IsMoving}
 use Rattle.mapf_bounds.proofs.Moving.{moved_all, moves_on}
-use Rattle.mapf_bounds.proofs.solving.take_over.Goals as goal
+use Rattle.mapf_bounds.proofs.solving.admit_all.Goals as goal
 
 pub nodes-init : goal.nodes-init
 nodes-init c = λ problem below moving. subst (IsMoving problem c.args.range.most c.args.open_list) (sym c.new-waiting.ensures.empty) moving
